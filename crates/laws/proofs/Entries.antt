@@ -1,0 +1,106 @@
+-- Names and entries, the tests as facts: `same` is equality, by going through both lists together.
+-- An entry stands in a holder, bears a name or names a heading exactly when its fields say so.
+use mathlib.Core.Bool.{Bool, true, false, _&&_, true≢false}
+use mathlib.Core.List.{List, [], _∷_}
+use mathlib.Core.Path.{_≡_, refl, sym, ap, ap₂, _∙_}
+use Prim.Native.Nat.{ℕ, zero, suc, _+_, _≤_, _<_}
+use native.Mathlib.Omega.{arith}
+use lib.Dec.{eqb}
+use borrow.Author.Tests.{eqb-true, eq-eqb}
+use Rattle.paper.specs.Record.{byte, isKind, directory, simple, headingType, holderOf, headingNamed, userOf, nameOf, names, headingOf, position, textAt}
+use Rattle.paper.specs.Name.{same}
+use Rattle.paper.specs.Entry.{Holder, holder, stands, bears}
+use Rattle.laws.proofs.Tests.{and-left, and-right, and-both}
+
+pub same-true : (a b : List ℕ) → same a b ≡ true → a ≡ b
+unfolding same
+same-true [] [] e = refl
+same-true [] (b ∷ t) e = absurd (true≢false (sym e))
+same-true (a ∷ s) [] e = absurd (true≢false (sym e))
+same-true (a ∷ s) (b ∷ t) e = ap₂ _∷_ (eqb-true a b (and-left (eqb a b) (same s t) e)) (same-true s t (and-right (eqb a b) (same s t) e))
+
+pub same-refl : (a : List ℕ) → same a a ≡ true
+unfolding same
+same-refl [] = refl
+same-refl (a ∷ s) = and-both (eqb a a) (same s s) (eq-eqb a a refl) (same-refl s)
+
+pub eq-same : (a b : List ℕ) → a ≡ b → same a b ≡ true
+eq-same a b e = rw e (same-refl b)
+
+-- an entry that stands in d
+pub record Stands (d : Holder) (r : List ℕ) : Type 0 where
+  pub kind : byte r 0 ≡ 2
+  pub heading : holderOf r ≡ d .heading
+  pub user : userOf r ≡ d .user
+
+pub stands-true : (d : Holder) (r : List ℕ) → stands d r ≡ true → Stands d r
+unfolding stands
+stands-true d r e =
+    let f = and-right (isKind 2 r) (eqb (holderOf r) (d .heading) && eqb (userOf r) (d .user)) e in
+    record {
+      kind = eqb-true _ _ (and-left _ _ e);
+      heading = eqb-true _ _ (and-left _ _ f);
+      user = eqb-true _ _ (and-right (eqb (holderOf r) (d .heading)) _ f);
+    }
+
+pub stands-by : (d : Holder) (r : List ℕ) → Stands d r → stands d r ≡ true
+unfolding stands
+stands-by d r s = and-both (isKind 2 r) _ (eq-eqb _ _ (s .kind)) (and-both _ _ (eq-eqb _ _ (s .heading)) (eq-eqb _ _ (s .user)))
+
+-- where it stands is its holder
+pub stands-holder : (d : Holder) (r : List ℕ) → Stands d r → holder r ≡ d
+stands-holder d r s = λ i. record { heading = s .heading i; user = s .user i }
+
+-- .. and bears the name n
+pub bears-stands : (d : Holder) (n r : List ℕ) → bears d n r ≡ true → Stands d r
+unfolding bears
+bears-stands d n r e = stands-true d r (and-left _ _ e)
+
+pub bears-name : (d : Holder) (n r : List ℕ) → bears d n r ≡ true → n ≡ nameOf r
+unfolding bears
+bears-name d n r e = same-true _ _ (and-right (stands d r) _ e)
+
+pub bears-by : (d : Holder) (n r : List ℕ) → Stands d r → n ≡ nameOf r → bears d n r ≡ true
+unfolding bears
+bears-by d n r s e = and-both (stands d r) _ (stands-by d r s) (eq-same _ _ e)
+
+-- an entry that names heading h
+pub names-kind : (h : ℕ) (r : List ℕ) → names h r ≡ true → byte r 0 ≡ 2
+names-kind h r e = eqb-true _ _ (and-left _ _ e)
+
+pub names-heading : (h : ℕ) (r : List ℕ) → names h r ≡ true → headingNamed r ≡ h
+names-heading h r e = eqb-true _ _ (and-right (isKind 2 r) _ e)
+
+pub names-by : (h : ℕ) (r : List ℕ) → byte r 0 ≡ 2 → headingNamed r ≡ h → names h r ≡ true
+names-by h r k e = and-both (isKind 2 r) _ (eq-eqb _ _ k) (eq-eqb _ _ e)
+
+-- a heading of this type
+abbrev pub typed : ℕ → List ℕ → Bool
+typed n r = isKind 1 r && eqb (headingType r) n
+
+pub typed-kind : (n : ℕ) (r : List ℕ) → typed n r ≡ true → byte r 0 ≡ 1
+typed-kind n r e = eqb-true _ _ (and-left _ _ e)
+
+pub typed-type : (n : ℕ) (r : List ℕ) → typed n r ≡ true → headingType r ≡ n
+typed-type n r e = eqb-true _ _ (and-right (isKind 1 r) _ e)
+
+pub typed-by : (n : ℕ) (r : List ℕ) → byte r 0 ≡ 1 → headingType r ≡ n → typed n r ≡ true
+typed-by n r k e = and-both (isKind 1 r) _ (eq-eqb _ _ k) (eq-eqb _ _ e)
+
+-- text of heading h at position p
+pub record TextAt (h p : ℕ) (r : List ℕ) : Type 0 where
+  pub kind : byte r 0 ≡ 3
+  pub heading : headingOf r ≡ h
+  pub position : position r ≡ p
+
+pub text-true : (h p : ℕ) (r : List ℕ) → textAt h p r ≡ true → TextAt h p r
+text-true h p r e =
+    let f = and-right (isKind 3 r) (eqb (headingOf r) h && eqb (position r) p) e in
+    record {
+      kind = eqb-true _ _ (and-left _ _ e);
+      heading = eqb-true _ _ (and-left _ _ f);
+      position = eqb-true _ _ (and-right (eqb (headingOf r) h) _ f);
+    }
+
+pub text-by : (h p : ℕ) (r : List ℕ) → TextAt h p r → textAt h p r ≡ true
+text-by h p r s = and-both (isKind 3 r) _ (eq-eqb _ _ (s .kind)) (and-both _ _ (eq-eqb _ _ (s .heading)) (eq-eqb _ _ (s .position)))

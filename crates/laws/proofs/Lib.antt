@@ -1,0 +1,8 @@
+pub mod Tests
+pub mod Numbers
+pub mod Scans
+pub mod Counts
+pub mod Lists
+pub mod Entries
+pub mod Lay
+pub mod Runs

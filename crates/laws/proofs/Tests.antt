@@ -1,0 +1,76 @@
+-- Boolean tests as facts: each law goes by the cases of the Booleans that it speaks of.
+-- Callers turn a computed test into an equation with true or false, and back, by these and by `borrow.Author.Tests`.
+use mathlib.Core.Bool.{Bool, true, false, _&&_, _||_, not, cond, true≢false}
+use mathlib.Core.Logic.{_⊎_, inl, inr}
+use mathlib.Core.Path.{_≡_, refl, sym, _∙_}
+use Rattle.paper.specs.Sound.{implies}
+
+-- a test is true or false, with the equation
+pub truth : (b : Bool) → (b ≡ true) ⊎ (b ≡ false)
+truth true = inl refl
+truth false = inr refl
+
+-- it is not both
+pub not-both : {b : Bool} → b ≡ true → b ≡ false → ⊥
+not-both e f = true≢false (sym e ∙ f)
+
+-- not true is false, and not false is true
+pub false-by : (b : Bool) → (b ≡ true → ⊥) → b ≡ false
+false-by true h = absurd (h refl)
+false-by false h = refl
+
+pub true-by : (b : Bool) → (b ≡ false → ⊥) → b ≡ true
+true-by true h = refl
+true-by false h = absurd (h refl)
+
+pub and-left : (a b : Bool) → (a && b) ≡ true → a ≡ true
+and-left true b e = refl
+and-left false b e = e
+
+pub and-right : (a b : Bool) → (a && b) ≡ true → b ≡ true
+and-right true b e = e
+and-right false b e = absurd (true≢false (sym e))
+
+pub and-both : (a b : Bool) → a ≡ true → b ≡ true → (a && b) ≡ true
+and-both a b p q = rw (p, q)
+
+pub and-no-left : (a b : Bool) → a ≡ false → (a && b) ≡ false
+and-no-left a b p = rw p
+
+pub and-no-right : (a b : Bool) → b ≡ false → (a && b) ≡ false
+and-no-right true b p = p
+and-no-right false b p = refl
+
+pub or-cases : (a b : Bool) → (a || b) ≡ true → (a ≡ true) ⊎ (b ≡ true)
+or-cases true b e = inl refl
+or-cases false b e = inr e
+
+pub or-left : (a b : Bool) → a ≡ true → (a || b) ≡ true
+or-left a b p = rw p
+
+pub or-right : (a b : Bool) → b ≡ true → (a || b) ≡ true
+or-right true b p = refl
+or-right false b p = p
+
+pub or-none : (a b : Bool) → a ≡ false → b ≡ false → (a || b) ≡ false
+or-none a b p q = rw (p, q)
+
+pub or-no-left : (a b : Bool) → (a || b) ≡ false → a ≡ false
+or-no-left true b e = e
+or-no-left false b e = refl
+
+pub or-no-right : (a b : Bool) → (a || b) ≡ false → b ≡ false
+or-no-right true b e = absurd (true≢false e)
+or-no-right false b e = e
+
+pub implies-use : (a b : Bool) → implies a b ≡ true → a ≡ true → b ≡ true
+implies-use true b e q = e
+implies-use false b e q = absurd (true≢false (sym q))
+
+pub implies-by : (a b : Bool) → (a ≡ true → b ≡ true) → implies a b ≡ true
+implies-by true b h = h refl
+implies-by false b h = refl
+
+-- both parts of a conjunction
+pub and-parts : (a b : Bool) → (a && b) ≡ true → (a ≡ true) × (b ≡ true)
+and-parts a b e = (and-left a b e, and-right a b e)

@@ -1,0 +1,33 @@
+-- All cases marked P hold, because every definition computes: antt runs each case through the very definitions that
+-- `request` and `mend` promise, and compares all six numbers, every byte of the table and the reply.
+use mathlib.Core.Bool.{Bool, true}
+use mathlib.Core.List.{List}
+use mathlib.Core.Path.{_≡_, refl}
+use Rattle.paper.specs.Number.{numberAt, bytesOf}
+use Rattle.paper.specs.Scan.{allBelow, anyBelow, countBelow, firstBelow, joinBelow}
+use Rattle.paper.specs.Record.{nameOf, held, zeros, blank, headingRecord, nameField, entryRecord, textRecord}
+use Rattle.paper.specs.Table.{rec, lay, frees, textRoom}
+use Rattle.paper.specs.Name.{same, all, linkName, pointed, chain, linkNames, wellFormed, legalBase, before}
+use Rattle.paper.specs.Declaration.{typeLetter, lifetimeLetter, levelLetter, digit, codeAt, levelAt, pointAt, lifetimeAt, declaration, declared}
+use Rattle.paper.specs.Line.{legalLine, placed, skipped, atColon, close, closed, grow, split, solid, words, word}
+use Rattle.paper.specs.Check.{verdict}
+use Rattle.paper.specs.Request.{counted, firstWrong, each, between, declaredAt, readCrd, readWrs, readRds, readLst, readCpy, readDup, readChn, readDpr, readDel, readFunction, read, asked}
+use Rattle.paper.specs.Entry.{stands, bears, find, crowd, named, peopled}
+use Rattle.paper.specs.Block.{share, block, fileText}
+use Rattle.paper.specs.Sound.{asAbove, holdersThere, headingsThere, usersRight, namesPadded, noneTwice, allNamed, noneCrowded, directoriesPlain, textsWhole, noOtherText, namesLegal, sound}
+use Rattle.paper.specs.Walk.{applies, look, enter, follow, toDirectory, lastName}
+use Rattle.paper.specs.Store.{run}
+use Rattle.paper.specs.Listing.{typeShown, lifetimeShown, levelShown, line, insert, inOrder, listed, lines}
+use Rattle.paper.specs.Effect.{freed, lost, settled, losing, making, newFile, crdPlan, wrsPlan, cpyPlan, dupPlan, renamed, chnPlan, recoded, dprPlan, delPlan, rdsPlan, lstPlan, lstBasePlan}
+use Rattle.paper.specs.Mend.{clears, mendStores, mended}
+use Rattle.paper.specs.Answer.{deleting, granted, entrance, requested, mendable, mending}
+use Rattle.paper.specs.Case.{Case, holds, holdAll, cases}
+
+-- `holdAll`, with every definition open
+unfoldable pub hold : List Case → Bool
+unfolding numberAt bytesOf allBelow anyBelow countBelow firstBelow joinBelow nameOf held zeros blank headingRecord nameField entryRecord textRecord rec lay frees textRoom same all linkName pointed chain linkNames wellFormed legalBase before typeLetter lifetimeLetter levelLetter digit codeAt levelAt pointAt lifetimeAt declaration declared legalLine placed skipped atColon close closed grow split solid words word verdict counted firstWrong each between declaredAt readCrd readWrs readRds readLst readCpy readDup readChn readDpr readDel readFunction read asked stands bears find crowd named peopled share block fileText asAbove holdersThere headingsThere usersRight namesPadded noneTwice allNamed noneCrowded directoriesPlain textsWhole noOtherText namesLegal sound applies look enter follow toDirectory lastName run typeShown lifetimeShown levelShown line insert inOrder listed lines freed lost settled losing making newFile crdPlan wrsPlan cpyPlan dupPlan renamed chnPlan recoded dprPlan delPlan rdsPlan lstPlan lstBasePlan clears mendStores mended deleting granted entrance requested mendable mending holds holdAll
+hold = holdAll
+
+pub all-cases-hold : holdAll cases ≡ true
+unfolding hold cases
+all-cases-hold = refl

@@ -1,0 +1,137 @@
+-- What `request` and `mend` promise for every input: the answer's six numbers, the table after and the reply after.
+use mathlib.Core.Bool.{Bool, true, false, _&&_, not, cond}
+use mathlib.Core.List.{List, [], _∷_, _++_}
+use Prim.Native.Nat.{ℕ, _+_, _-_}
+use lib.Dec.{eqb, leb, ltb}
+use lib.ListN.{length, take, drop}
+use Rattle.paper.specs.Table.{sized}
+use Rattle.paper.specs.Line.{Word}
+use Rattle.paper.specs.Check.{Refusal, Check, check, Verdict, passed, refused, verdict}
+use Rattle.paper.specs.Request.{Request, crd, wrs, rds, cpy, dup, chn, del, dpr, lst, lstBase, Read, request, unread, asked}
+use Rattle.paper.specs.Sound.{sound}
+use Rattle.paper.specs.Store.{Store, run}
+use Rattle.paper.specs.Effect.{Plan, Planned, plan, halted, crdPlan, wrsPlan, rdsPlan, cpyPlan, dupPlan, chnPlan, delPlan, dprPlan, lstPlan, lstBasePlan}
+use Rattle.paper.specs.Mend.{mendStores, mended}
+
+-- "An answer has: number; place ..; names done; displaced or not; bytes written; stores made."
+pub record Answer : Type 0 where
+  pub number : ℕ
+  pub place : ℕ
+  pub names : ℕ
+  pub displaced : ℕ
+  pub bytes : ℕ
+  pub stores : ℕ
+
+pub record Outcome : Type 0 where
+  pub answer : Answer
+  pub table : List ℕ
+  pub reply : List ℕ
+
+-- "On any number but 0, displaced is no and bytes are 0."
+abbrev pub plain : (number place names stores : ℕ) → Answer
+plain number place names stores =
+    record { number = number; place = place; names = names; displaced = 0; bytes = 0; stores = stores }
+
+-- a refusal changes nothing
+abbrev pub refusing : List ℕ → List ℕ → Refusal → Outcome
+refusing t reply f = record { answer = plain (f .number) (f .place) 0 0; table = t; reply = reply }
+
+-- how a plan ends on a table: refused, done, or cut by the stop number
+pub data Ran : Type 0 where
+  refusedBy : Refusal → Ran
+  done : Plan → Ran
+  cut : Plan → Ran
+
+-- "Exactly the first k stores are made. If more were needed, the answer is 22"
+abbrev pub stores : ℕ → Plan → Verdict → Ran
+stores k p passed = cond (leb (length (p .stores)) k) (done p) (cut p)
+stores k p (refused f) = refusedBy f
+
+abbrev pub ran : ℕ → Planned → Ran
+ran k (halted f) = refusedBy f
+ran k (plan p) = stores k p (verdict (p .checks))
+
+abbrev pub yesNo : Bool → ℕ
+yesNo true = 1
+yesNo false = 0
+
+-- every function but DEL: "The rest of the buffer is unchanged."
+abbrev pub single : List ℕ → List ℕ → ℕ → Ran → Outcome
+single t reply k (refusedBy f) = refusing t reply f
+single t reply k (done p) =
+    record {
+      answer =
+          record {
+            number = 0;
+            place = 0;
+            names = 1;
+            displaced = yesNo (p .displaced);
+            bytes = length (p .reply);
+            stores = length (p .stores);
+          };
+      table = run t (p .stores);
+      reply = p .reply ++ drop (length (p .reply)) reply;
+    }
+single t reply k (cut p) = record { answer = plain 22 0 0 k; table = run t (take k (p .stores)); reply = reply }
+
+-- "DEL does walk and end checks name by name and stops at the first refusal": after some names are done and their stores made,
+-- with k stores left
+abbrev pub oneName : List ℕ → List ℕ → (k done made : ℕ) → (List ℕ → ℕ → ℕ → ℕ → Outcome) → Ran → Outcome
+oneName t reply k n made more (refusedBy f) =
+    record { answer = plain (f .number) (f .place) n made; table = t; reply = reply }
+oneName t reply k n made more (done p) =
+    more (run t (p .stores)) (k - length (p .stores)) (n + 1) (made + length (p .stores))
+oneName t reply k n made more (cut p) =
+    record { answer = plain 22 0 n (made + k); table = run t (take k (p .stores)); reply = reply }
+
+unfoldable pub deleting : List ℕ → ℕ → List ℕ → (k done made : ℕ) → List Word → Outcome
+deleting t u reply k n made [] = record { answer = plain 0 0 n made; table = t; reply = reply }
+deleting t u reply k n made (w ∷ ws) =
+    oneName t reply k n made (λ t₁ k₁ n₁ made₁. deleting t₁ u reply k₁ n₁ made₁ ws) (ran k (delPlan t u (n + 1) w))
+
+-- what a request does on a sound table
+unfoldable pub granted : List ℕ → List ℕ → List ℕ → ℕ → ℕ → Request → Outcome
+granted t text reply u k (crd name level code) = single t reply k (ran k (crdPlan t u name level code))
+granted t text reply u k (wrs lifetime level code name) =
+    single t reply k (ran k (wrsPlan t u text lifetime level code name))
+granted t text reply u k (rds name) = single t reply k (ran k (rdsPlan t u reply name))
+granted t text reply u k (cpy old new lifetime level code) =
+    single t reply k (ran k (cpyPlan t u old new lifetime level code))
+granted t text reply u k (dup old new code) = single t reply k (ran k (dupPlan t u old new code))
+granted t text reply u k (chn old link) = single t reply k (ran k (chnPlan t u old link))
+granted t text reply u k (del names) = deleting t u reply k 0 0 names
+granted t text reply u k (dpr name code) = single t reply k (ran k (dprPlan t u name code))
+granted t text reply u k (lst name) = single t reply k (ran k (lstPlan t u reply name))
+granted t text reply u k lstBase = single t reply k (ran k (lstBasePlan t u reply))
+
+-- numbers 1, 2 and 3: "table length no multiple of 32, or above 65,536", "table not sound", "user above 999,999"
+unfoldable pub entrance : List ℕ → ℕ → Verdict
+entrance t u = verdict (check (not (sized t)) 1 0 ∷ check (not (sound t)) 2 0 ∷ check (ltb 999999 u) 3 0 ∷ [])
+
+abbrev pub acted : List ℕ → List ℕ → List ℕ → ℕ → ℕ → Read → Outcome
+acted t text reply u k (unread f) = refusing t reply f
+acted t text reply u k (request r) = granted t text reply u k r
+
+abbrev pub admitted : List ℕ → List ℕ → List ℕ → List ℕ → ℕ → ℕ → Verdict → Outcome
+admitted t line text reply u k (refused f) = refusing t reply f
+admitted t line text reply u k passed = acted t text reply u k (asked line text)
+
+-- the promise of `request`
+unfoldable pub requested : (table line text reply : List ℕ) (user stop : ℕ) → Outcome
+requested t line text reply u k = admitted t line text reply u k (entrance t u)
+
+-- "If the result wouldn't be sound, answer 2 and leave the table as found."
+unfoldable pub mendable : List ℕ → Verdict
+mendable t = verdict (check (not (sized t)) 1 0 ∷ check (not (sound (mended t))) 2 0 ∷ [])
+
+-- "Mending takes a stop number too": its answer and the table after
+abbrev pub mendRun : List ℕ → ℕ → List Store → Verdict → Outcome
+mendRun t k ss (refused f) = refusing t [] f
+mendRun t k ss passed =
+    cond (leb (length ss) k)
+    (record { answer = plain 0 0 0 (length ss); table = run t ss; reply = [] })
+    (record { answer = plain 22 0 0 k; table = run t (take k ss); reply = [] })
+
+-- the promise of `mend`; it has no reply buffer
+unfoldable pub mending : (table : List ℕ) (stop : ℕ) → Outcome
+mending t k = mendRun t k (mendStores t) (mendable t)

@@ -1,0 +1,120 @@
+-- "At the edges": the cases marked P, one list. `proofs/Cases.antt` has the one claim over it; a new case is a new line.
+use mathlib.Core.Bool.{Bool, true, false, _&&_, _||_, not}
+use mathlib.Core.List.{List, [], _∷_, _++_}
+use Prim.Native.Nat.{ℕ}
+use lib.Dec.{eqb}
+use lib.ListN.{replicate}
+use Rattle.paper.specs.Record.{blank}
+use Rattle.paper.specs.Name.{same}
+use Rattle.paper.specs.Declaration.{Declared, right, wrong, declared}
+use Rattle.paper.specs.Code.{joined}
+use Rattle.paper.specs.Block.{blocks}
+use Rattle.paper.specs.Answer.{Answer, Outcome, requested, mending}
+
+pub data Case : Type 0 where
+  -- a code joined with another is this code
+  joins : (one other both : ℕ) → Case
+  -- a text of so many bytes takes so many text records
+  takes : (bytes records : ℕ) → Case
+  -- the word is a declaration, or isn't
+  declares : (word : List ℕ) (isOne : Bool) → Case
+  -- a request's table, line, text, reply, user and stop number; then the answer, the table after and the reply after
+  asks : (table line text reply : List ℕ) (user stop : ℕ) (answer : Answer) (after replied : List ℕ) → Case
+  -- mending with this stop number; then the answer and the table after
+  mends : (table : List ℕ) (stop : ℕ) (answer : Answer) (after : List ℕ) → Case
+
+abbrev pub isRight : Declared → Bool
+isRight (right p) = true
+isRight wrong = false
+
+-- the six numbers
+abbrev pub answer : (number place names displaced bytes stores : ℕ) → Answer
+answer number place names displaced bytes stores =
+    record { number = number; place = place; names = names; displaced = displaced; bytes = bytes; stores = stores }
+
+abbrev pub sameAnswer : Answer → Answer → Bool
+sameAnswer a b =
+    eqb (a .number) (b .number) && eqb (a .place) (b .place) && eqb (a .names) (b .names)
+    && eqb (a .displaced) (b .displaced) && eqb (a .bytes) (b .bytes) && eqb (a .stores) (b .stores)
+
+-- the outcome is this answer, this table and this reply
+abbrev pub comesTo : Answer → List ℕ → List ℕ → Outcome → Bool
+comesTo a after replied o = sameAnswer (o .answer) a && same (o .table) after && same (o .reply) replied
+
+unfoldable pub holds : Case → Bool
+holds (joins one other both) = eqb (joined one other) both
+holds (takes bytes records) = eqb (blocks bytes) records
+holds (declares word true) = isRight (declared (word ∷ []))
+holds (declares word false) = not (isRight (declared (word ∷ [])))
+holds (asks table line text reply user stop a after replied) =
+    comesTo a after replied (requested table line text reply user stop)
+holds (mends table stop a after) = comesTo a after [] (mending table stop)
+
+unfoldable pub holdAll : List Case → Bool
+holdAll [] = true
+holdAll (c ∷ cs) = holds c && holdAll cs
+
+-- `CRD .R`, `CRD .R:A`, `DEL .R`
+abbrev pub crdR : List ℕ
+crdR = 67 ∷ 82 ∷ 68 ∷ 32 ∷ 46 ∷ 82 ∷ []
+
+abbrev pub crdRA : List ℕ
+crdRA = crdR ++ 58 ∷ 65 ∷ []
+
+abbrev pub delR : List ℕ
+delR = 68 ∷ 69 ∷ 76 ∷ 32 ∷ 46 ∷ 82 ∷ []
+
+-- `RDS ` and a name; `WRS M .WWW`
+abbrev pub rds : List ℕ → List ℕ
+rds name = 82 ∷ 68 ∷ 83 ∷ 32 ∷ name
+
+abbrev pub wrsW : List ℕ
+wrsW = 87 ∷ 82 ∷ 83 ∷ 32 ∷ 77 ∷ 32 ∷ 46 ∷ 87 ∷ 87 ∷ 87 ∷ []
+
+-- no records; one free record; two
+abbrev pub one : List ℕ
+one = replicate 32 0
+
+abbrev pub pair : List ℕ
+pair = replicate 64 0
+
+-- "record 0 is 1,0,0,0,1 and zeros; record 1 is 2,0,255,255,0,0,1,0,0,2,46,82 and zeros"
+abbrev pub headingR : List ℕ
+headingR = 1 ∷ 0 ∷ 0 ∷ 0 ∷ 1 ∷ replicate 27 0
+
+abbrev pub entryR : List ℕ
+entryR = 2 ∷ 0 ∷ 255 ∷ 255 ∷ 0 ∷ 0 ∷ 1 ∷ 0 ∷ 0 ∷ 2 ∷ 46 ∷ 82 ∷ replicate 20 0
+
+unfoldable pub cases : List Case
+cases =
+    -- "code 1 joined with 4 is 5; 2 with 6 is 6"
+    joins 1 4 5
+    ∷ joins 2 6 6
+    -- "text of 0, 24 and 25 bytes takes 0, 1 and 2 text records. 24,000 takes 1,000; 24,001 gets 10"
+    ∷ takes 0 0
+    ∷ takes 24 1
+    ∷ takes 25 2
+    ∷ takes 24000 1000
+    ∷ asks [] wrsW (replicate 24000 65) [] 1 9 (answer 19 0 0 0 0 0) [] []
+    ∷ asks [] wrsW (replicate 24001 65) [] 1 9 (answer 10 0 0 0 0 0) [] []
+    -- "`.R::A` and a name of 11 characters get 7; 10 is legal. `.1` gets 8"
+    ∷ asks [] (rds (46 ∷ 82 ∷ 58 ∷ 58 ∷ 65 ∷ [])) [] [] 1 9 (answer 7 1 0 0 0 0) [] []
+    ∷ asks [] (rds (replicate 11 65)) [] [] 1 9 (answer 7 1 0 0 0 0) [] []
+    ∷ asks [] (rds (replicate 10 65)) [] [] 1 9 (answer 11 1 0 0 0 0) [] []
+    ∷ asks [] (rds (46 ∷ 49 ∷ [])) [] [] 1 9 (answer 8 1 0 0 0 0) [] []
+    -- "`F.0`, `DM.P1`, `.` are declarations; `MF` and `1` aren't"
+    ∷ declares (70 ∷ 46 ∷ 48 ∷ []) true
+    ∷ declares (68 ∷ 77 ∷ 46 ∷ 80 ∷ 49 ∷ []) true
+    ∷ declares (46 ∷ []) true
+    ∷ declares (77 ∷ 70 ∷ []) false
+    ∷ declares (49 ∷ []) false
+    -- "user 1, 64 zero bytes, `CRD .R`"
+    ∷ asks pair crdR [] [] 1 9 (answer 0 0 1 0 0 2) (headingR ++ entryR) []
+    -- "With k = 1 only record 0, answer 22, and mending gives zeros again. With 32 bytes: 19."
+    ∷ asks pair crdR [] [] 1 1 (answer 22 0 0 0 0 1) (headingR ++ blank) []
+    ∷ mends (headingR ++ blank) 9 (answer 0 0 0 0 0 1) pair
+    ∷ asks one crdR [] [] 1 9 (answer 19 0 0 0 0 0) one []
+    -- "then `CRD .R:A` gets 19; `DEL .R` gives zeros, 2 stores"
+    ∷ asks (headingR ++ entryR) crdRA [] [] 1 9 (answer 19 0 0 0 0 0) (headingR ++ entryR) []
+    ∷ asks (headingR ++ entryR) delR [] [] 1 9 (answer 0 0 1 0 0 2) pair []
+    ∷ []

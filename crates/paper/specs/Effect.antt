@@ -1,0 +1,258 @@
+-- Each function: its end checks in number order, its stores and its reply.
+use mathlib.Core.Bool.{Bool, true, false, _&&_, not, cond}
+use mathlib.Core.List.{List, [], _∷_, _++_}
+use Prim.Native.Nat.{ℕ, _+_}
+use lib.Dec.{eqb, leb, ltb}
+use lib.ListN.{length, take, drop, set}
+use Rattle.paper.specs.Scan.{Found, at, nowhere, eachBelow}
+use Rattle.paper.specs.Record.{headingType, level, headingCode, lifetime, entryCode, headingNamed, directory, simple, blank, headingRecord, nameField, entryRecord, textRecord}
+use Rattle.paper.specs.Table.{rec, lay, frees, room, textRoom}
+use Rattle.paper.specs.Name.{chain}
+use Rattle.paper.specs.Declaration.{Part, orElse}
+use Rattle.paper.specs.Line.{Word}
+use Rattle.paper.specs.Check.{Refusal, Check, check}
+use Rattle.paper.specs.Request.{Request, crd, wrs, rds, cpy, dup, chn, del, dpr, lst, lstBase}
+use Rattle.paper.specs.Code.{joined, noRead, noWrite, lacks}
+use Rattle.paper.specs.Entry.{Holder, find, full, named, peopled}
+use Rattle.paper.specs.Block.{blocks, block, blocksOf, fileText}
+use Rattle.paper.specs.Walk.{State, start, file, Walked, reached, stopped, toDirectory, lastName, toLast}
+use Rattle.paper.specs.Store.{Store, puts, clear, run}
+use Rattle.paper.specs.Listing.{directoryLines, baseLines}
+
+-- what a request does where its walks end: its end checks, its stores, whether an entry is displaced, and what it writes
+pub record Plan : Type 0 where
+  pub checks : List Check
+  pub stores : List Store
+  pub displaced : Bool
+  pub reply : List ℕ
+
+pub data Planned : Type 0 where
+  plan : Plan → Planned
+  halted : Refusal → Planned
+
+-- the walk of the argument at this place, and what follows it
+abbrev pub onward : ℕ → Walked → (State → Planned) → Planned
+onward place (reached s) f = f s
+onward place (stopped number link) f = halted (record { number = number; place = place; link = link })
+
+abbrev pub chainOf : Word → List (List ℕ)
+chainOf w = chain (w .names)
+
+-- to the directory of the argument at this place, and to the file it names
+abbrev pub toHolder : List ℕ → ℕ → ℕ → Word → (State → Planned) → Planned
+toHolder t u place w f = onward place (toDirectory t 1 (start u) (chainOf w)) f
+
+abbrev pub toEnd : List ℕ → ℕ → ℕ → Word → (State → State → Planned) → Planned
+toEnd t u place w f = toHolder t u place w (λ d. onward place (toLast t d (chainOf w)) (f d))
+
+-- "After an entry is displaced or cleared": heading h cleared, "then its text by position"
+unfoldable pub freed : List ℕ → ℕ → List Store
+freed t h = clear h ∷ eachBelow (λ p. clear (textRoom t h p)) (blocksOf t h)
+
+-- entry e of t once r is laid in its place: its file "is now named by no entry"
+unfoldable pub lost : List ℕ → ℕ → List ℕ → Bool
+lost t e r = not (named (lay t e r) (headingNamed (rec t e)))
+
+unfoldable pub settled : List ℕ → ℕ → List ℕ → List Store
+settled t e r = cond (lost t e r) (freed t (headingNamed (rec t e))) []
+
+-- a new entry: the argument it stands for, the directory, its name, the stores before it, and its record
+pub record Making : Type 0 where
+  pub place : ℕ
+  pub directory : State
+  pub name : List ℕ
+  pub first : List Store
+  pub entry : List ℕ
+
+-- "An entry already bearing the new name"
+abbrev pub borne : List ℕ → Making → Found
+borne t m = find t (m .directory .holder) (m .name)
+
+abbrev pub isFound : Found → Bool
+isFound (at e) = true
+isFound nowhere = false
+
+-- ".. is overwritten in place (displaced)": the stores of a new entry
+abbrev pub placing : List ℕ → Making → Found → List Store
+placing t m (at e) = m .first ++ puts e (m .entry) ∷ settled t e (m .entry)
+placing t m nowhere = m .first ++ puts (room t (length (m .first))) (m .entry) ∷ []
+
+-- the free records that it needs
+abbrev pub needed : Making → Found → ℕ
+needed m (at e) = length (m .first)
+needed m nowhere = length (m .first) + 1
+
+-- 13 and 14: "read inhibited", "write inhibited"
+abbrev pub readInhibited : ℕ → State → Check
+readInhibited place s = check (noRead (s .code)) 13 place
+
+abbrev pub writeInhibited : ℕ → State → Check
+writeInhibited place s = check (noWrite (s .code)) 14 place
+
+-- 15: "RDS, CPY: not simple; LST: no directory"
+abbrev pub notSimple : ℕ → List ℕ → State → Check
+notSimple place t s = check (not (simple (rec t (file t s)))) 15 place
+
+abbrev pub noDirectory : ℕ → List ℕ → State → Check
+noDirectory place t s = check (not (directory (rec t (file t s)))) 15 place
+
+-- 16: "CHN: new name borne by an entry there, itself included"
+abbrev pub taken : ℕ → Found → Check
+taken place found = check (isFound found) 16 place
+
+-- 17: "directory or base list full, nothing displaced"
+abbrev pub fullUp : List ℕ → Making → Check
+fullUp t m = check (not (isFound (borne t m)) && full t (m .directory .holder)) 17 (m .place)
+
+-- 18: "file losing its last entry is a directory with entries"
+unfoldable pub losing : List ℕ → ℕ → List ℕ → Bool
+losing t e r = lost t e r && (directory (rec t (headingNamed (rec t e))) && peopled t (headingNamed (rec t e)))
+
+abbrev pub displacing : List ℕ → Found → List ℕ → Bool
+displacing t (at e) r = losing t e r
+displacing t nowhere r = false
+
+abbrev pub stillPeopled : ℕ → Bool → Check
+stillPeopled place losing = check losing 18 place
+
+-- 19: "fewer free records than the request needs"
+abbrev pub noRoom : List ℕ → Making → Check
+noRoom t m = check (ltb (length (frees t)) (needed m (borne t m))) 19 0
+
+-- 20: "reply buffer too short"
+abbrev pub tooShort : List ℕ → List ℕ → Check
+tooShort out reply = check (ltb (length reply) (length out)) 20 0
+
+-- 21: "DPR: new code lacks a bit of the heading's"
+abbrev pub lacking : ℕ → ℕ → ℕ → Check
+lacking place new old = check (lacks new old) 21 place
+
+-- a new entry's plan, with the checks of the old name, 13 and 15, where there is one
+unfoldable pub making : List ℕ → Making → List Check → List Check → Planned
+making t m thirteen fifteen =
+    plan (record {
+      checks =
+          thirteen ++ writeInhibited (m .place) (m .directory) ∷ fifteen
+          ++ fullUp t m ∷ stillPeopled (m .place) (displacing t (borne t m) (m .entry)) ∷ noRoom t m ∷ [];
+      stores = placing t m (borne t m);
+      displaced = isFound (borne t m);
+      reply = [];
+    })
+
+-- an entry of the directory d
+abbrev pub entryIn : State → ℕ → ℕ → List ℕ → List ℕ
+entryIn d code heading name = entryRecord code (d .holder .heading) heading (d .holder .user) name
+
+-- "heading, text by position" of a new file, on the lowest free records
+unfoldable pub newFile : List ℕ → List ℕ → List ℕ → List Store
+newFile t heading text =
+    puts (room t 0) heading
+    ∷ eachBelow (λ p. puts (room t (p + 1)) (textRecord (room t 0) p (block text p))) (blocks (length text))
+
+-- a new file under the last name of w: "In each the code goes into both heading and entry."
+abbrev pub filing : List ℕ → ℕ → Word → State → ℕ → List ℕ → List ℕ → Making
+filing t place w d code heading text =
+    record {
+      place = place;
+      directory = d;
+      name = lastName (chainOf w);
+      first = newFile t heading text;
+      entry = entryIn d code (room t 0) (lastName (chainOf w));
+    }
+
+-- "CRD: heading, entry."
+unfoldable pub crdPlan : List ℕ → ℕ → Word → Part → Part → Planned
+crdPlan t u name level code =
+    toHolder t u 1 name
+    (λ d. making t (filing t 1 name d (orElse code 0) (headingRecord 0 (orElse level 0) (orElse code 0) 1 0) []) [] [])
+
+-- "WRS, CPY: heading, text by position, entry."
+unfoldable pub wrsPlan : List ℕ → ℕ → List ℕ → ℕ → Part → Part → Word → Planned
+wrsPlan t u text lifetime level code name =
+    toHolder t u 2 name
+    (λ d.
+    making t (filing t 2 name d (orElse code 0) (headingRecord 1 (orElse level 0) (orElse code 0) lifetime (length text)) text) [] [])
+
+-- a copy's heading: "CPY may have M or L, else takes the source's. Level: given, else U (CPY: the source's). Code: given, else 0."
+abbrev pub copyHeading : List ℕ → Part → Part → Part → ℕ → List ℕ
+copyHeading source life lev code length =
+    headingRecord 1 (orElse lev (level source)) (orElse code 0) (orElse life (lifetime source)) length
+
+unfoldable pub cpyPlan : List ℕ → ℕ → Word → Word → Part → Part → Part → Planned
+cpyPlan t u old new life lev code =
+    toEnd t u 1 old
+    (λ _ f. toHolder t u 2 new
+    (λ d.
+    let text = fileText t (file t f) in
+    making t (filing t 2 new d (orElse code 0) (copyHeading (rec t (file t f)) life lev code (length text)) text)
+    (readInhibited 1 f ∷ []) (notSimple 1 t f ∷ [])))
+
+-- "DUP: entry, its code the old entry's joined with the declared one."
+unfoldable pub dupPlan : List ℕ → ℕ → Word → Word → Part → Planned
+dupPlan t u old new code =
+    toEnd t u 1 old
+    (λ _ f. toHolder t u 2 new
+    (λ d.
+    making t
+    (record {
+      place = 2;
+      directory = d;
+      name = lastName (chainOf new);
+      first = [];
+      entry = entryIn d (joined (entryCode (rec t (f .entry))) (orElse code 0)) (file t f) (lastName (chainOf new));
+    })
+    [] []))
+
+-- a plan that displaces nothing and writes nothing
+abbrev pub storing : List Check → List Store → Planned
+storing checks stores = plan (record { checks = checks; stores = stores; displaced = false; reply = [] })
+
+-- an entry with its new name
+unfoldable pub renamed : List ℕ → List ℕ → List ℕ
+renamed r name = take 9 r ++ nameField name
+
+-- "CHN: the entry with its new name."
+unfoldable pub chnPlan : List ℕ → ℕ → Word → Word → Planned
+chnPlan t u old link =
+    toEnd t u 1 old
+    (λ d f. storing (writeInhibited 1 d ∷ taken 2 (find t (d .holder) (lastName (link .names))) ∷ [])
+    (puts (f .entry) (renamed (rec t (f .entry)) (lastName (link .names))) ∷ []))
+
+-- a heading with its new code
+unfoldable pub recoded : List ℕ → ℕ → List ℕ
+recoded r code = set r 3 code
+
+-- "DPR: the heading with its new code."
+unfoldable pub dprPlan : List ℕ → ℕ → Word → ℕ → Planned
+dprPlan t u name code =
+    toEnd t u 1 name
+    (λ _ f. storing (writeInhibited 1 f ∷ lacking 2 code (headingCode (rec t (file t f))) ∷ [])
+    (puts (file t f) (recoded (rec t (file t f)) code) ∷ []))
+
+-- "DEL: for each name in turn, the entry cleared." One name, at this place
+unfoldable pub delPlan : List ℕ → ℕ → ℕ → Word → Planned
+delPlan t u place name =
+    toEnd t u place name
+    (λ d f. storing (writeInhibited place d ∷ stillPeopled place (losing t (f .entry) blank) ∷ [])
+    (clear (f .entry) ∷ settled t (f .entry) blank))
+
+-- a plan that stores nothing and writes to the reply buffer
+abbrev pub writing : List Check → List ℕ → List ℕ → Planned
+writing checks out reply =
+    plan (record { checks = checks ++ tooShort out reply ∷ []; stores = []; displaced = false; reply = out })
+
+-- "RDS writes the text to the front of the reply buffer."
+unfoldable pub rdsPlan : List ℕ → ℕ → List ℕ → Word → Planned
+rdsPlan t u reply name =
+    toEnd t u 1 name
+    (λ _ f. writing (readInhibited 1 f ∷ notSimple 1 t f ∷ []) (fileText t (file t f)) reply)
+
+-- "LST writes one line an entry"
+unfoldable pub lstPlan : List ℕ → ℕ → List ℕ → Word → Planned
+lstPlan t u reply name =
+    toEnd t u 1 name
+    (λ _ f. writing (readInhibited 1 f ∷ noDirectory 1 t f ∷ []) (directoryLines t (file t f)) reply)
+
+-- "LST of a lone point"
+unfoldable pub lstBasePlan : List ℕ → ℕ → List ℕ → Planned
+lstBasePlan t u reply = writing [] (baseLines t u) reply

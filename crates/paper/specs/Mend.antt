@@ -1,0 +1,39 @@
+-- "Mending, with kind and type read from bytes 0 and 1 alone", as a list of stores.
+use mathlib.Core.Bool.{Bool, _&&_, not}
+use mathlib.Core.List.{List, _++_, map}
+use Prim.Native.Nat.{ℕ}
+use Rattle.paper.specs.Scan.{listBelow}
+use Rattle.paper.specs.Record.{isKind, simple, headingOf}
+use Rattle.paper.specs.Table.{rooms, rec}
+use Rattle.paper.specs.Entry.{named}
+use Rattle.paper.specs.Store.{Store, clear, run}
+
+-- a heading "that no entry names"
+abbrev pub orphan : List ℕ → ℕ → Bool
+orphan t i = isKind 1 (rec t i) && not (named t i)
+
+-- a "text record whose heading is not a simple-file heading"
+abbrev pub stray : List ℕ → ℕ → Bool
+stray t i = isKind 3 (rec t i) && not (simple (rec t (headingOf (rec t i))))
+
+-- the records below n that pass the test cleared, "each by record number"
+unfoldable pub clears : (ℕ → Bool) → ℕ → List Store
+clears p n = map clear (listBelow p n)
+
+-- a table with the records that pass the test cleared
+abbrev pub wiped : (ℕ → Bool) → List ℕ → List ℕ
+wiped p t = run t (clears p (rooms t))
+
+-- "clear every heading that no entry names"
+abbrev pub mendFirst : List ℕ → List Store
+mendFirst t = clears (orphan t) (rooms t)
+
+-- "then every text record whose heading is not a simple-file heading"
+abbrev pub mendSecond : List ℕ → List Store
+mendSecond t = clears (stray t) (rooms t)
+
+unfoldable pub mendStores : List ℕ → List Store
+mendStores t = mendFirst t ++ mendSecond (run t (mendFirst t))
+
+unfoldable pub mended : List ℕ → List ℕ
+mended t = run t (mendStores t)

@@ -1,0 +1,196 @@
+-- "The first word is the function." Reading a line: the request, or number 4 to 9, and 10 for its text.
+use mathlib.Core.Bool.{Bool, true, false, _&&_, not, cond}
+use mathlib.Core.List.{List, [], _∷_, _++_}
+use Prim.Native.Nat.{ℕ, suc, _+_, _-_}
+use lib.Dec.{eqb, leb, ltb}
+use lib.ListN.{length, getD, take, drop}
+use Rattle.paper.specs.Name.{linkName, linkNames, pointed, chain, alone, dash, lonePoint, wellFormed, legalBase, baseName}
+use Rattle.paper.specs.Declaration.{Part, orElse, Parts, Declared, right, nothing, declared, partsOf, fits, fitCrd, fitWrs, fitCpy, fitDup, fitDpr}
+use Rattle.paper.specs.Line.{Word, words, word, legalLine}
+use Rattle.paper.specs.Check.{Refusal, Check, check, Verdict, passed, refused, verdict}
+
+-- "Nine functions": their names are words of the line, their declared parts given or not; what is needed is a number
+pub data Request : Type 0 where
+  crd : (name : Word) (level code : Part) → Request
+  wrs : (lifetime : ℕ) (level code : Part) (name : Word) → Request
+  rds : (name : Word) → Request
+  cpy : (old new : Word) (lifetime level code : Part) → Request
+  dup : (old new : Word) (code : Part) → Request
+  chn : (old link : Word) → Request
+  del : (names : List Word) → Request
+  dpr : (name : Word) (code : ℕ) → Request
+  lst : (name : Word) → Request
+  lstBase : Request
+
+pub data Read : Type 0 where
+  request : Request → Read
+  unread : Refusal → Read
+
+abbrev pub readAs : Request → Verdict → Read
+readAs r passed = request r
+readAs r (refused f) = unread f
+
+-- 6: the line has from least to most arguments
+unfoldable pub counted : ℕ → ℕ → List ℕ → Bool
+counted least most line = leb least (length (words line) - 1) && leb (length (words line) - 1) most
+
+abbrev pub miscounted : ℕ → ℕ → List ℕ → Check
+miscounted least most line = check (not (counted least most line)) 6 0
+
+-- the first name that is no link name, the names counted from k on, or 0
+unfoldable pub firstWrong : ℕ → List (List ℕ) → ℕ
+firstWrong k [] = 0
+firstWrong k (n ∷ ns) = cond (linkName n) (firstWrong (suc k) ns) k
+
+-- the number of a chain's first written name: 2 where `.W` is supplied
+abbrev pub firstLink : List (List ℕ) → ℕ
+firstLink ns = cond (pointed (getD ns 0 [])) 1 2
+
+-- 7: "malformed name or chain", the argument w at this place
+abbrev pub malformed : ℕ → Word → Check
+malformed place w =
+    record {
+      when = not (wellFormed (w .names));
+      refusal = record { number = 7; place = place; link = firstWrong (firstLink (w .names)) (w .names) };
+    }
+
+-- 8: "illegal base name"
+abbrev pub illegal : ℕ → Word → Check
+illegal place w =
+    record { when = not (legalBase (baseName (w .names))); refusal = record { number = 8; place = place; link = 1 } }
+
+-- 9: "declaration malformed or unfit"
+abbrev pub unfit : ℕ → Bool → Check
+unfit place fit = check (not fit) 9 place
+
+-- a check for each of some words, which stand at the places from p on
+unfoldable pub each : (ℕ → Word → Check) → ℕ → List Word → List Check
+each f p [] = []
+each f p (w ∷ ws) = f p w ∷ each f (p + 1) ws
+
+-- the words from number a up to number b, without b
+unfoldable pub between : ℕ → ℕ → List ℕ → List Word
+between a b line = take (b - a) (drop a (words line))
+
+-- "Numbers .. are tried in that order over the whole line, arguments from left to right within each": 7 for each name, then 8 for each
+abbrev pub misnamed : ℕ → ℕ → List ℕ → List Check
+misnamed a b line = each malformed a (between a b line) ++ each illegal a (between a b line)
+
+-- the declaration that word k is, or nothing given where there is no word k
+unfoldable pub declaredAt : List ℕ → ℕ → Declared
+declaredAt line k = cond (ltb k (length (words line))) (declared (word line k .names)) (right nothing)
+
+abbrev pub partsAt : List ℕ → ℕ → Parts
+partsAt line k = partsOf (declaredAt line k)
+
+-- "CRD name [decl]"
+unfoldable pub readCrd : List ℕ → Read
+readCrd line =
+    readAs (crd (word line 1) (partsAt line 2 .level) (partsAt line 2 .code))
+    (verdict (miscounted 1 2 line ∷ misnamed 1 2 line ++ unfit 2 (fits fitCrd (declaredAt line 2)) ∷ []))
+
+-- "WRS decl name"
+unfoldable pub readWrs : List ℕ → Read
+readWrs line =
+    readAs (wrs (orElse (partsAt line 1 .lifetime) 1) (partsAt line 1 .level) (partsAt line 1 .code) (word line 2))
+    (verdict (miscounted 2 2 line ∷ misnamed 2 3 line ++ unfit 1 (fits fitWrs (declaredAt line 1)) ∷ []))
+
+-- "RDS, LST name"
+unfoldable pub readRds : List ℕ → Read
+readRds line = readAs (rds (word line 1)) (verdict (miscounted 1 1 line ∷ misnamed 1 2 line))
+
+-- "LST of a lone point lists the user's base files other than `.W`."
+unfoldable pub readLst : List ℕ → Read
+readLst line =
+    cond (lonePoint (word line 1 .names)) (readAs lstBase (verdict (miscounted 1 1 line ∷ [])))
+    (readAs (lst (word line 1)) (verdict (miscounted 1 1 line ∷ misnamed 1 2 line)))
+
+-- "CPY, DUP old new [decl]"
+unfoldable pub readCpy : List ℕ → Read
+readCpy line =
+    readAs (cpy (word line 1) (word line 2) (partsAt line 3 .lifetime) (partsAt line 3 .level) (partsAt line 3 .code))
+    (verdict (miscounted 2 3 line ∷ misnamed 1 3 line ++ unfit 3 (fits fitCpy (declaredAt line 3)) ∷ []))
+
+unfoldable pub readDup : List ℕ → Read
+readDup line =
+    readAs (dup (word line 1) (word line 2) (partsAt line 3 .code))
+    (verdict (miscounted 2 3 line ∷ misnamed 1 3 line ++ unfit 3 (fits fitDup (declaredAt line 3)) ∷ []))
+
+-- the link of CHN: one link name, and no dash
+abbrev pub linkAlone : List (List ℕ) → Bool
+linkAlone [] = false
+linkAlone (n ∷ []) = linkName n && not (dash (n ∷ []))
+linkAlone (n ∷ m ∷ ns) = false
+
+abbrev pub unlinked : ℕ → Word → Check
+unlinked place w = check (not (linkAlone (w .names))) 7 place
+
+-- 8: "also CHN's link for a base file"
+abbrev pub misbased : ℕ → Word → Word → Check
+misbased place old w = check (eqb (length (chain (old .names))) 1 && not (legalBase (getD (w .names) 0 []))) 8 place
+
+-- "CHN old link"
+unfoldable pub readChn : List ℕ → Read
+readChn line =
+    readAs (chn (word line 1) (word line 2))
+    (verdict
+    (miscounted 2 2 line
+    ∷ malformed 1 (word line 1)
+    ∷ unlinked 2 (word line 2)
+    ∷ illegal 1 (word line 1)
+    ∷ misbased 2 (word line 1) (word line 2)
+    ∷ []))
+
+-- "DPR name decl"
+unfoldable pub readDpr : List ℕ → Read
+readDpr line =
+    readAs (dpr (word line 1) (orElse (partsAt line 2 .code) 0))
+    (verdict (miscounted 2 2 line ∷ misnamed 1 2 line ++ unfit 2 (fits fitDpr (declaredAt line 2)) ∷ []))
+
+-- "DEL 1 to 8 names"
+unfoldable pub readDel : List ℕ → Read
+readDel line =
+    readAs (del (drop 1 (words line))) (verdict (miscounted 1 8 line ∷ misnamed 1 (length (words line)) line))
+
+-- the first word is the function of these three letters
+abbrev pub isFunction : ℕ → ℕ → ℕ → List ℕ → Bool
+isFunction a b c line = alone (a ∷ b ∷ c ∷ []) (word line 0 .names)
+
+-- 5: "no such function, empty line"
+unfoldable pub readFunction : List ℕ → Read
+readFunction line =
+    cond (isFunction 67 82 68 line) (readCrd line)
+    (cond (isFunction 87 82 83 line) (readWrs line)
+    (cond (isFunction 82 68 83 line) (readRds line)
+    (cond (isFunction 67 80 89 line) (readCpy line)
+    (cond (isFunction 68 85 80 line) (readDup line)
+    (cond (isFunction 67 72 78 line) (readChn line)
+    (cond (isFunction 68 69 76 line) (readDel line)
+    (cond (isFunction 68 80 82 line) (readDpr line)
+    (cond (isFunction 76 83 84 line) (readLst line)
+    (unread (record { number = 5; place = 0; link = 0 }))))))))))
+
+-- 4: "line too long, or a byte outside 32..95"
+unfoldable pub read : List ℕ → Read
+read line = cond (legalLine line) (readFunction line) (unread (record { number = 4; place = 0; link = 0 }))
+
+-- 10: "WRS text above 24,000 bytes"
+abbrev pub textTooLong : Request → List ℕ → Bool
+textTooLong (crd name level code) text = false
+textTooLong (wrs lifetime level code name) text = ltb 24000 (length text)
+textTooLong (rds name) text = false
+textTooLong (cpy old new lifetime level code) text = false
+textTooLong (dup old new code) text = false
+textTooLong (chn old link) text = false
+textTooLong (del names) text = false
+textTooLong (dpr name code) text = false
+textTooLong (lst name) text = false
+textTooLong lstBase text = false
+
+abbrev pub withText : List ℕ → Read → Read
+withText text (request r) = readAs r (verdict (check (textTooLong r text) 10 0 ∷ []))
+withText text (unread f) = unread f
+
+-- what a line and its text ask for, or number 4 to 10
+unfoldable pub asked : List ℕ → List ℕ → Read
+asked line text = withText text (read line)

@@ -1,0 +1,134 @@
+//! The two calls, `request` and `mend`, and their answer.
+
+use crate::effects::{outcome, Asked, Outcome};
+use crate::mend::{clear, records_to_clear};
+use crate::records::RECORD_BYTES;
+use crate::request::{read, refusal, Refusal};
+use crate::sound::{is_sound, sound, HIGHEST_USER};
+use crate::table::{length_fits, Table};
+
+/// "An answer has: number; place ...; names done; displaced or not; bytes written; stores made."
+#[derive(Debug, Clone, Copy, PartialEq, Eq)]
+pub struct Answer {
+    /// The reply number, 0 to 22.
+    pub number: u32,
+    /// "argument from 1", or 0.
+    pub place: u32,
+    /// "names all of whose stores were made"; 1 for a granted RDS or LST.
+    pub names: u32,
+    /// 1 if an entry was displaced, else 0.
+    pub displaced: u32,
+    /// The bytes written to the front of the reply buffer.
+    pub bytes: u32,
+    /// The stores made.
+    pub stores: u32,
+}
+
+impl Answer {
+    /// A number and its place, and nothing done. "On any number but 0, displaced is no and bytes are 0."
+    fn refused(refusal: Refusal) -> Answer {
+        Answer {
+            number: refusal.number,
+            place: refusal.place,
+            names: 0,
+            displaced: 0,
+            bytes: 0,
+            stores: 0,
+        }
+    }
+}
+
+/// Do a request: the table is changed, the line and the text are read, the reply buffer is written; for a user,
+/// with a stop number. Answers for every input, and never panics.
+pub fn request(
+    table: &mut [u8],
+    line: &[u8],
+    text: &[u8],
+    reply: &mut [u8],
+    user: u32,
+    stop: u32,
+) -> Answer {
+    match judge(table, line, text, reply.len(), user) {
+        Err(refusal) => Answer::refused(refusal),
+        Ok(outcome) => carry_out(&outcome, table, reply, stop),
+    }
+}
+
+/// Numbers 1 to 10; then what the request comes to.
+fn judge(
+    bytes: &[u8],
+    line: &[u8],
+    text: &[u8],
+    room: usize,
+    user: u32,
+) -> Result<Outcome, Refusal> {
+    if !length_fits(bytes) {
+        return Err(refusal(1, 0));
+    }
+    let table = Table::read(bytes).filter(is_sound).ok_or(refusal(2, 0))?;
+    if user > HIGHEST_USER {
+        return Err(refusal(3, 0));
+    }
+    let request = read(line, text.len())?;
+    let asked = Asked {
+        table: &table,
+        user,
+        text,
+        room,
+    };
+    Ok(outcome(&asked, &request))
+}
+
+/// How many of the stores that are needed are made: "Exactly the first k".
+fn first(needed: usize, stop: u32) -> usize {
+    needed.min(usize::try_from(stop).unwrap_or(usize::MAX))
+}
+
+/// "Exactly the first k stores are made. If more were needed, the answer is 22, in a DEL even where a later name
+/// would be refused."
+fn carry_out(outcome: &Outcome, table: &mut [u8], reply: &mut [u8], stop: u32) -> Answer {
+    let needed = outcome.stores.len();
+    let made = first(needed, stop);
+    for store in &outcome.stores[..made] {
+        let at = store.number * RECORD_BYTES;
+        table[at..at + RECORD_BYTES].copy_from_slice(&store.record.write());
+    }
+    let done = |stores: &&usize| **stores <= made;
+    let counted = |refusal| Answer {
+        names: outcome.names.iter().filter(done).count() as u32,
+        stores: made as u32,
+        ..Answer::refused(refusal)
+    };
+    if made < needed {
+        return counted(refusal(22, 0));
+    }
+    if let Some(refusal) = outcome.refusal {
+        return counted(refusal);
+    }
+    reply[..outcome.reply.len()].copy_from_slice(&outcome.reply);
+    Answer {
+        displaced: outcome.displaced.into(),
+        bytes: outcome.reply.len() as u32,
+        ..counted(refusal(0, 0))
+    }
+}
+
+/// Mend a table, with a stop number. "If the result wouldn't be sound, answer 2 and leave the table as found."
+pub fn mend(table: &mut [u8], stop: u32) -> Answer {
+    if !length_fits(table) {
+        return Answer::refused(refusal(1, 0));
+    }
+    let numbers = records_to_clear(table);
+    let mut result = table.to_vec();
+    clear(&mut result, &numbers);
+    if !sound(&result) {
+        return Answer::refused(refusal(2, 0));
+    }
+    let made = first(numbers.len(), stop);
+    clear(table, &numbers[..made]);
+    let number = if made < numbers.len() { 22 } else { 0 };
+    Answer {
+        stores: made as u32,
+        ..Answer::refused(refusal(number, 0))
+    }
+}

@@ -1,0 +1,301 @@
+//! "Effects, store by store": each function's walks, its end checks in number order, and its stores.
+
+use crate::declarations::Guard;
+use crate::entries::{check, cleared, settle, strands_entries, NewName};
+use crate::listing::listing;
+use crate::names::Chain;
+use crate::records::{Heading, Level, Lifetime, Record, Text, Type, BLOCK};
+use crate::request::{refusal, Listed, Refusal, Request};
+use crate::table::{blocks, List, Store, Table};
+use crate::walk::{to_directory, to_file, File};
+
+/// What a request comes to when it is not cut.
+#[derive(Debug, Default)]
+pub struct Outcome {
+    /// The stores, in order.
+    pub stores: Vec<Store>,
+    /// For each name done, how many stores are made when it is.
+    pub names: Vec<usize>,
+    /// Is an entry overwritten that already bore the new name?
+    pub displaced: bool,
+    /// The bytes for the front of the reply buffer.
+    pub reply: Vec<u8>,
+    /// What it ends with, if not with 0.
+    pub refusal: Option<Refusal>,
+}
+
+/// What is asked: of a sound table, for a user, with a text and a reply buffer of this length.
+#[derive(Debug)]
+pub struct Asked<'a> {
+    pub table: &'a Table,
+    pub user: u32,
+    pub text: &'a [u8],
+    pub room: usize,
+}
+
+/// What this request comes to.
+pub fn outcome(asked: &Asked, request: &Request) -> Outcome {
+    let outcome = match request {
+        Request::Crd { name, guard } => asked.crd(name, *guard),
+        Request::Wrs {
+            lifetime,
+            guard,
+            name,
+        } => asked.wrs(*lifetime, *guard, name),
+        Request::Rds { name } => asked.rds(name),
+        Request::Cpy {
+            old,
+            new,
+            lifetime,
+            guard,
+        } => asked.cpy(old, new, *lifetime, *guard),
+        Request::Dup { old, new, digit } => asked.dup(old, new, *digit),
+        Request::Chn { old, link } => asked.chn(old, link),
+        Request::Del { names } => Ok(asked.del(names)),
+        Request::Dpr { name, digit } => asked.dpr(name, *digit),
+        Request::Lst { listed } => asked.lst(listed),
+    };
+    outcome.unwrap_or_else(Outcome::refused)
+}
+
+impl Outcome {
+    /// Nothing done.
+    fn refused(refusal: Refusal) -> Outcome {
+        Outcome {
+            refusal: Some(refusal),
+            ..Outcome::default()
+        }
+    }
+
+    /// One name done with these stores.
+    fn stored(stores: Vec<Store>) -> Outcome {
+        Outcome {
+            names: vec![stores.len()],
+            stores,
+            ..Outcome::default()
+        }
+    }
+
+    /// One name done with these reply bytes.
+    fn replied(reply: Vec<u8>) -> Outcome {
+        Outcome {
+            names: vec![0],
+            reply,
+            ..Outcome::default()
+        }
+    }
+}
+
+impl Asked<'_> {
+    /// Walk an old name to its file.
+    fn old_name(&self, place: usize, chain: &Chain) -> Result<File, Refusal> {
+        to_file(self.table, self.user, chain).map_err(|number| refusal(number, place))
+    }
+
+    /// Walk a new name, "only to its directory".
+    fn new_name<'n>(&self, place: usize, chain: &Chain<'n>) -> Result<NewName<'n>, Refusal> {
+        let directory =
+            to_directory(self.table, self.user, chain).map_err(|number| refusal(number, place))?;
+        let borne = self.table.find(directory.list, chain.last);
+        Ok(NewName {
+            directory,
+            name: chain.last,
+            displaced: borne.map(|(number, entry)| (number, entry.heading)),
+            place,
+        })
+    }
+
+    /// "CRD: heading, entry."
+    fn crd(&self, name: &Chain, guard: Guard) -> Result<Outcome, Refusal> {
+        let new = self.new_name(1, name)?;
+        check(new.directory.may_be_written(), 14, new.place)?;
+        let heading = Heading {
+            file_type: Type::Directory,
+            level: guard.level.unwrap_or(Level::U),
+            code: guard.digit.unwrap_or(0),
+            lifetime: Lifetime::M,
+            length: 0,
+        };
+        self.new_file(&new, heading, b"")
+    }
+
+    /// "WRS ...: heading, text by position, entry."
+    fn wrs(&self, lifetime: Lifetime, guard: Guard, name: &Chain) -> Result<Outcome, Refusal> {
+        let new = self.new_name(2, name)?;
+        check(new.directory.may_be_written(), 14, new.place)?;
+        let heading = Heading {
+            file_type: Type::Simple,
+            level: guard.level.unwrap_or(Level::U),
+            code: guard.digit.unwrap_or(0),
+            lifetime,
+            length: self.text.len() as u16,
+        };
+        self.new_file(&new, heading, self.text)
+    }
+
+    /// "CPY: heading, text by position, entry." The content is the old file's, as it was before.
+    fn cpy(
+        &self,
+        old: &Chain,
+        new: &Chain,
+        lifetime: Option<Lifetime>,
+        guard: Guard,
+    ) -> Result<Outcome, Refusal> {
+        let old = self.old_name(1, old)?;
+        let new = self.new_name(2, new)?;
+        check(old.may_be_read(), 13, 1)?;
+        check(new.directory.may_be_written(), 14, new.place)?;
+        check(old.heading.file_type == Type::Simple, 15, 1)?;
+        let heading = Heading {
+            file_type: Type::Simple,
+            level: guard.level.unwrap_or(old.heading.level),
+            code: guard.digit.unwrap_or(0),
+            lifetime: lifetime.unwrap_or(old.heading.lifetime),
+            length: old.heading.length,
+        };
+        self.new_file(&new, heading, &self.table.content(old.entry.heading))
+    }
+
+    /// A new heading with its text and its entry. "In each the code goes into both heading and entry."
+    fn new_file(
+        &self,
+        new: &NewName,
+        heading: Heading,
+        content: &[u8],
+    ) -> Result<Outcome, Refusal> {
+        let numbers = new.numbers(self.table, 1 + blocks(content.len()), None)?;
+        let number = numbers[0] as u16;
+        let entry = new.entry(heading.code, number);
+        let mut records = vec![Record::Heading(heading)];
+        for (position, bytes) in content.chunks(BLOCK).enumerate() {
+            records.push(Record::Text(Text {
+                heading: number,
+                position: position as u16,
+                bytes: bytes.to_vec(),
+            }));
+        }
+        records.push(Record::Entry(entry));
+        Ok(self.named(new, numbers, records))
+    }
+
+    /// "DUP: entry, its code the old entry's joined with the declared one."
+    fn dup(&self, old: &Chain, new: &Chain, digit: Option<u8>) -> Result<Outcome, Refusal> {
+        let old = self.old_name(1, old)?.entry;
+        let new = self.new_name(2, new)?;
+        check(new.directory.may_be_written(), 14, new.place)?;
+        let numbers = new.numbers(self.table, 0, Some(old.heading))?;
+        let entry = new.entry(old.code | digit.unwrap_or(0), old.heading);
+        Ok(self.named(&new, numbers, vec![Record::Entry(entry)]))
+    }
+
+    /// These records stored under these numbers, the entry last; then what it displaced is settled.
+    fn named(&self, new: &NewName, numbers: Vec<usize>, records: Vec<Record>) -> Outcome {
+        let store = |(number, record)| Store { number, record };
+        let mut stores: Vec<Store> = numbers.into_iter().zip(records).map(store).collect();
+        if let Some((_, heading)) = new.displaced {
+            settle(self.table, &mut stores, heading);
+        }
+        Outcome {
+            displaced: new.displaced.is_some(),
+            ..Outcome::stored(stores)
+        }
+    }
+
+    /// "CHN: the entry with its new name."
+    fn chn(&self, old: &Chain, link: &[u8]) -> Result<Outcome, Refusal> {
+        let old = self.old_name(1, old)?;
+        check(old.directory.may_be_written(), 14, 1)?;
+        let borne = self.table.find(old.directory.list, link);
+        check(borne.is_none(), 16, 2)?;
+        let mut entry = old.entry;
+        entry.name = link.to_vec();
+        Ok(Outcome::stored(vec![Store {
+            number: old.entry_number,
+            record: Record::Entry(entry),
+        }]))
+    }
+
+    /// "DPR: the heading with its new code." 21: "new code lacks a bit of the heading's".
+    fn dpr(&self, name: &Chain, digit: u8) -> Result<Outcome, Refusal> {
+        let file = self.old_name(1, name)?;
+        check(file.may_be_written(), 14, 1)?;
+        let mut heading = file.heading;
+        check(heading.code & !digit == 0, 21, 2)?;
+        heading.code = digit;
+        Ok(Outcome::stored(vec![Store {
+            number: usize::from(file.entry.heading),
+            record: Record::Heading(heading),
+        }]))
+    }
+
+    /// "DEL does walk and end checks name by name and stops at the first refusal."
+    fn del(&self, names: &[Chain]) -> Outcome {
+        let mut table = self.table.clone();
+        let mut outcome = Outcome::default();
+        for (at, name) in names.iter().enumerate() {
+            let now = Asked {
+                table: &table,
+                ..*self
+            };
+            match now.del_name(at + 1, name) {
+                Err(refusal) => {
+                    outcome.refusal = Some(refusal);
+                    return outcome;
+                }
+                Ok(stores) => {
+                    table.make(&stores);
+                    outcome.stores.extend(stores);
+                    outcome.names.push(outcome.stores.len());
+                }
+            }
+        }
+        outcome
+    }
+
+    /// "DEL: for each name in turn, the entry cleared."
+    fn del_name(&self, place: usize, name: &Chain) -> Result<Vec<Store>, Refusal> {
+        let file = self.old_name(place, name)?;
+        check(file.directory.may_be_written(), 14, place)?;
+        let heading = file.entry.heading;
+        let stranded = strands_entries(self.table, file.entry_number, heading);
+        check(!stranded, 18, place)?;
+        let mut stores = vec![cleared(file.entry_number)];
+        settle(self.table, &mut stores, heading);
+        Ok(stores)
+    }
+
+    /// "RDS writes the text to the front of the reply buffer."
+    fn rds(&self, name: &Chain) -> Result<Outcome, Refusal> {
+        let file = self.old_name(1, name)?;
+        check(file.may_be_read(), 13, 1)?;
+        check(file.heading.file_type == Type::Simple, 15, 1)?;
+        self.reply(self.table.content(file.entry.heading))
+    }
+
+    /// "LST writes one line an entry".
+    fn lst(&self, listed: &Listed) -> Result<Outcome, Refusal> {
+        let chain = match listed {
+            Listed::BaseList => return self.reply(self.base_listing()),
+            Listed::Directory(chain) => chain,
+        };
+        let file = self.old_name(1, chain)?;
+        check(file.may_be_read(), 13, 1)?;
+        check(file.heading.file_type == Type::Directory, 15, 1)?;
+        let list = List::Directory(file.entry.heading);
+        let entries = self.table.entries_in(list).map(|(_, entry)| entry);
+        self.reply(listing(self.table, entries.collect()))
+    }
+
+    /// "LST of a lone point lists the user's base files other than `.W`."
+    fn base_listing(&self) -> Vec<u8> {
+        let entries = self.table.entries_in(List::Base(self.user));
+        let other = entries.map(|(_, entry)| entry).filter(|e| e.name != b".W");
+        listing(self.table, other.collect())
+    }
+
+    /// 20: "reply buffer too short".
+    fn reply(&self, bytes: Vec<u8>) -> Result<Outcome, Refusal> {
+        check(bytes.len() <= self.room, 20, 0)?;
+        Ok(Outcome::replied(bytes))
+    }
+}

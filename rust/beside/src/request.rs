@@ -1,0 +1,260 @@
+//! Reading a request line: the request, or numbers 4 to 10 with their place.
+
+use crate::declarations::{Declared, Guard};
+use crate::line::{line_fits, words, Word};
+use crate::names::{is_base_name, is_link_name, Chain};
+use crate::records::Lifetime;
+
+/// "WRS text above 24,000 bytes".
+pub const LONGEST_TEXT: usize = 24_000;
+
+/// A number other than 0, with its place.
+#[derive(Debug, Clone, Copy, PartialEq, Eq)]
+pub struct Refusal {
+    /// The reply number.
+    pub number: u32,
+    /// "argument from 1", or 0.
+    pub place: u32,
+}
+
+/// What LST is to list.
+#[derive(Debug, Clone, PartialEq, Eq)]
+pub enum Listed<'a> {
+    /// "LST of a lone point lists the user's base files other than `.W`."
+    BaseList,
+    /// The directory at the end of a chain.
+    Directory(Chain<'a>),
+}
+
+/// A request as it was made out of a line, numbers 4 to 10 apart.
+#[derive(Debug, Clone, PartialEq, Eq)]
+#[allow(missing_docs)]
+pub enum Request<'a> {
+    Crd {
+        name: Chain<'a>,
+        guard: Guard,
+    },
+    Wrs {
+        lifetime: Lifetime,
+        guard: Guard,
+        name: Chain<'a>,
+    },
+    Rds {
+        name: Chain<'a>,
+    },
+    Cpy {
+        old: Chain<'a>,
+        new: Chain<'a>,
+        lifetime: Option<Lifetime>,
+        guard: Guard,
+    },
+    Dup {
+        old: Chain<'a>,
+        new: Chain<'a>,
+        digit: Option<u8>,
+    },
+    Chn {
+        old: Chain<'a>,
+        link: &'a [u8],
+    },
+    Del {
+        names: Vec<Chain<'a>>,
+    },
+    Dpr {
+        name: Chain<'a>,
+        digit: u8,
+    },
+    Lst {
+        listed: Listed<'a>,
+    },
+}
+
+#[derive(Debug, Clone, Copy, PartialEq, Eq)]
+enum Function {
+    Crd,
+    Wrs,
+    Rds,
+    Cpy,
+    Dup,
+    Chn,
+    Del,
+    Dpr,
+    Lst,
+}
+
+/// What an argument is to be.
+#[derive(Debug, Clone, Copy, PartialEq, Eq)]
+enum Part {
+    Name,
+    Link,
+    Declaration,
+}
+
+/// "The first word is the function."
+fn function(word: &Word) -> Option<Function> {
+    match word.whole()? {
+        b"CRD" => Some(Function::Crd),
+        b"WRS" => Some(Function::Wrs),
+        b"RDS" => Some(Function::Rds),
+        b"CPY" => Some(Function::Cpy),
+        b"DUP" => Some(Function::Dup),
+        b"CHN" => Some(Function::Chn),
+        b"DEL" => Some(Function::Del),
+        b"DPR" => Some(Function::Dpr),
+        b"LST" => Some(Function::Lst),
+        _ => None,
+    }
+}
+
+/// The table of functions and arguments: the least count of arguments, and what each is to be.
+fn form(function: Function) -> (usize, &'static [Part]) {
+    use Part::{Declaration, Link, Name};
+    match function {
+        Function::Crd => (1, &[Name, Declaration]),
+        Function::Wrs => (2, &[Declaration, Name]),
+        Function::Rds | Function::Lst => (1, &[Name]),
+        Function::Cpy | Function::Dup => (2, &[Name, Name, Declaration]),
+        Function::Chn => (2, &[Name, Link]),
+        Function::Dpr => (2, &[Name, Declaration]),
+        Function::Del => (1, &[Name; 8]),
+    }
+}
+
+/// Not number 7. "An argument of one dash is ... a malformed name."
+fn is_well_formed(part: Part, word: &Word) -> bool {
+    let dash = word.whole() == Some(b"-");
+    match part {
+        Part::Name => !dash && Chain::of(word).is_well_formed(),
+        Part::Link => !dash && word.whole().is_some_and(is_link_name),
+        Part::Declaration => true,
+    }
+}
+
+/// Not number 8: "illegal base name (also CHN's link for a base file)".
+fn has_legal_base(function: Function, arguments: &[Word], part: Part, word: &Word) -> bool {
+    let lone_point = word.whole() == Some(b".");
+    let old_is_base_file = || Chain::of(&arguments[0]).is_base_file();
+    match part {
+        Part::Name if function == Function::Lst && lone_point => true,
+        Part::Name => is_base_name(Chain::of(word).base()),
+        Part::Link => !old_is_base_file() || is_base_name(word.last),
+        Part::Declaration => true,
+    }
+}
+
+/// Refuse the first argument that the test fails.
+fn all_arguments(
+    number: u32,
+    parts: &[Part],
+    arguments: &[Word],
+    test: impl Fn(Part, &Word) -> bool,
+) -> Result<(), Refusal> {
+    let fails = |(part, word): (&Part, &Word)| !test(*part, word);
+    match parts.iter().zip(arguments).position(fails) {
+        None => Ok(()),
+        Some(at) => Err(refusal(number, at + 1)),
+    }
+}
+
+/// The request of a line whose names are legal; nothing when the declaration is malformed or unfit.
+fn make<'a>(function: Function, arguments: &[Word<'a>]) -> Option<Request<'a>> {
+    let chain = |at: usize| Chain::of(&arguments[at]);
+    let declared = |at: usize| match arguments.get(at) {
+        None => Some(Declared::default()),
+        Some(word) => Declared::read(word),
+    };
+    Some(match function {
+        Function::Crd => Request::Crd {
+            name: chain(0),
+            guard: declared(1)?.for_crd()?,
+        },
+        Function::Wrs => make_wrs(declared(0)?, chain(1))?,
+        Function::Rds => Request::Rds { name: chain(0) },
+        Function::Cpy => make_cpy(chain(0), chain(1), declared(2)?)?,
+        Function::Dup => Request::Dup {
+            old: chain(0),
+            new: chain(1),
+            digit: declared(2)?.for_dup()?,
+        },
+        Function::Chn => Request::Chn {
+            old: chain(0),
+            link: arguments[1].last,
+        },
+        Function::Del => Request::Del {
+            names: arguments.iter().map(Chain::of).collect(),
+        },
+        Function::Dpr => Request::Dpr {
+            name: chain(0),
+            digit: declared(1)?.for_dpr()?,
+        },
+        Function::Lst => Request::Lst {
+            listed: listed(&arguments[0]),
+        },
+    })
+}
+
+fn make_wrs(declared: Declared, name: Chain) -> Option<Request> {
+    let (lifetime, guard) = declared.for_wrs()?;
+    Some(Request::Wrs {
+        lifetime,
+        guard,
+        name,
+    })
+}
+
+fn make_cpy<'a>(old: Chain<'a>, new: Chain<'a>, declared: Declared) -> Option<Request<'a>> {
+    let (lifetime, guard) = declared.for_cpy()?;
+    Some(Request::Cpy {
+        old,
+        new,
+        lifetime,
+        guard,
+    })
+}
+
+fn listed<'a>(word: &Word<'a>) -> Listed<'a> {
+    match word.whole() {
+        Some(b".") => Listed::BaseList,
+        _ => Listed::Directory(Chain::of(word)),
+    }
+}
+
+/// A refusal of the argument at this place, or of none in particular (0).
+pub fn refusal(number: u32, place: usize) -> Refusal {
+    Refusal {
+        number,
+        place: place as u32,
+    }
+}
+
+/// Read a line: "Numbers 1 to 10 are tried in that order over the whole line, arguments from left to right
+/// within each." Numbers 1 to 3 are not the line's.
+pub fn read(line: &[u8], text_length: usize) -> Result<Request<'_>, Refusal> {
+    if !line_fits(line) {
+        return Err(refusal(4, 0));
+    }
+    let words = words(line);
+    let Some((first, arguments)) = words.split_first() else {
+        return Err(refusal(5, 0));
+    };
+    let function = function(first).ok_or(refusal(5, 0))?;
+    let (least, parts) = form(function);
+    if arguments.len() < least || arguments.len() > parts.len() {
+        return Err(refusal(6, 0));
+    }
+    all_arguments(7, parts, arguments, is_well_formed)?;
+    all_arguments(8, parts, arguments, |part, word| {
+        has_legal_base(function, arguments, part, word)
+    })?;
+    let request = make(function, arguments).ok_or(refusal(9, place_of_declaration(parts)))?;
+    if function == Function::Wrs && text_length > LONGEST_TEXT {
+        return Err(refusal(10, 0));
+    }
+    Ok(request)
+}
+
+/// Where a function has its declaration.
+fn place_of_declaration(parts: &[Part]) -> usize {
+    let at = parts.iter().position(|part| *part == Part::Declaration);
+    at.map_or(0, |at| at + 1)
+}

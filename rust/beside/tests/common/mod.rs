@@ -1,0 +1,231 @@
+//! What the tests share: hand-made records, a bench to ask requests at, and a generator of numbers.
+#![allow(dead_code)]
+
+use beside::Answer;
+
+/// The byte that fills a reply buffer before each request.
+pub const UNTOUCHED: u8 = 0xEE;
+
+/// An answer from its six numbers: number, place, names, displaced, bytes, stores.
+pub fn answer(numbers: [u32; 6]) -> Answer {
+    let [number, place, names, displaced, bytes, stores] = numbers;
+    Answer {
+        number,
+        place,
+        names,
+        displaced,
+        bytes,
+        stores,
+    }
+}
+
+/// The six numbers of an answer.
+pub fn numbers(answer: Answer) -> [u32; 6] {
+    [
+        answer.number,
+        answer.place,
+        answer.names,
+        answer.displaced,
+        answer.bytes,
+        answer.stores,
+    ]
+}
+
+/// A free record.
+pub const FREE: [u8; 32] = [0; 32];
+
+/// A heading record: type, level, code, lifetime, text length.
+pub fn heading(file_type: u8, level: u8, code: u8, lifetime: u8, length: u16) -> [u8; 32] {
+    let mut record = [0; 32];
+    record[..5].copy_from_slice(&[1, file_type, level, code, lifetime]);
+    record[10..12].copy_from_slice(&length.to_le_bytes());
+    record
+}
+
+/// The heading of a directory U with code 0.
+pub fn directory() -> [u8; 32] {
+    heading(0, 0, 0, 1, 0)
+}
+
+/// The heading of a simple file, medium, U, code 0.
+pub fn simple(length: u16) -> [u8; 32] {
+    heading(1, 0, 0, 1, length)
+}
+
+/// An entry record: code, directory, heading, user, name.
+pub fn entry(code: u8, directory: u16, heading: u16, user: u32, name: &str) -> [u8; 32] {
+    let mut record = [0; 32];
+    record[..2].copy_from_slice(&[2, code]);
+    record[2..4].copy_from_slice(&directory.to_le_bytes());
+    record[4..6].copy_from_slice(&heading.to_le_bytes());
+    record[6..9].copy_from_slice(&user.to_le_bytes()[..3]);
+    record[9] = name.len() as u8;
+    record[10..10 + name.len()].copy_from_slice(name.as_bytes());
+    record
+}
+
+/// A base entry of user 1, code 0.
+pub fn base(heading: u16, name: &str) -> [u8; 32] {
+    entry(0, 65_535, heading, 1, name)
+}
+
+/// A text record: heading, position, bytes.
+pub fn text(heading: u16, position: u16, bytes: &[u8]) -> [u8; 32] {
+    let mut record = [0; 32];
+    record[..2].copy_from_slice(&[3, bytes.len() as u8]);
+    record[2..4].copy_from_slice(&heading.to_le_bytes());
+    record[4..6].copy_from_slice(&position.to_le_bytes());
+    record[8..8 + bytes.len()].copy_from_slice(bytes);
+    record
+}
+
+/// Record number so and so of a table.
+pub fn record(table: &[u8], number: usize) -> &[u8] {
+    &table[number * 32..number * 32 + 32]
+}
+
+/// How many records of a kind there are.
+pub fn count(table: &[u8], kind: u8) -> usize {
+    table.chunks(32).filter(|record| record[0] == kind).count()
+}
+
+/// A table, and what a request is lent besides the line and the text.
+#[derive(Clone)]
+pub struct Bench {
+    pub table: Vec<u8>,
+    pub user: u32,
+    pub stop: u32,
+    pub room: usize,
+}
+
+/// What a request left behind.
+pub struct Seen {
+    pub answer: Answer,
+    pub table: Vec<u8>,
+    pub reply: Vec<u8>,
+}
+
+impl Bench {
+    /// A table of so many free records, for user 1.
+    pub fn new(records: usize) -> Bench {
+        Bench::of(vec![0; records * 32])
+    }
+
+    /// A table as given, for user 1.
+    pub fn of(table: Vec<u8>) -> Bench {
+        Bench {
+            table,
+            user: 1,
+            stop: 65_535,
+            room: 24_000,
+        }
+    }
+
+    /// A table grown by these granted requests; each WRS writes `TEXT`.
+    pub fn grown(records: usize, lines: &[&str]) -> Bench {
+        let mut bench = Bench::new(records);
+        for line in lines {
+            bench.grant(line, TEXT);
+        }
+        bench
+    }
+
+    /// The same with another stop number.
+    pub fn stop(&self, stop: u32) -> Bench {
+        Bench {
+            stop,
+            ..self.clone()
+        }
+    }
+
+    /// Ask a request of a copy of the table.
+    pub fn ask(&self, line: impl AsRef<[u8]>, text: &[u8]) -> Seen {
+        let mut table = self.table.clone();
+        let mut reply = vec![UNTOUCHED; self.room];
+        let line = line.as_ref();
+        let answer = beside::request(&mut table, line, text, &mut reply, self.user, self.stop);
+        Seen {
+            answer,
+            table,
+            reply,
+        }
+    }
+
+    /// The request must be granted and leave a sound table; the table is kept.
+    pub fn grant(&mut self, line: &str, text: &[u8]) -> Seen {
+        let seen = self.ask(line, text);
+        assert_eq!(seen.answer.number, 0, "{line}: {:?}", seen.answer);
+        assert_eq!(seen.answer.place, 0, "{line}");
+        assert!(beside::sound(&seen.table), "{line}: not sound after");
+        let bytes = seen.answer.bytes as usize;
+        let rest = &seen.reply[bytes..];
+        assert!(rest.iter().all(|byte| *byte == UNTOUCHED), "{line}: reply");
+        self.table.clone_from(&seen.table);
+        seen
+    }
+
+    /// The request must be refused with this number and place, and change no byte.
+    pub fn refuse(&self, line: impl AsRef<[u8]>, text: &[u8], number: u32, place: u32) {
+        let shown = String::from_utf8_lossy(line.as_ref()).into_owned();
+        let seen = self.ask(line, text);
+        let expected = answer([number, place, 0, 0, 0, 0]);
+        assert_eq!(seen.answer, expected, "{shown}");
+        assert!(seen.table == self.table, "{shown}: table changed");
+        assert!(seen.untouched(), "{shown}: reply changed");
+    }
+
+    /// The reply bytes of a request that must be granted and store nothing.
+    pub fn reply(&self, line: &str) -> Vec<u8> {
+        let seen = self.ask(line, b"");
+        let bytes = seen.answer.bytes;
+        assert_eq!(seen.answer, answer([0, 0, 1, 0, bytes, 0]), "{line}");
+        assert!(seen.table == self.table, "{line}: table changed");
+        let (front, rest) = seen.reply.split_at(bytes as usize);
+        assert!(rest.iter().all(|byte| *byte == UNTOUCHED), "{line}: reply");
+        front.to_vec()
+    }
+}
+
+/// The text of every WRS that a bench is grown with.
+pub const TEXT: &[u8] = b"THIS TEXT HAS THIRTY BYTES: 30";
+
+impl Seen {
+    /// Is the reply buffer as it was lent?
+    pub fn untouched(&self) -> bool {
+        self.reply.iter().all(|byte| *byte == UNTOUCHED)
+    }
+}
+
+/// Numbers that look random and are the same on every run.
+pub struct Dice(pub u64);
+
+impl Dice {
+    /// Any number.
+    pub fn throw(&mut self) -> u64 {
+        self.0 = self.0.wrapping_add(0x9E37_79B9_7F4A_7C15);
+        let mut mixed = self.0;
+        mixed = (mixed ^ (mixed >> 30)).wrapping_mul(0xBF58_476D_1CE4_E5B9);
+        mixed = (mixed ^ (mixed >> 27)).wrapping_mul(0x94D0_49BB_1331_11EB);
+        mixed ^ (mixed >> 31)
+    }
+
+    /// A number below a bound.
+    pub fn below(&mut self, bound: usize) -> usize {
+        (self.throw() % bound as u64) as usize
+    }
+
+    /// One of these.
+    pub fn pick<'a, T: ?Sized>(&mut self, from: &[&'a T]) -> &'a T {
+        from[self.below(from.len())]
+    }
+
+    /// True once in so many throws.
+    pub fn once_in(&mut self, throws: usize) -> bool {
+        self.below(throws) == 0
+    }
+
+    /// So many bytes, each any.
+    pub fn bytes(&mut self, length: usize) -> Vec<u8> {
+        (0..length).map(|_| self.throw() as u8).collect()
+    }
+}

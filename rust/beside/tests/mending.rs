@@ -1,0 +1,246 @@
+//! Mending: the rule, record by record, and tables damaged at random.
+
+mod common;
+use common::*;
+
+use beside::mend;
+
+const UNCUT: u32 = 65_535;
+
+/// Mending answers with this number and these stores, and leaves these records.
+fn mends(records: &[[u8; 32]], stop: u32, number: u32, stores: u32, after: &[[u8; 32]]) {
+    let mut table = records.concat();
+    let expected = answer([number, 0, 0, 0, 0, stores]);
+    assert_eq!(mend(&mut table, stop), expected);
+    assert_eq!(table, after.concat());
+}
+
+#[test]
+fn a_sound_table_is_left_as_it_is() {
+    mends(&[], UNCUT, 0, 0, &[]);
+    mends(&[FREE; 5], 0, 0, 0, &[FREE; 5]);
+    let looped = [directory(), entry(0, 0, 0, 0, "A")];
+    mends(&looped, 0, 0, 0, &looped);
+    let lines = ["CRD .R", "WRS M .R:A", "DUP .R .R:B", "CPY .R:A .G"];
+    let mut table = Bench::grown(20, &lines).table;
+    let before = table.clone();
+    assert_eq!(mend(&mut table, UNCUT), answer([0; 6]));
+    assert_eq!(table, before);
+}
+
+#[test]
+fn a_heading_that_no_entry_names_is_cleared_and_its_text_after_it() {
+    let debris = [
+        text(2, 1, b"MORE"),
+        FREE,
+        simple(28),
+        text(2, 0, &TEXT[..24]),
+    ];
+    mends(&debris, UNCUT, 0, 3, &[FREE; 4]);
+    // The heading goes first, then the texts, by record number.
+    mends(&debris, 0, 22, 0, &debris);
+    let mut after = debris;
+    for (made, number) in [2, 0, 3].into_iter().enumerate() {
+        after[number] = FREE;
+        let stores = made as u32 + 1;
+        mends(
+            &debris,
+            stores,
+            if stores == 3 { 0 } else { 22 },
+            stores,
+            &after,
+        );
+    }
+}
+
+#[test]
+fn all_headings_go_before_all_texts_each_by_record_number() {
+    let debris = [text(9, 0, b"T"), simple(0), text(3, 0, b"T"), directory()];
+    let order = [1, 3, 0, 2];
+    let mut after = debris;
+    for (made, number) in order.into_iter().enumerate() {
+        let stores = made as u32;
+        mends(&debris, stores, 22, stores, &after);
+        after[number] = FREE;
+    }
+    mends(&debris, 4, 0, 4, &[FREE; 4]);
+}
+
+#[test]
+fn text_of_a_directory_of_an_entry_or_of_nothing_is_cleared() {
+    let file = [directory(), base(0, ".R")];
+    for heading in [0, 1, 2, 3, 2_048, 65_535] {
+        let records = [file[0], file[1], text(heading, 0, b"T")];
+        mends(&records, UNCUT, 0, 1, &[file[0], file[1], FREE]);
+    }
+}
+
+#[test]
+fn kind_and_type_are_read_from_bytes_0_and_1_alone() {
+    // An unnamed heading is cleared whatever its other bytes are, and so is text without a simple file.
+    let mut heading = [0xFF; 32];
+    heading[0] = 1;
+    let mut text = [0xFF; 32];
+    text[0] = 3;
+    mends(&[heading, text], UNCUT, 0, 2, &[FREE; 2]);
+    // Text of an unsound simple file that is named is kept: the result is not sound.
+    let mut odd = simple(4);
+    odd[31] = 1;
+    let records = [odd, base(0, ".R"), common::text(0, 0, b"TEXT"), directory()];
+    mends(&records, UNCUT, 2, 0, &records);
+    // A heading of type 2 is not a simple file's.
+    let records = [super_type(), base(0, ".R"), common::text(0, 0, b"TEXT")];
+    mends(&records, UNCUT, 2, 0, &records);
+    // An unsound entry names all the same.
+    let mut odd = base(0, ".R");
+    odd[31] = 1;
+    let records = [directory(), odd];
+    mends(&records, UNCUT, 2, 0, &records);
+}
+
+fn super_type() -> [u8; 32] {
+    let mut heading = simple(4);
+    heading[1] = 2;
+    heading
+}
+
+#[test]
+fn what_cannot_be_mended_gets_2_before_22_and_is_left_as_found() {
+    let cases = [
+        // An entry of no heading, beside debris that could be cleared.
+        vec![base(5, ".R"), directory(), text(1, 0, b"T")],
+        // A simple file that lacks a text.
+        vec![
+            simple(30),
+            base(0, ".R"),
+            text(0, 0, &TEXT[..24]),
+            directory(),
+        ],
+        // A text twice.
+        vec![simple(1), base(0, ".R"), text(0, 0, b"T"), text(0, 0, b"T")],
+        // A name twice.
+        vec![directory(), base(0, ".R"), base(0, ".R"), simple(0)],
+        // An entry in a directory that mending clears.
+        vec![directory(), simple(0), entry(0, 0, 1, 0, "A")],
+        // A free record that is not zero.
+        vec![{
+            let mut free = FREE;
+            free[31] = 1;
+            free
+        }],
+    ];
+    for records in cases {
+        for stop in [0, 1, 2, UNCUT, u32::MAX] {
+            mends(&records, stop, 2, 0, &records);
+        }
+    }
+}
+
+#[test]
+fn the_second_step_sees_the_table_after_the_first() {
+    // The text's heading is a simple file's before the first step and is gone after it.
+    mends(&[simple(1), text(0, 0, b"T")], UNCUT, 0, 2, &[FREE; 2]);
+}
+
+#[test]
+fn an_entry_in_a_loop_keeps_its_heading() {
+    let records = [directory(), entry(0, 0, 0, 0, "A"), directory()];
+    mends(&records, UNCUT, 0, 1, &[records[0], records[1], FREE]);
+}
+
+/// A sound table with a bit of everything.
+fn grown(dice: &mut Dice) -> Vec<u8> {
+    let lines = [
+        "CRD .R",
+        "CRD .W",
+        "WRS M .R:A",
+        "CPY .R:A B",
+        "DUP .R .R:LOOP",
+        "CRD D",
+        "WRS L.P1 D:C",
+        "DUP .W .R:W",
+    ];
+    let mut bench = Bench::new(28);
+    for line in lines {
+        if !dice.once_in(6) {
+            let asked = bench.ask(line, TEXT);
+            bench.table = asked.table;
+        }
+    }
+    bench.table
+}
+
+/// Some damage: debris of headings and texts, records cleared, bytes changed.
+fn damage(dice: &mut Dice, table: &mut [u8]) {
+    for _ in 0..=dice.below(4) {
+        let at = dice.below(table.len() / 32) * 32;
+        let number = dice.below(30) as u16;
+        let record = &mut table[at..at + 32];
+        match dice.below(5) {
+            0 if record[0] == 0 => record.copy_from_slice(&simple(number)),
+            1 if record[0] == 0 => record.copy_from_slice(&directory()),
+            0..=2 if record[0] == 0 => record.copy_from_slice(&text(number, number % 3, b"T")),
+            3 => record.fill(0),
+            _ => record[dice.below(32)] = dice.below(256) as u8,
+        }
+    }
+}
+
+/// Each record is as before, or was a heading or a text and is cleared.
+fn only_cleared(before: &[u8], after: &[u8]) -> usize {
+    let mut cleared = 0;
+    for (before, after) in before.chunks(32).zip(after.chunks(32)) {
+        if before != after {
+            assert!(before[0] == 1 || before[0] == 3);
+            assert_eq!(after, FREE);
+            cleared += 1;
+        }
+    }
+    cleared
+}
+
+#[test]
+fn tables_damaged_at_random() {
+    let seed = 20_240_601;
+    println!("seed {seed}");
+    let mut dice = Dice(seed);
+    let (mut mended, mut untouched, mut lost) = (0, 0, 0);
+    for _ in 0..20_000 {
+        let mut table = grown(&mut dice);
+        damage(&mut dice, &mut table);
+        let before = table.clone();
+        let seen = mend(&mut table, UNCUT);
+        match numbers(seen) {
+            [2, 0, 0, 0, 0, 0] => {
+                assert_eq!(table, before);
+                lost += 1;
+            }
+            [0, 0, 0, 0, 0, stores] => {
+                assert!(beside::sound(&table));
+                assert_eq!(only_cleared(&before, &table), stores as usize);
+                assert_eq!(stores == 0, beside::sound(&before));
+                cut_everywhere(&before, &table, stores);
+                *(if stores == 0 {
+                    &mut untouched
+                } else {
+                    &mut mended
+                }) += 1;
+            }
+            _ => panic!("{seen:?}"),
+        }
+    }
+    println!("mended {mended}, sound as it was {untouched}, not to be mended {lost}");
+    assert!(mended > 2_000 && untouched > 500 && lost > 5_000);
+}
+
+/// "a mend cut anywhere and run again ends as an uncut one."
+fn cut_everywhere(before: &[u8], after: &[u8], stores: u32) {
+    for stop in 0..stores {
+        let mut table = before.to_vec();
+        assert_eq!(mend(&mut table, stop), answer([22, 0, 0, 0, 0, stop]));
+        assert_eq!(only_cleared(before, &table), stop as usize);
+        let left = stores - stop;
+        assert_eq!(mend(&mut table, left), answer([0, 0, 0, 0, 0, left]));
+        assert_eq!(table, after);
+    }
+}

@@ -1,0 +1,187 @@
+//! Any table, line, text, reply buffer, user and stop number: one answer, and it fits document 01.
+
+mod common;
+use common::*;
+
+use beside::Answer;
+
+const FUNCTIONS: [&str; 9] = [
+    "CRD ", "WRS ", "RDS ", "CPY ", "DUP ", "CHN ", "DEL ", "DPR ", "LST ",
+];
+
+const NAMES: [&str; 20] = [
+    ".R",
+    ".W",
+    ".G",
+    ".R:A",
+    ".R:B",
+    ".R:D",
+    ".R:D:F",
+    "A",
+    "A:B",
+    ".ABC",
+    ".R:LOOP:A",
+    "X",
+    ".",
+    ".FULL:NEW",
+    ".FULL:7",
+    ".R:A:B",
+    ".R:B:A",
+    "X:Y",
+    ".1:A",
+    "A::B",
+];
+
+const DECLARATIONS: [&str; 12] = [
+    "M", "L", "-", ".", ".1", ".4", ".7", ".U", "M.P", "L.3", "S", "QQ",
+];
+
+/// A line: any bytes; or one byte again and again; or words anyhow; or a function with what it could have.
+fn line(dice: &mut Dice) -> Vec<u8> {
+    let words = match dice.below(12) {
+        0 => {
+            let length = dice.below(300);
+            return dice.bytes(length);
+        }
+        1 => return vec![32 + dice.below(64) as u8; 250 + dice.below(10)],
+        2..=3 => {
+            let marks = [":", " : ", "@", "  "];
+            let all = [&FUNCTIONS[..], &NAMES, &DECLARATIONS, &marks].concat();
+            let pieces = (0..=dice.below(5)).map(|_| dice.pick(&all));
+            return pieces.collect::<Vec<_>>().join(" ").into_bytes();
+        }
+        4..=5 => vec!["DPR ", dice.pick(&NAMES), dice.pick(&DECLARATIONS)],
+        6..=7 => vec!["WRS ", dice.pick(&DECLARATIONS), dice.pick(&NAMES)],
+        8..=9 => vec![dice.pick(&FUNCTIONS), dice.pick(&NAMES)],
+        _ => vec![dice.pick(&FUNCTIONS), dice.pick(&NAMES), dice.pick(&NAMES)],
+    };
+    words.join(" ").into_bytes()
+}
+
+/// A sound table with a bit of everything, a full directory among it; sometimes damaged, or of any bytes.
+fn table(dice: &mut Dice, sound: &[u8]) -> Vec<u8> {
+    let mut table = sound.to_vec();
+    match dice.below(30) {
+        0 => {
+            let length = dice.below(200);
+            return dice.bytes(length);
+        }
+        1 => {
+            let length = dice.below(8) * 32;
+            return dice.bytes(length);
+        }
+        2 => {
+            let at = dice.below(table.len());
+            table[at] = dice.throw() as u8;
+        }
+        3 => table.truncate(dice.below(sound.len())),
+        4..=7 => table.truncate(sound.len() - 32 * dice.below(12)),
+        8 => {
+            let at = table.len() - 32 * (1 + dice.below(4));
+            let debris = if dice.once_in(2) {
+                simple(30)
+            } else {
+                text(900, 0, b"T")
+            };
+            table[at..at + 32].copy_from_slice(&debris);
+        }
+        _ => {}
+    }
+    table
+}
+
+/// The sound table to begin with.
+fn filled() -> Vec<u8> {
+    let lines = [
+        "CRD .R",
+        "CRD .W",
+        "CRD .FULL",
+        "WRS M .R:A",
+        "CRD .R:D",
+        "WRS L .R:D:F",
+        "DUP .R .R:LOOP",
+        "DUP .R:A .R:B .6",
+        "CRD A .1",
+        "WRS M.2 X",
+    ];
+    let mut bench = Bench::grown(160, &lines);
+    for at in 0..112 {
+        bench.grant(&format!("DUP .R:A .FULL:{at}"), b"");
+    }
+    bench.grant("DPR .R:D .4", b"");
+    bench.table
+}
+
+/// What holds of every answer.
+fn fits(answer: Answer, stop: u32, line: &[u8], before: &[u8], after: &[u8]) {
+    let shown = String::from_utf8_lossy(line).into_owned();
+    let number = answer.number;
+    assert!(number <= 22, "{shown}");
+    let placeless = matches!(number, 0..=6 | 10 | 19 | 20 | 22);
+    assert_eq!(answer.place == 0, placeless, "{shown}: {answer:?}");
+    assert!(answer.place <= 8 && answer.names <= 8 && answer.displaced <= 1);
+    assert!(answer.stores <= stop);
+    if number != 0 {
+        assert_eq!((answer.displaced, answer.bytes), (0, 0), "{shown}");
+    }
+    if number == 22 {
+        assert_eq!(answer.stores, stop, "{shown}");
+    }
+    let is_del = shown.trim_start().starts_with("DEL");
+    let changes = number == 0 || number == 22 || is_del;
+    if !changes {
+        assert_eq!((answer.names, answer.stores), (0, 0), "{shown}");
+    }
+    if answer.stores == 0 {
+        assert!(before == after, "{shown}: table changed");
+    }
+}
+
+#[test]
+fn any_input_has_one_answer() {
+    let seed = 7;
+    println!("seed {seed}");
+    let mut dice = Dice(seed);
+    let sound = filled();
+    let mut met = [0; 23];
+    for _ in 0..40_000 {
+        let before = table(&mut dice, &sound);
+        let line = line(&mut dice);
+        let length = *dice.pick(&[&0, &1, &24, &50, &24_000, &24_001]);
+        let text = vec![b'T'; length];
+        let stop = *dice.pick(&[&0, &1, &3, &65_535, &u32::MAX, &65_535]);
+        let user = *dice.pick(&[&1, &1, &1, &1, &1, &1, &2, &999_999, &1_000_000, &u32::MAX]);
+        let room = *dice.pick(&[&0, &10, &24_000]);
+        let mut reply = vec![UNTOUCHED; room];
+        let mut after = before.clone();
+        let answer = beside::request(&mut after, &line, &text, &mut reply, user, stop);
+        fits(answer, stop, &line, &before, &after);
+        let rest = &reply[answer.bytes as usize..];
+        assert!(rest.iter().all(|byte| *byte == UNTOUCHED));
+        met[answer.number as usize] += 1;
+    }
+    println!("answers by number: {met:?}");
+    assert!(met.iter().all(|answers| *answers > 0), "{met:?}");
+}
+
+#[test]
+fn any_table_is_mended_or_not() {
+    let seed = 8;
+    println!("seed {seed}");
+    let mut dice = Dice(seed);
+    let sound = filled();
+    let mut met = [0; 23];
+    for _ in 0..5_000 {
+        let before = table(&mut dice, &sound);
+        let stop = *dice.pick(&[&0, &1, &2, &u32::MAX]);
+        let mut after = before.clone();
+        let answer = beside::mend(&mut after, stop);
+        fits(answer, stop, b"", &before, &after[..]);
+        assert_eq!((answer.place, answer.names), (0, 0));
+        met[answer.number as usize] += 1;
+    }
+    println!("answers by number: {met:?}");
+    for (number, answers) in met.iter().enumerate() {
+        assert_eq!(*answers > 0, matches!(number, 0 | 1 | 2 | 22), "{met:?}");
+    }
+}

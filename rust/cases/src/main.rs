@@ -1,0 +1,153 @@
+//! Writes random cases, worked out by the second program, as an antt module over the definitions of `crates/paper`:
+//! `cases SEED TABLES CASES [wrong]`. The checker accepts it only where the definitions give every answer, every byte of
+//! the table and of the reply alike. With `wrong`, one number of one expected answer is off by one: it must be refused.
+
+mod lines;
+mod random;
+
+use random::Random;
+use std::fmt::Write;
+
+const HEAD: &str = "-- Random cases: the second program's outcomes, held against the definitions.
+use mathlib.Core.Bool.{true}
+use mathlib.Core.List.{List, [], _∷_}
+use mathlib.Core.Path.{_≡_, refl}
+use Prim.Native.Nat.{ℕ}
+use Rattle.paper.specs.Case.{Case, asks, mends, answer, holdAll}
+use Rattle.paper.proofs.Cases.{hold}
+";
+
+fn list(bytes: &[u8]) -> String {
+    let mut shown = String::from("(");
+    for byte in bytes {
+        write!(shown, "{byte} ∷ ").expect("a string takes all");
+    }
+    shown + "[])"
+}
+
+fn six(a: beside::Answer, off: u32) -> String {
+    let stores = a.stores + off;
+    format!(
+        "(answer {} {} {} {} {} {stores})",
+        a.number, a.place, a.names, a.displaced, a.bytes
+    )
+}
+
+/// The cases of one table: it grows by the requests, is damaged and mended on the way, and is cut by small stop numbers.
+struct Story {
+    table: Vec<u8>,
+    cases: Vec<String>,
+    met: [u32; 23],
+    off: u32,
+}
+
+impl Story {
+    fn mend(&mut self, table: &[u8], stop: u32) {
+        let mut after = table.to_vec();
+        let answer = beside::mend(&mut after, stop);
+        self.cases.push(format!(
+            "mends {} {stop} {} {}",
+            list(table),
+            six(answer, 0),
+            list(&after)
+        ));
+    }
+
+    fn request(&mut self, random: &mut Random) {
+        let line = lines::line(random);
+        let length = random.pick(&[0, 1, 5, 24, 25, 30, 48]);
+        let text: Vec<u8> = (0..length).map(|_| random.below(256) as u8).collect();
+        let reply = vec![7; random.pick(&[0, 10, 40, 60, 80])];
+        let user = random.pick(&[1, 1, 1, 1, 1, 1, 1, 2, 0, 1_000_000]);
+        let stop = if random.once_in(3) {
+            random.below(6) as u32
+        } else {
+            65_535
+        };
+        let mut before = self.table.clone();
+        let damaged = random.once_in(8) && !before.is_empty();
+        if damaged {
+            let at = random.below(before.len());
+            before[at] = random.pick(&[0, 1, 2, 3, 255, 46, 65]);
+        }
+        let (mut after, mut replied) = (before.clone(), reply.clone());
+        let answer = beside::request(&mut after, &line, &text, &mut replied, user, stop);
+        let frequent = matches!(answer.number, 2 | 3 | 7 | 8 | 9 | 11);
+        if !frequent || random.once_in(6) {
+            self.met[answer.number as usize] += 1;
+            self.cases.push(format!(
+                "asks {} {} {} {} {user} {stop} {} {} {}",
+                list(&before),
+                list(&line),
+                list(&text),
+                list(&reply),
+                six(answer, self.off),
+                list(&after),
+                list(&replied)
+            ));
+            self.off = 0;
+        }
+        if damaged || answer.number == 22 {
+            self.mend(&after, random.pick(&[0, 1, 2, 3, 99]));
+        }
+        if !damaged {
+            beside::mend(&mut after, 65_535);
+            self.table = after;
+        }
+    }
+}
+
+fn main() {
+    let words: Vec<String> = std::env::args().skip(1).collect();
+    let number = |k: usize| {
+        words
+            .get(k)
+            .and_then(|w| w.parse::<u64>().ok())
+            .expect("cases SEED TABLES CASES [wrong]")
+    };
+    let mut random = Random::new(number(0));
+    let mut met = [0; 23];
+    println!("{HEAD}");
+    for table in 0..number(1) {
+        let rooms = if random.once_in(8) {
+            random.below(3)
+        } else {
+            4 + random.below(9)
+        };
+        let off = u32::from(table == 0 && words.len() > 3);
+        let mut story = Story {
+            table: vec![0; rooms * 32],
+            cases: Vec::new(),
+            met,
+            off,
+        };
+        for line in ["CRD .R", "CRD .W", "WRS M .R:A", "DUP .R .R:B"]
+            .iter()
+            .take(random.below(5))
+        {
+            beside::request(
+                &mut story.table,
+                line.as_bytes(),
+                b"sheet",
+                &mut [],
+                1,
+                65_535,
+            );
+        }
+        while story.cases.len() < number(2) as usize {
+            story.request(&mut random);
+        }
+        met = story.met;
+        println!(
+            "story{table} : List Case\nstory{table} =\n    {}\n    ∷ []\n",
+            story.cases.join("\n    ∷ ")
+        );
+        println!("told{table} : holdAll story{table} ≡ true\nunfolding hold story{table}\ntold{table} = refl\n");
+    }
+    let shown: Vec<String> = met
+        .iter()
+        .enumerate()
+        .map(|(n, m)| format!("{n}:{m}"))
+        .collect();
+    eprintln!("seed {}: reply numbers met: {}", number(0), shown.join(" "));
+}
