@@ -1,0 +1,251 @@
+-- Demand 1 over the definitions, for every input: a request is refused before it is tried, tried by one plan, or a DEL name by name.
+-- Each way fixes the answer's numbers; what a refusal or a cut leaves of the table and the reply stands in the answer's definition.
+use mathlib.Core.Bool.{Bool, true, false, cond, true≢false}
+use mathlib.Core.List.{List}
+use mathlib.Core.Logic.{_≢_}
+use mathlib.Core.Path.{_≡_, refl, _∙_, subst}
+use Prim.Native.Nat.{ℕ, _+_, _-_, _≤_, _<_}
+use native.Mathlib.Omega.{arith}
+use native.Mathlib.Nat.{zero-add}
+use lib.ListN.{length, take, drop, length-append, length-drop}
+use lib.Seq.{drop-append-seam}
+use lib.Dec.{eqb}
+use borrow.Author.Tests.{ne-eqb}
+use Rattle.paper.specs.Line.{Word}
+use Rattle.paper.specs.Check.{Refusal, Verdict, passed, refused}
+use Rattle.paper.specs.Request.{Request, crd, wrs, rds, cpy, dup, chn, del, dpr, lst, lstBase, Read, request, unread, asked}
+use Rattle.paper.specs.Store.{Store, run}
+use Rattle.paper.specs.Effect.{Plan, Planned, plan, crdPlan, wrsPlan, rdsPlan, cpyPlan, dupPlan, chnPlan, delPlan, dprPlan, lstPlan, lstBasePlan}
+use Rattle.paper.specs.Answer.{Outcome, plain, refusing, done, stores, ran, single, deleting, granted, entrance, requested}
+use Rattle.laws.proofs.Runs.{length-run}
+use Rattle.demands.proofs.Fair.{placeless, Fair, verdict-idle, verdict-fair, fair-line}
+use Rattle.demands.proofs.Read.{Right, read-right}
+use Rattle.demands.proofs.Numbered.{FairPlan, FairPlanned, fair-crdPlan, fair-wrsPlan, fair-rdsPlan, fair-cpyPlan, fair-dupPlan, fair-chnPlan, fair-delPlan, fair-dprPlan, fair-lstPlan, fair-lstBasePlan}
+use Rattle.demands.proofs.Deleted.{Passed, ran-by, passes, ran-fair, Deleted, whole, halts, stops, front-none, deleted, Leaves, DelStopped, deleted-leaves, deleted-stops}
+
+-- what every outcome keeps: the table and the reply that were lent, and the answer's numbers
+pub record Answered (t reply : List ℕ) (k : ℕ) (o : Outcome) : Type 0 where
+  pub number : o .answer .number ≤ 22
+  pub place : eqb (o .answer .place) 0 ≡ placeless (o .answer .number)
+  pub displaced : o .answer .number ≢ 0 → o .answer .displaced ≡ 0
+  pub bytes : o .answer .number ≢ 0 → o .answer .bytes ≡ 0
+  pub stores : o .answer .stores ≤ k
+  pub lent : o .answer .number ≢ 0 → o .reply ≡ reply
+  -- "The rest of the buffer is unchanged."
+  pub rest : drop (o .answer .bytes) (o .reply) ≡ drop (o .answer .bytes) reply
+  pub size : length (o .reply) ≡ length reply
+  pub table : length (o .table) ≡ length t
+
+answered-plain : (t t₁ reply : List ℕ) (k number place names stores : ℕ) → number ≤ 22 → eqb place 0 ≡ placeless number → stores ≤ k
+    → length t₁ ≡ length t → Answered t reply k (record { answer = plain number place names stores; table = t₁; reply = reply })
+answered-plain t t₁ reply k number place names stores l e m f =
+    record {
+      number = l;
+      place = e;
+      displaced = λ _. refl;
+      bytes = λ _. refl;
+      stores = m;
+      lent = λ _. refl;
+      rest = refl;
+      size = refl;
+      table = f;
+    }
+
+answered-refusing : (t reply : List ℕ) (k : ℕ) (f : Refusal) → Fair f → Answered t reply k (refusing t reply f)
+answered-refusing t reply k f h = answered-plain t t reply k (f .number) (f .place) 0 0 (omega (arith, h .most)) (h .place) (omega arith) refl
+
+-- every function but DEL: a refusal is fair; what is done writes no more than fits; a cut is 22
+answered-single : (t reply : List ℕ) (k : ℕ) (P : Planned) → FairPlanned reply P → Answered t reply k (single t reply k (ran k P))
+answered-single t reply k P h =
+    ran-by (λ x. Answered t reply k (single t reply k x)) k P
+    (λ f e. answered-refusing t reply k f (subst (FairPlanned reply) e h))
+    (λ p f e v. answered-refusing t reply k f (verdict-fair (p .checks) f (subst (FairPlanned reply) e h .checks) v))
+    finishes
+    (λ p _ _. answered-plain t (run t (take k (p .stores))) reply k 22 0 0 k (omega arith) refl (omega arith) (length-run t (take k (p .stores))))
+  where
+    finishes : (p : Plan) → Passed P p → length (p .stores) ≤ k → Answered t reply k (single t reply k (done p))
+    finishes p v l =
+        let g : FairPlan reply p = subst (FairPlanned reply) (v .plan) h in
+        let fits = g .fits (verdict-idle (p .checks) (v .checks)) in
+        record {
+          number = omega arith;
+          place = refl;
+          displaced = λ n. absurd (n refl);
+          bytes = λ n. absurd (n refl);
+          stores = l;
+          lent = λ n. absurd (n refl);
+          rest = drop-append-seam (p .reply) (drop (length (p .reply)) reply);
+          size = simp (length-append, length-drop) (omega arith);
+          table = length-run t (p .stores);
+        }
+
+answered-deleted : (t : List ℕ) (u : ℕ) (reply : List ℕ) (k n made : ℕ) (ws : List Word) (o : Outcome) → Deleted t u reply k n made ws o
+    → Answered t reply (made + k) o
+answered-deleted t u reply k n made ws o (whole t₁ made₁ h q) =
+    rw q (answered-plain t t₁ reply (made + k) 0 0 (n + length ws) made₁ (omega arith) refl (h .room) (h .size))
+answered-deleted t u reply k n made ws o (halts m t₁ made₁ w rest f h d r q) =
+    let g = ran-fair reply (made + k - made₁) (delPlan t₁ u (n + m + 1) w) f (fair-delPlan t₁ reply u (n + m + 1) w (omega arith)) r in
+    rw q (answered-plain t t₁ reply (made + k) (f .number) (f .place) (n + m) made₁ (omega (arith, g .most)) (g .place) (h .room) (h .size))
+answered-deleted t u reply k n made ws o (stops m t₁ made₁ w rest p h d r q) =
+    rw q (answered-plain t _ reply (made + k) 22 0 (n + m) (made + k) (omega arith) refl (omega arith)
+    (length-run t₁ (take (made + k - made₁) (p .stores)) ∙ h .size))
+
+-- ---- every request
+
+abbrev pub isDel : Request → Bool
+isDel (crd w level code) = false
+isDel (wrs lifetime level code w) = false
+isDel (rds w) = false
+isDel (cpy old new lifetime level code) = false
+isDel (dup old new code) = false
+isDel (chn old link) = false
+isDel (del ws) = true
+isDel (dpr w code) = false
+isDel (lst w) = false
+isDel lstBase = false
+
+-- the three ways of a request, each the same for every stop number
+pub data Came (t line text reply : List ℕ) (u : ℕ) : Type 0 where
+  -- refused before it is tried
+  lent : (f : Refusal) → Fair f → ((k : ℕ) → requested t line text reply u k ≡ refusing t reply f) → Came t line text reply u
+  -- tried by one plan
+  planned : (r : Request) → asked line text ≡ request r → isDel r ≡ false → (p : Planned) → FairPlanned reply p
+      → ((k : ℕ) → requested t line text reply u k ≡ single t reply k (ran k p)) → Came t line text reply u
+  -- a DEL
+  deletes : (ws : List Word) → asked line text ≡ request (del ws) → ((k : ℕ) → requested t line text reply u k ≡ deleting t u reply k 0 0 ws)
+      → Came t line text reply u
+
+fair-entrance : (t : List ℕ) (u : ℕ) (f : Refusal) → entrance t u ≡ refused f → Fair f
+unfolding entrance
+fair-entrance t u f e = verdict-fair _ f (fair-line 1 0 refl, (fair-line 2 0 refl, (fair-line 3 0 refl, tt))) e
+
+pub came : (t line text reply : List ℕ) (u : ℕ) → Came t line text reply u
+unfolding requested granted
+came t line text reply u = enters (entrance t u) refl
+  where
+    grants : entrance t u ≡ passed → (r : Request) → asked line text ≡ request r → Came t line text reply u
+    grants p (crd w level code) q = planned (crd w level code) q refl (crdPlan t u w level code) (fair-crdPlan t reply u w level code) (λ k. rw (p, q))
+    grants p (wrs lifetime level code w) q =
+        planned (wrs lifetime level code w) q refl (wrsPlan t u text lifetime level code w) (fair-wrsPlan t reply u text lifetime level code w) (λ k. rw (p, q))
+    grants p (rds w) q = planned (rds w) q refl (rdsPlan t u reply w) (fair-rdsPlan t reply u w) (λ k. rw (p, q))
+    grants p (cpy old new lifetime level code) q =
+        planned (cpy old new lifetime level code) q refl (cpyPlan t u old new lifetime level code) (fair-cpyPlan t reply u old new lifetime level code) (λ k. rw (p, q))
+    grants p (dup old new code) q = planned (dup old new code) q refl (dupPlan t u old new code) (fair-dupPlan t reply u old new code) (λ k. rw (p, q))
+    grants p (chn old link) q = planned (chn old link) q refl (chnPlan t u old link) (fair-chnPlan t reply u old link) (λ k. rw (p, q))
+    grants p (del ws) q = deletes ws q (λ k. rw (p, q))
+    grants p (dpr w code) q = planned (dpr w code) q refl (dprPlan t u w code) (fair-dprPlan t reply u w code) (λ k. rw (p, q))
+    grants p (lst w) q = planned (lst w) q refl (lstPlan t u reply w) (fair-lstPlan t reply u w) (λ k. rw (p, q))
+    grants p lstBase q = planned lstBase q refl (lstBasePlan t u reply) (fair-lstBasePlan t reply u) (λ k. rw (p, q))
+
+    reads : entrance t u ≡ passed → (x : Read) → asked line text ≡ x → Right text x → Came t line text reply u
+    reads p (request r) q h = grants p r q
+    reads p (unread f) q h = lent f h (λ k. rw (p, q))
+
+    enters : (v : Verdict) → entrance t u ≡ v → Came t line text reply u
+    enters passed p = reads p (asked line text) refl (read-right line text)
+    enters (refused f) p = lent f (fair-entrance t u f p) (λ k. rw p)
+
+-- demand 1: for every table, line, text, reply buffer, user and stop number
+pub answered : (t line text reply : List ℕ) (u k : ℕ) → Answered t reply k (requested t line text reply u k)
+answered t line text reply u k = go (came t line text reply u)
+  where
+    go : Came t line text reply u → Answered t reply k (requested t line text reply u k)
+    go (lent f h e) = rw (e k) (answered-refusing t reply k f h)
+    go (planned r q d p h e) = rw (e k) (answered-single t reply k p h)
+    go (deletes ws q e) = rw (e k) (rw zero-add at (answered-deleted t u reply k 0 0 ws _ (deleted t u reply k 0 0 ws)))
+
+-- ---- what a refusal and a cut leave
+
+-- the request is no DEL
+abbrev pub NoDel : List ℕ → List ℕ → Type 0
+NoDel line text = (ws : List Word) → asked line text ≡ request (del ws) → ⊥
+
+-- the outcome, refused, left the table as lent and made no store
+abbrev pub Lends : List ℕ → Outcome → Type 0
+Lends t o = o .answer .number ≢ 0 → o .answer .number ≢ 22 → (o .table ≡ t) × (o .answer .stores ≡ 0)
+
+-- "All but DEL and 22 leave the table as lent"
+pub refusal-lends : (t line text reply : List ℕ) (u k : ℕ) → NoDel line text → Lends t (requested t line text reply u k)
+refusal-lends t line text reply u k d = go (came t line text reply u)
+  where
+    go : Came t line text reply u → Lends t (requested t line text reply u k)
+    go (lent f h e) = rw (e k) (λ _ _. (refl, refl))
+    go (planned r q x P h e) =
+        rw (e k)
+        (ran-by (λ y. Lends t (single t reply k y)) k P (λ f _ _ _. (refl, refl)) (λ p f _ _ _ _. (refl, refl))
+        (λ p _ _ n _. absurd (n refl)) (λ p _ _ _ n. absurd (n refl)))
+    go (deletes ws q e) = absurd (d ws q)
+
+-- "Names done counts names all of whose stores were made (0 or 1 but for DEL ..)"
+abbrev pub CountsOne : Outcome → Type 0
+CountsOne o = o .answer .names ≡ cond (eqb (o .answer .number) 0) 1 0
+
+counts-none : (t reply : List ℕ) (f : Refusal) → Fair f → CountsOne (refusing t reply f)
+counts-none t reply f h = rw (ne-eqb (f .number) 0 (λ (z : f .number ≡ 0). omega (arith, h .some)))
+
+pub names-done : (t line text reply : List ℕ) (u k : ℕ) → NoDel line text → CountsOne (requested t line text reply u k)
+names-done t line text reply u k d = go (came t line text reply u)
+  where
+    go : Came t line text reply u → CountsOne (requested t line text reply u k)
+    go (lent f h e) = rw (e k) (counts-none t reply f h)
+    go (planned r q x P h e) =
+        rw (e k)
+        (ran-by (λ y. ran k P ≡ y → CountsOne (single t reply k y)) k P (λ f _ c. counts-none t reply f (ran-fair reply k P f h c))
+        (λ p f _ _ c. counts-none t reply f (ran-fair reply k P f h c)) (λ p _ _ _. refl) (λ p _ _ _. refl) refl)
+    go (deletes ws q e) = absurd (d ws q)
+
+-- 22, of a request that is no DEL: the first k of its stores are made, and these are the stores that it makes with no stop in the way
+pub record Stopped (t line text reply : List ℕ) (u k : ℕ) : Type 0 where
+  pub stores : List Store
+  pub more : k < length stores
+  pub table : requested t line text reply u k .table ≡ run t (take k stores)
+  pub made : requested t line text reply u k .answer .stores ≡ k
+  pub uncut : (j : ℕ) → length stores ≤ j
+      → (requested t line text reply u j .answer .number ≡ 0) × (requested t line text reply u j .table ≡ run t stores)
+
+pub stop-cuts : (t line text reply : List ℕ) (u k : ℕ) → NoDel line text → requested t line text reply u k .answer .number ≡ 22 → Stopped t line text reply u k
+stop-cuts t line text reply u k d n = go (came t line text reply u)
+  where
+    go : Came t line text reply u → Stopped t line text reply u k
+    go (lent f h e) = let g : f .number ≡ 22 = rw (e k) at n in let z : ⊥ = omega (arith, h .most) in absurd z
+    go (deletes ws q e) = absurd (d ws q)
+    go (planned r q x P h e) =
+        ran-by (λ y. single t reply k y .answer .number ≡ 22 → ran k P ≡ y → Stopped t line text reply u k) k P
+        (λ f _ m c. let g = ran-fair reply k P f h c in let z : ⊥ = omega (arith, g .most, m) in absurd z)
+        (λ p f _ _ m c. let g = ran-fair reply k P f h c in let z : ⊥ = omega (arith, g .most, m) in absurd z)
+        (λ p _ _ m c. let z : ⊥ = omega arith in absurd z)
+        (λ p v l m c. record {
+          stores = p .stores;
+          more = l;
+          table = rw (e k, c);
+          made = rw (e k, c);
+          uncut = λ j b. (rw (e j, passes j P p v b), rw (e j, passes j P p v b));
+        })
+        (rw (e k) at n) refl
+
+-- a request that is a DEL is refused before it is tried, or goes name by name
+del-came : (X : Outcome → Type 0) (t line text reply : List ℕ) (u k : ℕ) (ws : List Word) → asked line text ≡ request (del ws)
+    → ((f : Refusal) → Fair f → X (refusing t reply f)) → X (deleting t u reply k 0 0 ws) → X (requested t line text reply u k)
+del-came X t line text reply u k ws q a b = go (came t line text reply u)
+  where
+    go : Came t line text reply u → X (requested t line text reply u k)
+    go (lent f h e) = rw (e k) (a f h)
+    go (planned r p x P h e) =
+        let c : r ≡ del ws = cc in
+        absurd (true≢false (rw c at x))
+    go (deletes vs p e) = let c : ws ≡ vs = cc in rw (e k, ← c) b
+
+-- a DEL leaves the table, and has made the stores, of the names that it did, but for 22; there it stopped in the next one
+pub del-leaves : (t line text reply : List ℕ) (u k : ℕ) (ws : List Word) → asked line text ≡ request (del ws)
+    → requested t line text reply u k .answer .number ≢ 22 → Leaves t u reply k ws (requested t line text reply u k)
+del-leaves t line text reply u k ws q =
+    del-came (λ o. o .answer .number ≢ 22 → Leaves t u reply k ws o) t line text reply u k ws q
+    (λ f h _. front-none t u reply k 0 0 ws .alone)
+    (λ n. deleted-leaves t u reply k ws _ n (deleted t u reply k 0 0 ws))
+
+pub del-stops : (t line text reply : List ℕ) (u k : ℕ) (ws : List Word) → asked line text ≡ request (del ws)
+    → requested t line text reply u k .answer .number ≡ 22 → DelStopped t u reply k ws (requested t line text reply u k)
+del-stops t line text reply u k ws q =
+    del-came (λ o. o .answer .number ≡ 22 → DelStopped t u reply k ws o) t line text reply u k ws q
+    (λ f h n. let z : ⊥ = omega (arith, h .most) in absurd z)
+    (λ n. deleted-stops t u reply k ws _ n (deleted t u reply k 0 0 ws))

@@ -1,0 +1,70 @@
+-- Checks in number order: a verdict passes only where no check holds, and refuses only with the refusal of one of them.
+-- A refusal is fair when its number is on the list and its place is 0 where the list says; each check's is tested by computing.
+use mathlib.Core.Bool.{Bool, true, false, _&&_, _||_, not, cond}
+use mathlib.Core.List.{List, [], _∷_}
+use mathlib.Core.Path.{_≡_, sym, refl, _∙_, subst}
+use Prim.Native.Nat.{ℕ, _≤_}
+use native.Mathlib.Omega.{arith}
+use lib.Dec.{eqb, leb}
+use borrow.Author.Tests.{leb-true, ne-eqb, not-true}
+use Rattle.laws.proofs.Tests.{and-left, and-right}
+use Rattle.paper.specs.Check.{Check, passed, refused, verdict, Refusal}
+use Rattle.laws.proofs.Lists.{Every}
+use Rattle.demands.proofs.Basics.{clash}
+
+-- a check that does not hold
+abbrev pub Idle : Check → Type 0
+Idle c = c .when ≡ false
+
+pub verdict-idle : (cs : List Check) → verdict cs ≡ passed → Every Idle cs
+unfolding verdict
+verdict-idle [] e = tt
+verdict-idle (c ∷ cs) e = go (c .when) refl e (λ f. verdict-idle cs f)
+  where
+    go : (b : Bool) → c .when ≡ b → cond b (refused (c .refusal)) (verdict cs) ≡ passed → (verdict cs ≡ passed → Every Idle cs)
+        → Every Idle (c ∷ cs)
+    go true f g r = clash (cc)
+    go false f g r = (f, r g)
+
+-- "place (argument from 1; 0 for numbers 0..6, 10, 19, 20, 22)"
+abbrev pub placeless : ℕ → Bool
+placeless n = leb n 6 || eqb n 10 || eqb n 19 || eqb n 20 || eqb n 22
+
+-- a refusal's number is one from 1 to 21, and its place is 0 exactly where the list says
+pub record Fair (f : Refusal) : Type 0 where
+  pub some : 1 ≤ f .number
+  pub most : f .number ≤ 21
+  pub place : eqb (f .place) 0 ≡ placeless (f .number)
+
+abbrev pub FairCheck : Check → Type 0
+FairCheck c = Fair (c .refusal)
+
+pub verdict-fair : (cs : List Check) (f : Refusal) → Every FairCheck cs → verdict cs ≡ refused f → Fair f
+unfolding verdict
+verdict-fair [] f h e = clash (cc)
+verdict-fair (c ∷ cs) f h e = go (c .when) e (verdict-fair cs f (h .1))
+  where
+    go : (b : Bool) → cond b (refused (c .refusal)) (verdict cs) ≡ refused f → (verdict cs ≡ refused f → Fair f) → Fair f
+    go true p r = let q : c .refusal ≡ f = cc in subst Fair q (h .0)
+    go false p r = r p
+
+-- the refusal of a whole line, and that of an argument: the number is tested by computing
+abbrev pub ofLine : ℕ → Bool
+ofLine n = leb 1 n && leb n 21 && placeless n
+
+abbrev pub ofArgument : ℕ → Bool
+ofArgument n = leb 1 n && leb n 21 && not (placeless n)
+
+pub fair-line : (n link : ℕ) → ofLine n ≡ true → Fair (record { number = n; place = 0; link = link })
+fair-line n link e =
+    let f = and-left (leb 1 n && leb n 21) _ e in
+    record { some = leb-true _ _ (and-left (leb 1 n) _ f); most = leb-true _ _ (and-right (leb 1 n) _ f); place = sym (and-right (leb 1 n && leb n 21) _ e) }
+
+pub fair-at : (n p link : ℕ) → ofArgument n ≡ true → 1 ≤ p → Fair (record { number = n; place = p; link = link })
+fair-at n p link e l =
+    let f = and-left (leb 1 n && leb n 21) _ e in
+    record {
+      some = leb-true _ _ (and-left (leb 1 n) _ f);
+      most = leb-true _ _ (and-right (leb 1 n) _ f);
+      place = ne-eqb p 0 (λ (z : p ≡ 0). omega arith) ∙ sym (not-true _ (and-right (leb 1 n && leb n 21) _ e));
+    }

@@ -1,0 +1,189 @@
+-- Every request's plan keeps soundness: an entry of a walked directory under a name that was read is as an entry should be, over the
+-- entry that it displaces or in a free record; a copy is no longer than its source's blocks, 24 bytes each.
+use mathlib.Core.Bool.{true, false}
+use mathlib.Core.List.{List, [], _∷_, _++_}
+use mathlib.Core.Logic.{inl, inr, _≢_, by-cases}
+use mathlib.Core.Path.{_≡_, refl, ap}
+use Prim.Native.Nat.{ℕ, zero, suc, _+_, _*_, _^_, _-_, _≤_, _<_}
+use native.Mathlib.Omega.{arith}
+use native.Mathlib.Decide.{ℕ-discrete}
+use lib.ListN.{length, length-append, length-take, length-drop}
+use borrow.Author.Tests.{leb-false}
+use Rattle.paper.specs.Scan.{at, nowhere, joinBelow}
+use Rattle.paper.specs.Record.{byte, headingType, level, lifetime, held, headingRecord, entryCode}
+use Rattle.paper.specs.Table.{rooms, rec, frees, room, textRoom}
+use Rattle.paper.specs.Name.{legalBase}
+use Rattle.paper.specs.Declaration.{Part, orElse}
+use Rattle.paper.specs.Line.{Word}
+use Rattle.paper.specs.Check.{Check}
+use Rattle.paper.specs.Block.{blocks, blocksOf, fileText}
+use Rattle.paper.specs.Code.{joined}
+use Rattle.paper.specs.Entry.{Holder, holder, full}
+use Rattle.paper.specs.Walk.{State, start, file, reached, toDirectory, lastName}
+use Rattle.paper.specs.Store.{puts, run}
+use Rattle.paper.specs.Effect.{Making, borne, losing, settled, chainOf, making, filing, readInhibited, notSimple, crdPlan, wrsPlan, cpyPlan, dupPlan, chnPlan}
+use Rattle.laws.proofs.Entries.{Stands}
+use Rattle.demands.proofs.Clauses.{Sound}
+use Rattle.demands.proofs.Formed.{Named, Last, named-last, named-some, Within, within-else}
+use Rattle.demands.proofs.Read.{CrdRead, WrsRead, CpyRead, DupRead, ChnRead}
+use Rattle.demands.proofs.Walked.{Ends, base, inside, heading-fields, entry-code, joined-code, walk-ends, ends-base, walk-reached}
+use Rattle.demands.proofs.Built.{NewHeading, NewEntry}
+use Rattle.demands.proofs.Settled.{Grown, grown-none, found-stands, instead-found}
+use Rattle.demands.proofs.Displaced.{displaced-sound, grown-file}
+use Rattle.demands.proofs.Kept.{Keeps, onward-keeps, end-keeps, making-keeps, chn-keeps}
+use Rattle.demands.proofs.Filed.{length-file}
+use Rattle.demands.proofs.Made.{Made, Entered, made-sound, made-over, displaced-same, new-file, filing-made, linking, linking-made}
+
+-- a text has at most 24 bytes a record
+held-few : (t : List ℕ) (i : ℕ) → length (held (rec t i)) ≤ 24
+unfolding held rec
+held-few t i = rw (length-take, length-drop, length-take) (omega arith)
+
+joined-few : (f : ℕ → List ℕ) (n : ℕ) → ((i : ℕ) → length (f i) ≤ 24) → length (joinBelow f n) ≤ n * 24
+unfolding joinBelow
+joined-few f zero h = omega arith
+joined-few f (suc n) h = rw length-append (omega (arith, joined-few f n h, h n))
+
+-- a declared number, or the one taken where it is not given
+at-most : (b d : ℕ) (p : Part) → Within 0 b p → d ≤ b → orElse p d ≤ b
+at-most b d p h l = within-else 0 b d p h (omega arith) l .1
+
+-- an entry stands in its holder
+stands-in : (r : List ℕ) (d : Holder) → byte r 0 ≡ 2 → holder r ≡ d → Stands d r
+stands-in r d k e = record { kind = k; heading = ap (λ (x : Holder). x .heading) e; user = ap (λ (x : Holder). x .user) e }
+
+-- a simple file's heading
+simple-heading : (lev code life n : ℕ) → lev ≤ 3 → code ≤ 7 → (1 ≤ life) × (life ≤ 2) → n ≤ 24000 → NewHeading 1 lev code life n
+simple-heading lev code life n l b f s =
+    record {
+      types = omega arith;
+      levels = l;
+      codes = b;
+      least = f .0;
+      most = f .1;
+      size = s;
+      plain = λ (z : _≡_ {A = ℕ} 1 0). let y : ⊥ = omega arith in absurd y;
+    }
+
+module _ (t : List ℕ) (c : Sound t) where
+  -- a new entry, given that it may be laid once there is room for the stores before it
+  made-keeps : (o : ℕ) (m : Making) → (length (m .first) ≤ length (frees t) → Made o t m × Grown t (run t (m .first)))
+      → (thirteen fifteen : List Check) → Keeps t (making t m thirteen fifteen)
+  made-keeps o m made = making-keeps t m over free
+    where
+      over : (e : ℕ) → borne t m ≡ at e → length (m .first) ≤ length (frees t) → losing t e (m .entry) ≡ false
+          → Sound (run t (m .first ++ puts e (m .entry) ∷ settled t e (m .entry)))
+      over e b l v =
+          let d = made l .0 in
+          let s : Stands (m .directory .holder) (m .entry) = stands-in (m .entry) (m .directory .holder) (d .fits .kind) (d .place) in
+          displaced-sound t (m .first) e (m .entry) c (made l .1) (found-stands t (m .directory .holder) (m .name) e b .1 .kind)
+          (instead-found t (m .directory .holder) (m .name) e (m .entry) b (d .fits .size) s) v
+          (rw (displaced-same o t m c d e b) (made-over o t m c d e b))
+
+      free : borne t m ≡ nowhere → full t (m .directory .holder) ≡ false → length (m .first) < length (frees t)
+          → Sound (run t (m .first ++ puts (room t (length (m .first))) (m .entry) ∷ []))
+      free b f l = made-sound o t m c (made (omega arith) .0) b (leb-false _ _ f) l
+
+  -- a new file, whose heading and entry are as they should be
+  filing-keeps : (place : ℕ) (w : Word) (d : State) (type lev code life : ℕ) (text : List ℕ) → NewHeading type lev code life (length text)
+      → Entered t (d .holder) code (lastName (chainOf w)) → (thirteen fifteen : List Check)
+      → Keeps t (making t (filing t place w d code (headingRecord type lev code life (length text)) text) thirteen fifteen)
+  filing-keeps place w d type lev code life text h x =
+      made-keeps (room t 0) (filing t place w d code head text) (λ l.
+      let roomy : blocks (length text) < length (frees t) = omega (arith, length-file t head text, l) in
+      let n = new-file t type lev code life text h roomy in
+      (filing-made t place w d code head text c n x, grown-file t head text (c .few) (n .size) (n .kind) roomy))
+    where
+      head : List ℕ
+      head = headingRecord type lev code life (length text)
+
+  -- where a walk ends, an entry may be laid under a name that was read
+  entered : (u : ℕ) (w : Word) (d : State) (code : ℕ) → u ≤ 999999 → Named w → code ≤ 7 → toDirectory t 1 (start u) (chainOf w) ≡ reached d
+      → Entered t (d .holder) code (lastName (chainOf w))
+  entered u w d code m n b q = go e
+    where
+      e : Ends t u (chainOf w) d
+      e = walk-ends 65535 t c 1 u (chainOf w) d q
+
+      last : Last w
+      last = named-last w n
+
+      legal : d .holder .heading ≡ 65535 → legalBase (lastName (chainOf w)) ≡ true
+      legal z = last .base (omega (arith, ends-base 65535 t c u (chainOf w) d e z, named-some w n))
+
+      entry : d .holder .heading < 256 ^ 2 → d .holder .user ≤ 999999 → (d .holder .heading ≢ 65535 → d .holder .user ≡ 0)
+          → NewEntry code (d .holder .heading) (d .holder .user) (lastName (chainOf w))
+      entry l v o = record { codes = b; holders = l; users = v; other = o; legal = last .link; base = legal }
+
+      go : Ends t u (chainOf w) d → Entered t (d .holder) code (lastName (chainOf w))
+      go (base l z) =
+          let h : d .holder .heading ≡ 65535 = rw z in
+          let v : d .holder .user ≡ u = rw z in
+          record { fields = entry (omega arith) (omega arith) (λ y. absurd (y h)); there = inl h }
+      go (inside l i) =
+          let h : d .holder .heading ≡ i .heading = ap (λ (x : Holder). x .heading) (i .holder) in
+          let v : d .holder .user ≡ 0 = ap (λ (x : Holder). x .user) (i .holder) in
+          record { fields = entry (omega (arith, i .within, c .few)) (omega arith) (λ _. v); there = inr (rw h (i .directory)) }
+
+  -- a copy has at most 24 bytes a block of its source
+  copy-few : (h : ℕ) → h < rooms t → byte (rec t h) 0 ≡ 1 → length (fileText t h) ≤ 24000
+  unfolding fileText
+  copy-few h l k =
+      let o = c .own h l .heading k in
+      let few : length (fileText t h) ≤ blocksOf t h * 24 = joined-few _ (blocksOf t h) (λ p. held-few t (textRoom t h p)) in
+      by-cases (ℕ-discrete (headingType (rec t h)) 0)
+      (λ (z : headingType (rec t h) ≡ 0). omega (arith, few, o .directory z .1))
+      (λ (z : headingType (rec t h) ≢ 0). omega (arith, few, o .simple (omega (arith, heading-fields (rec t h) o .type))))
+
+  -- ---- each function
+
+  pub crd-keeps : (u : ℕ) (name : Word) (lev code : Part) → u ≤ 999999 → CrdRead name lev code → Keeps t (crdPlan t u name lev code)
+  unfolding crdPlan
+  crd-keeps u name lev code m h =
+      let l : orElse lev 0 ≤ 3 = at-most 3 0 lev (h .level) (omega arith) in
+      let b : orElse code 0 ≤ 7 = at-most 7 0 code (h .code) (omega arith) in
+      let n : NewHeading 0 (orElse lev 0) (orElse code 0) 1 0 =
+      record { types = omega arith; levels = l; codes = b; least = omega arith; most = omega arith; size = omega arith; plain = λ _. (refl, refl) } in
+      onward-keeps t 1 (toDirectory t 1 (start u) (chainOf name)) _ (λ d q.
+      filing-keeps 1 name d 0 (orElse lev 0) (orElse code 0) 1 [] n (entered u name d (orElse code 0) m (h .name) b q) [] [])
+
+  pub wrs-keeps : (u : ℕ) (text : List ℕ) (life : ℕ) (lev code : Part) (name : Word) → u ≤ 999999 → WrsRead text life lev code name
+      → Keeps t (wrsPlan t u text life lev code name)
+  unfolding wrsPlan
+  wrs-keeps u text life lev code name m h =
+      let l : orElse lev 0 ≤ 3 = at-most 3 0 lev (h .level) (omega arith) in
+      let b : orElse code 0 ≤ 7 = at-most 7 0 code (h .code) (omega arith) in
+      onward-keeps t 2 (toDirectory t 1 (start u) (chainOf name)) _ (λ d q.
+      filing-keeps 2 name d 1 (orElse lev 0) (orElse code 0) life text (simple-heading _ _ life (length text) l b (h .lifetime) (h .text))
+      (entered u name d (orElse code 0) m (h .name) b q) [] [])
+
+  pub cpy-keeps : (u : ℕ) (old new : Word) (life lev code : Part) → u ≤ 999999 → CpyRead old new life lev code
+      → Keeps t (cpyPlan t u old new life lev code)
+  unfolding cpyPlan
+  cpy-keeps u old new life lev code m h =
+      end-keeps t u 1 old _ (λ e f _ r. onward-keeps t 2 (toDirectory t 1 (start u) (chainOf new)) _ (λ d q.
+      let source : List ℕ = rec t (file t f) in
+      let s = walk-reached 65535 t c e (chainOf old) f r in
+      let l : orElse lev (level source) ≤ 3 = at-most 3 (level source) lev (h .level) (s .fields .level) in
+      let b : orElse code 0 ≤ 7 = at-most 7 0 code (h .code) (omega arith) in
+      let n = within-else 1 2 (lifetime source) life (h .lifetime) (s .fields .lifetime .0) (s .fields .lifetime .1) in
+      filing-keeps 2 new d 1 (orElse lev (level source)) (orElse code 0) (orElse life (lifetime source)) (fileText t (file t f))
+      (simple-heading _ _ _ _ l b n (copy-few (file t f) (s .within) (s .heading)))
+      (entered u new d (orElse code 0) m (h .new) b q) (readInhibited 1 f ∷ []) (notSimple 1 t f ∷ [])))
+
+  pub dup-keeps : (u : ℕ) (old new : Word) (code : Part) → u ≤ 999999 → DupRead old new code → Keeps t (dupPlan t u old new code)
+  unfolding dupPlan run
+  dup-keeps u old new code m h =
+      end-keeps t u 1 old _ (λ e f _ r. onward-keeps t 2 (toDirectory t 1 (start u) (chainOf new)) _ (λ d q.
+      let s = walk-reached 65535 t c e (chainOf old) f r in
+      let b : orElse code 0 ≤ 7 = at-most 7 0 code (h .code) (omega arith) in
+      let j : ℕ = joined (entryCode (rec t (f .entry))) (orElse code 0) in
+      let x = entered u new d j m (h .new) (joined-code _ _ (entry-code (rec t (f .entry)) (s .own)) b) q in
+      made-keeps 65535 (linking 2 d j (file t f) (lastName (chainOf new)))
+      (λ _. (linking-made t 2 d j (file t f) (lastName (chainOf new)) c (s .heading) x, grown-none t)) [] []))
+
+  pub chn-kept : (u : ℕ) (old link : Word) → ChnRead old link → Keeps t (chnPlan t u old link)
+  chn-kept u old link h =
+      chn-keeps t u old link c (h .link) (λ d q z.
+      let one = ends-base 65535 t c u (chainOf old) d (walk-ends 65535 t c 1 u (chainOf old) d q) z in
+      h .base (omega (arith, one, named-some old (h .old))))

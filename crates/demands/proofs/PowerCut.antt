@@ -1,0 +1,64 @@
+-- Demand 3: a request cut after any number of stores and then mended is the table before or the table after, for DEL after some first
+-- part of its names. What is refused changes nothing; what is granted is one plan of the right shape, or DEL, name by name.
+use mathlib.Core.Bool.{true}
+use mathlib.Core.List.{List}
+use mathlib.Core.Logic.{_⊎_, inl, inr}
+use mathlib.Core.Path.{_≡_}
+use Prim.Native.Nat.{ℕ, _≤_}
+use lib.ListN.{length, take}
+use Rattle.paper.specs.Table.{sized}
+use Rattle.paper.specs.Line.{Word}
+use Rattle.paper.specs.Request.{del, request, asked}
+use Rattle.paper.specs.Sound.{sound}
+use Rattle.paper.specs.Mend.{mendStores, mended}
+use Rattle.paper.specs.Effect.{Planned}
+use Rattle.paper.specs.Answer.{ran, single, granted, requested, mending}
+use Rattle.demands.proofs.Clauses.{Sound, sound-clauses, clauses-sound}
+use Rattle.demands.proofs.Mending.{mendedWhole, mend-whole}
+use Rattle.demands.proofs.Ended.{mended-sound, Done, single-cut}
+use Rattle.demands.proofs.DelCut.{del-cut}
+use Rattle.demands.proofs.Course.{Course, untried, by-plan, by-names, course}
+
+-- where a cut request is once it is mended: the table before; the table after; for DEL, the table after some first part of its names
+pub data Lands (t line text reply : List ℕ) (u : ℕ) (x : List ℕ) : Type 0 where
+  before : x ≡ t → Lands t line text reply u x
+  after : Done (requested t line text reply u) x → Lands t line text reply u x
+  first : (names : List Word) (n : ℕ) → asked line text ≡ request (del names) → n ≤ length names
+      → Done (λ k. granted t text reply u k (del (take n names))) x → Lands t line text reply u x
+
+-- a cut at k, mended, is sound and lands
+record Landed (t line text reply : List ℕ) (u k : ℕ) : Type 0 where
+  sound : Sound (mended (requested t line text reply u k .table))
+  lands : Lands t line text reply u (mended (requested t line text reply u k .table))
+
+-- the stop number that cuts the request, and mending after it
+pub record Harmless (t line text reply : List ℕ) (u k : ℕ) : Type 0 where
+  pub lands : Lands t line text reply u (mended (requested t line text reply u k .table))
+  pub answers : (j : ℕ) → length (mendStores (requested t line text reply u k .table)) ≤ j
+      → mending (requested t line text reply u k .table) j ≡ mendedWhole (requested t line text reply u k .table)
+
+landed : (t line text reply : List ℕ) (u k : ℕ) → Sound t → Landed t line text reply u k
+landed t line text reply u k c = go (course t line text reply u)
+  where
+    alone : (x : Planned) {y : List ℕ} → ((k : ℕ) → requested t line text reply u k ≡ single t reply k (ran k x))
+        → (y ≡ t) ⊎ Done (λ k. single t reply k (ran k x)) y → Lands t line text reply u y
+    alone x q (inl z) = before z
+    alone x q (inr d) = after (record { stop = d .stop; number = rw (q (d .stop)) (d .number); table = rw (q (d .stop)) (d .table) })
+
+    go : Course t line text reply u → Landed t line text reply u k
+    go (untried f q) =
+        let z : mended (requested t line text reply u k .table) ≡ t = rw (q k) (mended-sound t c) in
+        record { sound = rw z c; lands = before z }
+    go (by-plan x safe keeps q) =
+        let s = single-cut t reply c x safe keeps k in
+        record { sound = rw (q k) (s .0); lands = rw (q k) (alone x q (s .1)) }
+    go (by-names names a q) =
+        let d = del-cut u reply names t c k 0 0 in
+        record { sound = rw (q k) (d .sound); lands = rw (q k) (first names (d .names) a (d .most) (unfold granted in d .done)) }
+
+-- the demand: every sound table, line, text, reply, user and stop number
+pub demand-three : (t line text reply : List ℕ) (u k : ℕ) → sized t ≡ true → sound t ≡ true → Harmless t line text reply u k
+demand-three t line text reply u k s e =
+    let d = landed t line text reply u k (sound-clauses t s e) in
+    let f = clauses-sound (mended (requested t line text reply u k .table)) (d .sound) in
+    record { lands = d .lands; answers = λ j. mend-whole (requested t line text reply u k .table) j (f .0) (f .1) }

@@ -1,0 +1,308 @@
+-- What reading gives: a request as its function needs it, or a fair refusal. A reader is a few checks in number order, so a request
+-- comes out only where none of them held, and each fact of it is the opposite of a check.
+use mathlib.Core.Bool.{Bool, true, false, _&&_, not, true≢false}
+use mathlib.Core.List.{List, [], _∷_, _++_, append-nil}
+use mathlib.Core.Path.{_≡_, sym, refl, subst}
+use Prim.Native.Nat.{ℕ, _+_, _-_, _≤_, _<_}
+use native.Mathlib.Omega.{arith}
+use lib.ListN.{length, getD, take, drop, length-take, length-drop}
+use lib.Dec.{eqb, leb, ltb}
+use borrow.Author.Tests.{ltb-true, leb-true, eq-eqb, ltb-false, not-false}
+use Rattle.paper.specs.Name.{linkName, chain, wellFormed, legalBase, baseName, lonePoint}
+use Rattle.paper.specs.Declaration.{Part, isGiven, Parts, fits, fitWrs, fitCpy}
+use Rattle.paper.specs.Line.{Word, words, word, legalLine}
+use Rattle.paper.specs.Request.{declaredAt, partsAt, Request, crd, wrs, rds, cpy, dup, chn, del, dpr, lst, lstBase, Read, request, unread, readAs, counted, miscounted, malformed, illegal, unfit, each, between, misnamed, readCrd, readWrs, readRds, readLst, readCpy, readDup, linkAlone, readChn, readDpr, readDel, isFunction, readFunction, read, textTooLong, withText, asked}
+use Rattle.paper.specs.Walk.{lastName, start}
+use Rattle.laws.proofs.Tests.{and-left, and-right, and-parts}
+use lib.Seq.{take-all, getD-take, getD-drop}
+use Rattle.paper.specs.Check.{Check, check, Verdict, passed, refused, verdict}
+use Rattle.laws.proofs.Lists.{Every, every-at, every-append}
+use Rattle.paper.specs.Scan.{at}
+use Rattle.demands.proofs.Basics.{either, every-parts, every-both}
+use Rattle.demands.proofs.Formed.{Named, Within, within-else, lettered-at, fits-parts, medium-long, may-medium-long}
+use Rattle.demands.proofs.Fair.{Idle, verdict-idle, Fair, FairCheck, verdict-fair, fair-line, fair-at}
+
+-- ---- what each function is told
+
+pub record CrdRead (w : Word) (l c : Part) : Type 0 where
+  pub name : Named w
+  pub level : Within 0 3 l
+  pub code : Within 0 7 c
+
+pub record WrsRead (s : List ℕ) (n : ℕ) (l c : Part) (w : Word) : Type 0 where
+  pub lifetime : (1 ≤ n) × (n ≤ 2)
+  pub level : Within 0 3 l
+  pub code : Within 0 7 c
+  pub name : Named w
+  pub text : length s ≤ 24000
+
+pub record CpyRead (v w : Word) (n l c : Part) : Type 0 where
+  pub old : Named v
+  pub new : Named w
+  pub lifetime : Within 1 2 n
+  pub level : Within 0 3 l
+  pub code : Within 0 7 c
+
+pub record DupRead (v w : Word) (c : Part) : Type 0 where
+  pub old : Named v
+  pub new : Named w
+  pub code : Within 0 7 c
+
+pub record ChnRead (v w : Word) : Type 0 where
+  pub old : Named v
+  pub link : linkName (lastName (w .names)) ≡ true
+  pub base : length (chain (v .names)) ≡ 1 → legalBase (lastName (w .names)) ≡ true
+
+pub record DelRead (ws : List Word) : Type 0 where
+  pub names : Every Named ws
+  pub some : 1 ≤ length ws
+  pub few : length ws ≤ 8
+
+pub record DprRead (w : Word) (c : ℕ) : Type 0 where
+  pub name : Named w
+  pub code : c ≤ 7
+
+abbrev pub Told : List ℕ → Request → Type 0
+Told text (crd name level code) = CrdRead name level code
+Told text (wrs lifetime level code name) = WrsRead text lifetime level code name
+Told text (rds name) = Named name
+Told text (cpy old new lifetime level code) = CpyRead old new lifetime level code
+Told text (dup old new code) = DupRead old new code
+Told text (chn old link) = ChnRead old link
+Told text (del names) = DelRead names
+Told text (dpr name code) = DprRead name code
+Told text (lst name) = Named name
+Told text lstBase = Unit {0}
+
+-- ---- what the checks give
+
+-- 6: so many arguments
+counted-by : (least most : ℕ) (line : List ℕ) → Idle (miscounted least most line)
+    → (least ≤ length (words line) - 1) × (length (words line) - 1 ≤ most)
+unfolding counted
+counted-by least most line e =
+    let f = not-false (counted least most line) e in
+    (leb-true _ _ (and-left (leb least (length (words line) - 1)) _ f), leb-true _ _ (and-right (leb least (length (words line) - 1)) _ f))
+
+-- 7 and 8: each word from a up to b is a name
+each-idle : (f : ℕ → Word → Check) (P : Word → Type 0) → ((p : ℕ) (w : Word) → Idle (f p w) → P w) → (p : ℕ) (ws : List Word)
+    → Every Idle (each f p ws) → Every P ws
+unfolding each
+each-idle f P h p [] e = tt
+each-idle f P h p (w ∷ ws) e = (h p w (e .0), each-idle f P h (p + 1) ws (e .1))
+
+named-by : (w : Word) → wellFormed (w .names) ≡ true → legalBase (baseName (w .names)) ≡ true → Named w
+named-by w e f = record { formed = e; legal = f }
+
+all-named : (a b : ℕ) (line : List ℕ) → Every Idle (misnamed a b line) → Every Named (between a b line)
+all-named a b line h =
+    let g = every-parts Idle (each malformed a (between a b line)) _ h in
+    every-both _ _ Named (between a b line) named-by
+    (each-idle malformed (λ w. wellFormed (w .names) ≡ true) (λ p w e. not-false _ e) a (between a b line) (g .0))
+    (each-idle illegal (λ w. legalBase (baseName (w .names)) ≡ true) (λ p w e. not-false _ e) a (between a b line) (g .1))
+
+-- word k is among those
+at-word : (a b k : ℕ) (line : List ℕ) → a ≤ k → k < b → k < length (words line) → Every Named (between a b line) → Named (word line k)
+unfolding between word
+at-word a b k line l m n h =
+    let d : Word = record { start = length line; names = [] ∷ [] } in
+    let i : a + (k - a) ≡ k = omega arith in
+    let j : k - a < b - a = omega arith in
+    let q : getD (take (b - a) (drop a (words line))) (k - a) d ≡ getD (words line) k d = rw (getD-take, getD-drop, i) in
+    subst Named q (every-at Named (between a b line) (k - a) d (simp (length-take, length-drop) (omega arith)) h)
+
+-- .. where the numbers are: tested by computing
+name-at : (least a b k : ℕ) (line : List ℕ) → (leb 1 k && leb k least && (leb a k && ltb k b)) ≡ true → least ≤ length (words line) - 1
+    → Every Named (between a b line) → Named (word line k)
+name-at least a b k line e n h =
+    let f = and-parts (leb 1 k && leb k least) _ e in
+    let g = and-parts (leb 1 k) _ (f .0) in
+    let i = and-parts (leb a k) _ (f .1) in
+    let o = leb-true 1 k (g .0) in
+    let p = leb-true k least (g .1) in
+    at-word a b k line (leb-true a k (i .0)) (ltb-true k b (i .1)) (omega arith) h
+
+-- 9: the declaration fits
+fit-at : (test : Parts → Bool) (line : List ℕ) (p k : ℕ) → Idle (unfit p (fits test (declaredAt line k))) → test (partsAt line k) ≡ true
+fit-at test line p k e = fits-parts test (declaredAt line k) (not-false _ e)
+
+-- the link of CHN is its first and its last name
+link-alone : (ns : List (List ℕ)) → linkAlone ns ≡ true → (linkName (lastName ns) ≡ true) × (getD ns 0 [] ≡ lastName ns)
+unfolding lastName
+link-alone [] e = absurd (true≢false (sym e))
+link-alone (n ∷ []) e = (and-left (linkName n) _ e, refl)
+link-alone (n ∷ m ∷ ns) e = absurd (true≢false (sym e))
+
+-- 8: "also CHN's link for a base file"
+based-by : (a b : Bool) → (a && not b) ≡ false → a ≡ true → b ≡ true
+based-by true b e f = not-false b e
+based-by false b e f = absurd (true≢false (sym f))
+
+-- ---- the readers
+
+-- a request that is told all it needs, once its text is not too long; or a fair refusal
+abbrev Heard : List ℕ → Read → Type 0
+Heard text (request r) = textTooLong r text ≡ false → Told text r
+Heard text (unread f) = Fair f
+
+heard-as : (text : List ℕ) (r : Request) (cs : List Check) → Every FairCheck cs → (Every Idle cs → Heard text (request r)) → Heard text (readAs r (verdict cs))
+heard-as text r cs f h = go (verdict cs) refl
+  where
+    go : (v : Verdict) → verdict cs ≡ v → Heard text (readAs r v)
+    go passed e = h (verdict-idle cs e)
+    go (refused x) e = verdict-fair cs x f e
+
+each-fair : (f : ℕ → Word → Check) → ((p : ℕ) (w : Word) → 1 ≤ p → FairCheck (f p w)) → (p : ℕ) (ws : List Word) → 1 ≤ p → Every FairCheck (each f p ws)
+unfolding each
+each-fair f h p [] l = tt
+each-fair f h p (w ∷ ws) l = (h p w l, each-fair f h (p + 1) ws (omega arith))
+
+fair-misnamed : (a b : ℕ) (line : List ℕ) → 1 ≤ a → Every FairCheck (misnamed a b line)
+fair-misnamed a b line l =
+    every-append FairCheck (each malformed a (between a b line)) _
+    (each-fair malformed (λ p w. fair-at 7 p _ refl) a _ l) (each-fair illegal (λ p w. fair-at 8 p 1 refl) a _ l)
+
+module _ (line text : List ℕ) where
+  -- the usual reader: the count, the names from word a up to b, and the checks after them
+  reader : (least most a b : ℕ) (cs : List Check) (r : Request) → 1 ≤ a → Every FairCheck cs
+      → (least ≤ length (words line) - 1 → length (words line) - 1 ≤ most → Every Named (between a b line) → Every Idle cs → Heard text (request r))
+      → Heard text (readAs r (verdict (miscounted least most line ∷ misnamed a b line ++ cs)))
+  reader least most a b cs r l f h =
+      heard-as text r _ (fair-line 6 0 refl, every-append FairCheck (misnamed a b line) cs (fair-misnamed a b line l) f)
+      (λ i.
+      let n = counted-by least most line (i .0) in
+      let g = every-parts Idle (misnamed a b line) cs (i .1) in
+      h (n .0) (n .1) (all-named a b line (g .0)) (g .1))
+
+  -- .. and nothing after them
+  reader-names : (least most a b : ℕ) (r : Request) → 1 ≤ a
+      → (least ≤ length (words line) - 1 → length (words line) - 1 ≤ most → Every Named (between a b line) → Heard text (request r))
+      → Heard text (readAs r (verdict (miscounted least most line ∷ misnamed a b line)))
+  reader-names least most a b r l h = rw append-nil at (reader least most a b [] r l tt (λ n m w _. h n m w))
+
+  heard-crd : Heard text (readCrd line)
+  unfolding readCrd
+  heard-crd =
+      reader 1 2 1 2 _ _ (omega arith) (fair-at 9 2 0 refl (omega arith), tt) (λ n m w g _.
+      record { name = name-at 1 1 2 1 line refl n w; level = lettered-at line 2 .level; code = lettered-at line 2 .code })
+
+  heard-wrs : Heard text (readWrs line)
+  unfolding readWrs
+  heard-wrs =
+      reader 2 2 2 3 _ _ (omega arith) (fair-at 9 1 0 refl (omega arith), tt) (λ n m w g short.
+      let p = partsAt line 1 in
+      record {
+        lifetime = medium-long (p .lifetime) (and-right (not (isGiven (p .type))) _ (fit-at fitWrs line 1 1 (g .0))) (lettered-at line 1 .lifetime);
+        level = lettered-at line 1 .level;
+        code = lettered-at line 1 .code;
+        name = name-at 2 2 3 2 line refl n w;
+        text = ltb-false _ _ short;
+      })
+
+  heard-rds : Heard text (readRds line)
+  unfolding readRds
+  heard-rds = reader-names 1 1 1 2 _ (omega arith) (λ n m w _. name-at 1 1 2 1 line refl n w)
+
+  heard-lst : Heard text (readLst line)
+  unfolding readLst
+  heard-lst =
+      either (Heard text) (lonePoint (word line 1 .names)) _ _ (heard-as text lstBase _ (fair-line 6 0 refl, tt) (λ _ _. tt))
+      (reader-names 1 1 1 2 _ (omega arith) (λ n m w _. name-at 1 1 2 1 line refl n w))
+
+  heard-cpy : Heard text (readCpy line)
+  unfolding readCpy
+  heard-cpy =
+      reader 2 3 1 3 _ _ (omega arith) (fair-at 9 3 0 refl (omega arith), tt) (λ n m w g _.
+      let p = partsAt line 3 in
+      record {
+        old = name-at 2 1 3 1 line refl n w;
+        new = name-at 2 1 3 2 line refl n w;
+        lifetime = may-medium-long (p .lifetime) (and-right (not (isGiven (p .type))) _ (fit-at fitCpy line 3 3 (g .0))) (lettered-at line 3 .lifetime);
+        level = lettered-at line 3 .level;
+        code = lettered-at line 3 .code;
+      })
+
+  heard-dup : Heard text (readDup line)
+  unfolding readDup
+  heard-dup =
+      reader 2 3 1 3 _ _ (omega arith) (fair-at 9 3 0 refl (omega arith), tt) (λ n m w g _.
+      record { old = name-at 2 1 3 1 line refl n w; new = name-at 2 1 3 2 line refl n w; code = lettered-at line 3 .code })
+
+  heard-chn : Heard text (readChn line)
+  unfolding readChn
+  heard-chn =
+      heard-as text _ _ (
+        fair-line 6 0 refl,
+        (
+          fair-at 7 1 _ refl (omega arith),
+          (fair-at 7 2 0 refl (omega arith), (fair-at 8 1 1 refl (omega arith), (fair-at 8 2 0 refl (omega arith), tt))),
+        ),
+      )
+      (λ h _.
+      let l = link-alone (word line 2 .names) (not-false _ (h .1 .1 .0)) in
+      record {
+        old = record { formed = not-false _ (h .1 .0); legal = not-false _ (h .1 .1 .1 .0) };
+        link = l .0;
+        base = λ one.
+            rw (← (l .1))
+            (based-by (eqb (length (chain (word line 1 .names))) 1) (legalBase (getD (word line 2 .names) 0 [])) (h .1 .1 .1 .1 .0) (eq-eqb _ _ one));
+      })
+
+  heard-del : Heard text (readDel line)
+  unfolding readDel between
+  heard-del =
+      reader-names 1 8 1 (length (words line)) _ (omega arith) (λ n m w _.
+      let l : length (drop 1 (words line)) ≡ length (words line) - 1 = length-drop 1 (words line) in
+      record {
+        names = subst (Every Named) (take-all (length (words line) - 1) (drop 1 (words line)) (omega arith)) w;
+        some = rw l n;
+        few = rw l m;
+      })
+
+  heard-dpr : Heard text (readDpr line)
+  unfolding readDpr
+  heard-dpr =
+      reader 2 2 1 2 _ _ (omega arith) (fair-at 9 2 0 refl (omega arith), tt) (λ n m w g _.
+      record {
+        name = name-at 2 1 2 1 line refl n w;
+        code = within-else 0 7 0 (partsAt line 2 .code) (lettered-at line 2 .code) (omega arith) (omega arith) .1;
+      })
+
+  heard-function : Heard text (readFunction line)
+  unfolding readFunction
+  heard-function =
+      either (Heard text) (isFunction 67 82 68 line) _ _ heard-crd
+      (either (Heard text) (isFunction 87 82 83 line) _ _ heard-wrs
+      (either (Heard text) (isFunction 82 68 83 line) _ _ heard-rds
+      (either (Heard text) (isFunction 67 80 89 line) _ _ heard-cpy
+      (either (Heard text) (isFunction 68 85 80 line) _ _ heard-dup
+      (either (Heard text) (isFunction 67 72 78 line) _ _ heard-chn
+      (either (Heard text) (isFunction 68 69 76 line) _ _ heard-del
+      (either (Heard text) (isFunction 68 80 82 line) _ _ heard-dpr
+      (either (Heard text) (isFunction 76 83 84 line) _ _ heard-lst
+      (fair-line 5 0 refl)))))))))
+
+  heard : Heard text (read line)
+  unfolding read
+  heard = either (Heard text) (legalLine line) _ _ heard-function (fair-line 4 0 refl)
+
+-- a request with all that its function needs, or a fair refusal
+abbrev pub Right : List ℕ → Read → Type 0
+Right text (request r) = Told text r
+Right text (unread f) = Fair f
+
+pub read-right : (line text : List ℕ) → Right text (asked line text)
+unfolding asked
+read-right line text = go (read line) (heard line text)
+  where
+    go : (x : Read) → Heard text x → Right text (withText text x)
+    go (request r) h = ended (verdict (check (textTooLong r text) 10 0 ∷ [])) refl
+      where
+        ended : (v : Verdict) → verdict (check (textTooLong r text) 10 0 ∷ []) ≡ v → Right text (readAs r v)
+        ended passed e = h (verdict-idle _ e .0)
+        ended (refused f) e = verdict-fair _ f (fair-line 10 0 refl, tt) e
+    go (unread f) h = h
+
+-- what a line and its text ask for is as its function needs it
+pub told : (line text : List ℕ) (r : Request) → asked line text ≡ request r → Told text r
+told line text r e = subst (Right text) e (read-right line text)
