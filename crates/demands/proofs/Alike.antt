@@ -15,12 +15,12 @@ use Rattle.paper.specs.Table.{rooms, rec, lay}
 use Rattle.paper.specs.Entry.{Holder, holder, stands, bears, crowd, limit, named}
 use Rattle.paper.specs.Block.{blocks}
 use Rattle.paper.specs.Sound.{holderThere, textInPlace}
-use Rattle.laws.proofs.Tests.{and-left}
 use Rattle.laws.proofs.Scans.{any-cong}
 use Rattle.laws.proofs.Counts.{count-cong}
-use Rattle.laws.proofs.Entries.{bears-stands, bears-name, bears-by, typed, typed-kind}
+use Rattle.laws.proofs.Entries.{bears-stands, bears-back, typed}
 use Rattle.laws.proofs.Lay.{rec-past, lay-same, lay-other, length-lay}
 use Rattle.demands.proofs.Clauses.{Own, SoundBut}
+use Rattle.demands.proofs.Points.{text-points}
 
 pub record LikeHeading (a b : List ℕ) : Type 0 where
   pub type : headingType b ≡ headingType a
@@ -117,7 +117,7 @@ module _ (o : ℕ) (t f : List ℕ) (c : SoundBut o t) (d : Alike t f) where
   texts-f i l k =
       let m = was 3 i k in
       let z : textInPlace t i (rec t i) ≡ true = c .texts i l m in
-      let h : byte (rec t (headingOf (rec t i))) 0 ≡ 1 = typed-kind 1 (rec t (headingOf (rec t i))) (and-left _ _ z) in
+      let h = text-points o t c i l m in
       let s = like (headingOf (rec t i)) in
       rw (like i .text m, like-typed 1 (rec t (headingOf (rec t i))) (rec f (headingOf (rec t i))) s, s .heading h .length) z
 
@@ -157,11 +157,7 @@ module _ (o : ℕ) (t : List ℕ) (e : ℕ) (r : List ℕ) (c : SoundBut o t) (l
       (λ (q : j ≢ e). c .apart i j m n (rw (there i m p) at y) (rw (there i m p, there j n q) at b)))
     where
       back : i ≢ e → byte (rec t i) 0 ≡ 2 → bears (holder (rec t i)) (nameOf (rec t i)) r ≡ true → ⊥
-      back p y b =
-          let z = bears-stands (holder (rec t i)) (nameOf (rec t i)) r b in
-          fresh (z .kind) i m p
-          (bears-by (holder r) (nameOf r) (rec t i) (record { kind = y; heading = sym (z .heading); user = sym (z .user) })
-          (sym (bears-name (holder (rec t i)) (nameOf (rec t i)) r b)))
+      back p y b = fresh (bears-stands (holder (rec t i)) (nameOf (rec t i)) r b .kind) i m p (bears-back (rec t i) r y b)
 
   pub replaced-sound : SoundBut o (lay t e r)
   replaced-sound =

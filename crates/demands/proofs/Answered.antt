@@ -12,16 +12,17 @@ use lib.Seq.{drop-append-seam}
 use lib.Dec.{eqb}
 use borrow.Author.Tests.{ne-eqb}
 use Rattle.paper.specs.Line.{Word}
-use Rattle.paper.specs.Check.{Refusal, Verdict, passed, refused}
-use Rattle.paper.specs.Request.{Request, crd, wrs, rds, cpy, dup, chn, del, dpr, lst, lstBase, Read, request, unread, asked}
+use Rattle.paper.specs.Check.{Refusal}
+use Rattle.paper.specs.Request.{Request, crd, wrs, rds, cpy, dup, chn, del, dpr, lst, lstBase, request, asked}
 use Rattle.paper.specs.Store.{Store, run}
 use Rattle.paper.specs.Effect.{Plan, Planned, plan, crdPlan, wrsPlan, rdsPlan, cpyPlan, dupPlan, chnPlan, delPlan, dprPlan, lstPlan, lstBasePlan}
-use Rattle.paper.specs.Answer.{Outcome, plain, refusing, done, stores, ran, single, deleting, granted, entrance, requested}
+use Rattle.paper.specs.Answer.{Outcome, plain, refusing, done, stores, ran, single, deleting, granted, requested}
 use Rattle.laws.proofs.Runs.{length-run}
-use Rattle.demands.proofs.Fair.{placeless, Fair, verdict-idle, verdict-fair, fair-line}
-use Rattle.demands.proofs.Read.{Right, read-right}
-use Rattle.demands.proofs.Numbered.{FairPlan, FairPlanned, fair-crdPlan, fair-wrsPlan, fair-rdsPlan, fair-cpyPlan, fair-dupPlan, fair-chnPlan, fair-delPlan, fair-dprPlan, fair-lstPlan, fair-lstBasePlan}
-use Rattle.demands.proofs.Deleted.{Passed, ran-by, passes, ran-fair, Deleted, whole, halts, stops, front-none, deleted, Leaves, DelStopped, deleted-leaves, deleted-stops}
+use Rattle.demands.proofs.Fair.{placeless, Fair, verdict-idle}
+use Rattle.demands.proofs.Course.{Course, untried, tried, course}
+use Rattle.demands.proofs.Ended.{Passed, ran-by, passes, cuts}
+use Rattle.demands.proofs.Numbered.{FairPlan, FairPlanned, fair-crdPlan, fair-wrsPlan, fair-rdsPlan, fair-cpyPlan, fair-dupPlan, fair-chnPlan, fair-delPlan, fair-dprPlan, fair-lstPlan, fair-lstBasePlan, fair-refused}
+use Rattle.demands.proofs.Deleted.{Deleted, whole, halts, stops, front-none, deleted, Leaves, DelStopped, deleted-leaves, deleted-stops}
 
 -- what every outcome keeps: the table and the reply that were lent, and the answer's numbers
 pub record Answered (t reply : List ℕ) (k : ℕ) (o : Outcome) : Type 0 where
@@ -58,8 +59,7 @@ answered-refusing t reply k f h = answered-plain t t reply k (f .number) (f .pla
 answered-single : (t reply : List ℕ) (k : ℕ) (P : Planned) → FairPlanned reply P → Answered t reply k (single t reply k (ran k P))
 answered-single t reply k P h =
     ran-by (λ x. Answered t reply k (single t reply k x)) k P
-    (λ f e. answered-refusing t reply k f (subst (FairPlanned reply) e h))
-    (λ p f e v. answered-refusing t reply k f (verdict-fair (p .checks) f (subst (FairPlanned reply) e h .checks) v))
+    (λ f e. answered-refusing t reply k f (fair-refused reply P f h e))
     finishes
     (λ p _ _. answered-plain t (run t (take k (p .stores))) reply k 22 0 0 k (omega arith) refl (omega arith) (length-run t (take k (p .stores))))
   where
@@ -84,9 +84,9 @@ answered-deleted : (t : List ℕ) (u : ℕ) (reply : List ℕ) (k n made : ℕ) 
 answered-deleted t u reply k n made ws o (whole t₁ made₁ h q) =
     rw q (answered-plain t t₁ reply (made + k) 0 0 (n + length ws) made₁ (omega arith) refl (h .room) (h .size))
 answered-deleted t u reply k n made ws o (halts m t₁ made₁ w rest f h d r q) =
-    let g = ran-fair reply (made + k - made₁) (delPlan t₁ u (n + m + 1) w) f (fair-delPlan t₁ reply u (n + m + 1) w (omega arith)) r in
+    let g = fair-refused reply (delPlan t₁ u (n + m + 1) w) f (fair-delPlan t₁ reply u (n + m + 1) w (omega arith)) r in
     rw q (answered-plain t t₁ reply (made + k) (f .number) (f .place) (n + m) made₁ (omega (arith, g .most)) (g .place) (h .room) (h .size))
-answered-deleted t u reply k n made ws o (stops m t₁ made₁ w rest p h d r q) =
+answered-deleted t u reply k n made ws o (stops m t₁ made₁ w rest p h d r l q) =
     rw q (answered-plain t _ reply (made + k) 22 0 (n + m) (made + k) (omega arith) refl (omega arith)
     (length-run t₁ (take (made + k - made₁) (p .stores)) ∙ h .size))
 
@@ -115,35 +115,27 @@ pub data Came (t line text reply : List ℕ) (u : ℕ) : Type 0 where
   deletes : (ws : List Word) → asked line text ≡ request (del ws) → ((k : ℕ) → requested t line text reply u k ≡ deleting t u reply k 0 0 ws)
       → Came t line text reply u
 
-fair-entrance : (t : List ℕ) (u : ℕ) (f : Refusal) → entrance t u ≡ refused f → Fair f
-unfolding entrance
-fair-entrance t u f e = verdict-fair _ f (fair-line 1 0 refl, (fair-line 2 0 refl, (fair-line 3 0 refl, tt))) e
-
 pub came : (t line text reply : List ℕ) (u : ℕ) → Came t line text reply u
-unfolding requested granted
-came t line text reply u = enters (entrance t u) refl
+unfolding granted
+came t line text reply u = go (course t line text reply u)
   where
-    grants : entrance t u ≡ passed → (r : Request) → asked line text ≡ request r → Came t line text reply u
-    grants p (crd w level code) q = planned (crd w level code) q refl (crdPlan t u w level code) (fair-crdPlan t reply u w level code) (λ k. rw (p, q))
-    grants p (wrs lifetime level code w) q =
-        planned (wrs lifetime level code w) q refl (wrsPlan t u text lifetime level code w) (fair-wrsPlan t reply u text lifetime level code w) (λ k. rw (p, q))
-    grants p (rds w) q = planned (rds w) q refl (rdsPlan t u reply w) (fair-rdsPlan t reply u w) (λ k. rw (p, q))
-    grants p (cpy old new lifetime level code) q =
-        planned (cpy old new lifetime level code) q refl (cpyPlan t u old new lifetime level code) (fair-cpyPlan t reply u old new lifetime level code) (λ k. rw (p, q))
-    grants p (dup old new code) q = planned (dup old new code) q refl (dupPlan t u old new code) (fair-dupPlan t reply u old new code) (λ k. rw (p, q))
-    grants p (chn old link) q = planned (chn old link) q refl (chnPlan t u old link) (fair-chnPlan t reply u old link) (λ k. rw (p, q))
-    grants p (del ws) q = deletes ws q (λ k. rw (p, q))
-    grants p (dpr w code) q = planned (dpr w code) q refl (dprPlan t u w code) (fair-dprPlan t reply u w code) (λ k. rw (p, q))
-    grants p (lst w) q = planned (lst w) q refl (lstPlan t u reply w) (fair-lstPlan t reply u w) (λ k. rw (p, q))
-    grants p lstBase q = planned lstBase q refl (lstBasePlan t u reply) (fair-lstBasePlan t reply u) (λ k. rw (p, q))
+    grants : (r : Request) → asked line text ≡ request r → ((k : ℕ) → requested t line text reply u k ≡ granted t text reply u k r) → Came t line text reply u
+    grants (crd w level code) q = planned (crd w level code) q refl (crdPlan t u w level code) (fair-crdPlan t reply u w level code)
+    grants (wrs lifetime level code w) q =
+        planned (wrs lifetime level code w) q refl (wrsPlan t u text lifetime level code w) (fair-wrsPlan t reply u text lifetime level code w)
+    grants (rds w) q = planned (rds w) q refl (rdsPlan t u reply w) (fair-rdsPlan t reply u w)
+    grants (cpy old new lifetime level code) q =
+        planned (cpy old new lifetime level code) q refl (cpyPlan t u old new lifetime level code) (fair-cpyPlan t reply u old new lifetime level code)
+    grants (dup old new code) q = planned (dup old new code) q refl (dupPlan t u old new code) (fair-dupPlan t reply u old new code)
+    grants (chn old link) q = planned (chn old link) q refl (chnPlan t u old link) (fair-chnPlan t reply u old link)
+    grants (del ws) q = deletes ws q
+    grants (dpr w code) q = planned (dpr w code) q refl (dprPlan t u w code) (fair-dprPlan t reply u w code)
+    grants (lst w) q = planned (lst w) q refl (lstPlan t u reply w) (fair-lstPlan t reply u w)
+    grants lstBase q = planned lstBase q refl (lstBasePlan t u reply) (fair-lstBasePlan t reply u)
 
-    reads : entrance t u ≡ passed → (x : Read) → asked line text ≡ x → Right text x → Came t line text reply u
-    reads p (request r) q h = grants p r q
-    reads p (unread f) q h = lent f h (λ k. rw (p, q))
-
-    enters : (v : Verdict) → entrance t u ≡ v → Came t line text reply u
-    enters passed p = reads p (asked line text) refl (read-right line text)
-    enters (refused f) p = lent f (fair-entrance t u f p) (λ k. rw p)
+    go : Course t line text reply u → Came t line text reply u
+    go (untried f h e) = lent f h e
+    go (tried r h e) = grants r (h .asked) e
 
 -- demand 1: for every table, line, text, reply buffer, user and stop number
 pub answered : (t line text reply : List ℕ) (u k : ℕ) → Answered t reply k (requested t line text reply u k)
@@ -172,8 +164,7 @@ refusal-lends t line text reply u k d = go (came t line text reply u)
     go (lent f h e) = rw (e k) (λ _ _. (refl, refl))
     go (planned r q x P h e) =
         rw (e k)
-        (ran-by (λ y. Lends t (single t reply k y)) k P (λ f _ _ _. (refl, refl)) (λ p f _ _ _ _. (refl, refl))
-        (λ p _ _ n _. absurd (n refl)) (λ p _ _ _ n. absurd (n refl)))
+        (ran-by (λ y. Lends t (single t reply k y)) k P (λ f _ _ _. (refl, refl)) (λ p _ _ n _. absurd (n refl)) (λ p _ _ _ n. absurd (n refl)))
     go (deletes ws q e) = absurd (d ws q)
 
 -- "Names done counts names all of whose stores were made (0 or 1 but for DEL ..)"
@@ -190,8 +181,7 @@ names-done t line text reply u k d = go (came t line text reply u)
     go (lent f h e) = rw (e k) (counts-none t reply f h)
     go (planned r q x P h e) =
         rw (e k)
-        (ran-by (λ y. ran k P ≡ y → CountsOne (single t reply k y)) k P (λ f _ c. counts-none t reply f (ran-fair reply k P f h c))
-        (λ p f _ _ c. counts-none t reply f (ran-fair reply k P f h c)) (λ p _ _ _. refl) (λ p _ _ _. refl) refl)
+        (ran-by (λ y. CountsOne (single t reply k y)) k P (λ f c. counts-none t reply f (fair-refused reply P f h c)) (λ p _ _. refl) (λ p _ _. refl))
     go (deletes ws q e) = absurd (d ws q)
 
 -- 22, of a request that is no DEL: the first k of its stores are made, and these are the stores that it makes with no stop in the way
@@ -210,18 +200,17 @@ stop-cuts t line text reply u k d n = go (came t line text reply u)
     go (lent f h e) = let g : f .number ≡ 22 = rw (e k) at n in let z : ⊥ = omega (arith, h .most) in absurd z
     go (deletes ws q e) = absurd (d ws q)
     go (planned r q x P h e) =
-        ran-by (λ y. single t reply k y .answer .number ≡ 22 → ran k P ≡ y → Stopped t line text reply u k) k P
-        (λ f _ m c. let g = ran-fair reply k P f h c in let z : ⊥ = omega (arith, g .most, m) in absurd z)
-        (λ p f _ _ m c. let g = ran-fair reply k P f h c in let z : ⊥ = omega (arith, g .most, m) in absurd z)
-        (λ p _ _ m c. let z : ⊥ = omega arith in absurd z)
-        (λ p v l m c. record {
+        ran-by (λ y. single t reply k y .answer .number ≡ 22 → Stopped t line text reply u k) k P
+        (λ f c m. let g = fair-refused reply P f h c in let z : ⊥ = omega (arith, g .most, m) in absurd z)
+        (λ p _ _ m. let z : ⊥ = omega arith in absurd z)
+        (λ p v l m. record {
           stores = p .stores;
           more = l;
-          table = rw (e k, c);
-          made = rw (e k, c);
+          table = rw (e k, cuts k P p v l);
+          made = rw (e k, cuts k P p v l);
           uncut = λ j b. (rw (e j, passes j P p v b), rw (e j, passes j P p v b));
         })
-        (rw (e k) at n) refl
+        (rw (e k) at n)
 
 -- a request that is a DEL is refused before it is tried, or goes name by name
 del-came : (X : Outcome → Type 0) (t line text reply : List ℕ) (u k : ℕ) (ws : List Word) → asked line text ≡ request (del ws)

@@ -1,26 +1,25 @@
 -- Soundness as a record of clauses, and the two conversions from and to the computed test, clause by clause.
 -- What a record owes by itself is `Own`; the other clauses look at two records or more. Heading o alone may be named by no entry.
-use mathlib.Core.Bool.{Bool, true, false, _&&_, _||_, not, cond, true≢false}
-use mathlib.Core.List.{List, []}
+use mathlib.Core.Bool.{Bool, true, false, _&&_}
+use mathlib.Core.List.{List}
 use mathlib.Core.Logic.{_⊎_, inl, inr, _≢_, by-cases}
-use mathlib.Core.Path.{_≡_, refl, sym, ap, _∙_, subst}
-use Prim.Native.Nat.{ℕ, zero, suc, _+_, _-_, _/_, _%_, _≤_, _<_}
+use mathlib.Core.Path.{_≡_, subst}
+use Prim.Native.Nat.{ℕ, _%_, _≤_, _<_}
 use native.Mathlib.Omega.{arith}
 use native.Mathlib.Decide.{ℕ-discrete, decLt}
 use lib.ListN.{length}
-use lib.Dec.{eqb, leb, ltb}
+use lib.Dec.{eqb, leb}
 use borrow.Author.Tests.{eqb-true, eq-eqb, leb-true, le-leb, not-true}
 use Rattle.paper.specs.Scan.{allBelow, anyBelow, countBelow}
-use Rattle.paper.specs.Record.{byte, isKind, headingType, lifetime, textLength, directory, simple, holderOf, headingNamed, userOf, nameLength, nameOf, headingOf, textAt, zeros}
+use Rattle.paper.specs.Record.{byte, isKind, headingType, level, headingCode, lifetime, textLength, directory, simple, entryCode, headingNamed, nameLength, nameOf, textAt, zeros}
 use Rattle.paper.specs.Table.{sized, rooms, rec}
-use Rattle.paper.specs.Name.{linkName, legalBase}
 use Rattle.paper.specs.Entry.{Holder, holder, stands, bears, crowd, limit, named}
 use Rattle.paper.specs.Block.{blocks}
-use Rattle.paper.specs.Sound.{implies, every, freeAsAbove, headingAsAbove, entryAsAbove, textAsAbove, asAbove, isBase, holderThere, holdersThere, headingThere, headingsThere, userRight, usersRight, namePadded, namesPadded, notTwice, noneTwice, isNamed, allNamed, notCrowded, noneCrowded, directoryPlain, directoriesPlain, once, textWhole, textsWhole, textInPlace, noOtherText, nameLegal, namesLegal, sound}
+use Rattle.paper.specs.Sound.{implies, every, freeAsAbove, headingAsAbove, entryAsAbove, textAsAbove, asAbove, holderThere, holdersThere, headingThere, headingsThere, userRight, usersRight, namePadded, namesPadded, notTwice, noneTwice, isNamed, allNamed, notCrowded, noneCrowded, directoryPlain, directoriesPlain, once, textWhole, textsWhole, textInPlace, noOtherText, nameLegal, namesLegal, sound}
 use Rattle.laws.proofs.Tests.{truth, and-left, and-right, and-both, and-parts, implies-use, implies-by, false-by, not-both}
-use Rattle.laws.proofs.Scans.{all-true, all-here, any-here, any-true, any-false, any-none}
+use Rattle.laws.proofs.Scans.{all-true, all-here, any-here, any-true, any-false}
 use Rattle.laws.proofs.Counts.{count-none}
-use Rattle.laws.proofs.Entries.{Stands, stands-true, stands-by, stands-holder, bears-stands, bears-name, bears-by}
+use Rattle.laws.proofs.Entries.{Stands, stands-true, stands-holder, bears-stands, bears-back}
 
 -- what a heading, and what an entry, owes by itself
 pub record HeadingOwn (r : List ℕ) : Type 0 where
@@ -66,6 +65,46 @@ pub record SoundBut (o : ℕ) (t : List ℕ) : Type 0 where
 -- no heading is number 65,535, so none may be unnamed
 abbrev pub Sound : List ℕ → Type 0
 Sound t = SoundBut 65535 t
+
+-- the numbers that a heading and an entry then have
+pub record HeadingFields (r : List ℕ) : Type 0 where
+  pub type : headingType r ≤ 1
+  pub level : level r ≤ 3
+  pub code : headingCode r ≤ 7
+  pub lifetime : (1 ≤ lifetime r) × (lifetime r ≤ 2)
+
+pub heading-fields : (r : List ℕ) → HeadingOwn r → HeadingFields r
+heading-fields r h =
+    let a = and-left _ (zeros 12 20 r) (h .shape) in
+    let b = and-left _ (zeros 5 5 r) a in
+    let c = and-left _ (leb (lifetime r) 2) b in
+    let d = and-left _ (leb 1 (lifetime r)) c in
+    let e = and-left _ (leb (headingCode r) 7) d in
+    record {
+      type = leb-true _ _ (and-left _ (leb (level r) 3) e);
+      level = leb-true _ _ (and-right (leb (headingType r) 1) _ e);
+      code = leb-true _ _ (and-right (leb (headingType r) 1 && leb (level r) 3) _ d);
+      lifetime = (
+        leb-true _ _ (and-right (leb (headingType r) 1 && leb (level r) 3 && leb (headingCode r) 7) _ c),
+        leb-true _ _ (and-right (leb (headingType r) 1 && leb (level r) 3 && leb (headingCode r) 7 && leb 1 (lifetime r)) _ b),
+      );
+    }
+
+pub entry-code : (r : List ℕ) → EntryOwn r → entryCode r ≤ 7
+entry-code r h = leb-true _ _ (and-left (leb (entryCode r) 7) _ (and-left (leb (entryCode r) 7 && leb (nameLength r) 10) _ (h .shape)))
+
+-- a heading of a text is a simple file's, since a directory has none; and no text is longer than 24,000
+pub simple-by : (r : List ℕ) → HeadingOwn r → (p : ℕ) → p < blocks (textLength r) → headingType r ≡ 1
+simple-by r h p b =
+    by-cases (ℕ-discrete (headingType r) 0)
+    (λ (q : headingType r ≡ 0). let n : textLength r ≡ 0 = h .directory q .1 in let z : ⊥ = omega arith in absurd z)
+    (λ (q : headingType r ≢ 0). omega (arith, heading-fields r h .type))
+
+pub length-most : (r : List ℕ) → HeadingOwn r → textLength r ≤ 24000
+length-most r h =
+    by-cases (ℕ-discrete (headingType r) 0)
+    (λ (q : headingType r ≡ 0). omega (arith, h .directory q .1))
+    (λ (q : headingType r ≢ 0). h .simple (omega (arith, heading-fields r h .type)))
 
 -- what a clause says of record i of kind k
 every-at : (k : ℕ) (test : ℕ → List ℕ → Bool) (t : List ℕ) → every k test t ≡ true → (i : ℕ) → i < rooms t → byte (rec t i) 0 ≡ k → test i (rec t i) ≡ true
@@ -160,16 +199,10 @@ apart-by : (t : List ℕ) → Tested t → (i j : ℕ) → i < rooms t → j < r
 unfolding noneTwice
 apart-by t c i j li lj q b =
     by-cases (ℕ-discrete i j) (λ (e : i ≡ j). e)
-    (λ (e : i ≢ j). by-cases (decLt j i) (λ (l : j < i). absurd (later i j li q l b)) (λ (l : ¬ (j < i)). absurd (later j i lj (s .kind) (omega arith) back)))
+    (λ (e : i ≢ j). by-cases (decLt j i) (λ (l : j < i). absurd (later i j li q l b)) (λ (l : ¬ (j < i)). absurd (later j i lj (s .kind) (omega arith) (bears-back (rec t i) (rec t j) q b))))
   where
     s : Stands (holder (rec t i)) (rec t j)
     s = bears-stands (holder (rec t i)) (nameOf (rec t i)) (rec t j) b
-
-    back : bears (holder (rec t j)) (nameOf (rec t j)) (rec t i) ≡ true
-    back =
-        bears-by (holder (rec t j)) (nameOf (rec t j)) (rec t i)
-        (record { kind = q; heading = sym (s .heading); user = sym (s .user) })
-        (sym (bears-name (holder (rec t i)) (nameOf (rec t i)) (rec t j) b))
 
     later : (a z : ℕ) → a < rooms t → byte (rec t a) 0 ≡ 2 → z < a → bears (holder (rec t a)) (nameOf (rec t a)) (rec t z) ≡ true → ⊥
     later a z la qa lz x =
@@ -234,7 +267,7 @@ twice-by t c = every-by 2 (notTwice t) t (λ i l q. rw (false-by (anyBelow (λ j
         let s : i ≡ w .0 = c .apart i (w .0) l (omega arith) q (w .2) in
         omega arith
 
-named-by : (t : List ℕ) → Sound t → (i : ℕ) → i < rooms t → byte (rec t i) 0 ≡ 1 → named t i ≡ true
+pub named-by : (t : List ℕ) → Sound t → (i : ℕ) → i < rooms t → byte (rec t i) 0 ≡ 1 → named t i ≡ true
 named-by t c i l q = go (c .named i l q)
   where
     go : (named t i ≡ true) ⊎ (i ≡ 65535) → named t i ≡ true

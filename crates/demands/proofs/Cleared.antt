@@ -16,22 +16,13 @@ use Rattle.paper.specs.Table.{rooms, rec, lay}
 use Rattle.paper.specs.Entry.{Holder, holder, stands, bears, crowd, limit, named}
 use Rattle.paper.specs.Block.{blocks}
 use Rattle.paper.specs.Sound.{isBase, holderThere, textInPlace}
-use Rattle.laws.proofs.Tests.{not-both, and-left, or-cases, or-left, or-right, false-by}
+use Rattle.laws.proofs.Tests.{not-both, or-cases, or-left, or-right, false-by}
 use Rattle.laws.proofs.Scans.{any-true, any-here}
 use Rattle.laws.proofs.Counts.{count-cong, count-mono}
 use Rattle.laws.proofs.Entries.{stands-true, bears-stands, names-heading, typed-kind, text-true}
-use Rattle.laws.proofs.Lay.{Whole, rec-past, lay-same, lay-other, length-lay, length-blank}
+use Rattle.laws.proofs.Lay.{Whole, rec-past, lay-same, lay-other, length-lay, length-blank, kinds-apart}
 use Rattle.demands.proofs.Clauses.{Own, SoundBut, Sound}
-
--- a record that holds something is in the table
-pub within : (t : List ℕ) (k i : ℕ) → Whole t → byte (rec t i) 0 ≡ suc k → i < rooms t
-within t k i w e =
-    by-cases (decLt i (rooms t)) (λ l. l)
-    (λ (l : ¬ (i < rooms t)). let z : 0 ≡ suc k = rw (rec-past t i w (omega arith)) at e in let y : ⊥ = omega arith in absurd y)
-
--- records of two kinds are two records
-pub kinds-apart : (t : List ℕ) (i j m n : ℕ) → byte (rec t i) 0 ≡ m → byte (rec t j) 0 ≡ n → m ≢ n → i ≢ j
-kinds-apart t i j m n p q d e = d (sym p ∙ ap (λ (x : ℕ). byte (rec t x) 0) e ∙ q)
+use Rattle.demands.proofs.Points.{text-points}
 
 pub own-blank : Own blank
 unfolding blank zeros allBelow
@@ -198,7 +189,7 @@ module _ (t : List ℕ) (e : ℕ) (c : Sound t) (l : e < rooms t) (k : byte (rec
         named = λ i m g y. by m (c .named i m y);
         texts = λ i m y.
             no-entry i 3 (omega arith) y
-            ∙ sym (no-entry (headingOf (rec t i)) 1 (omega arith) (typed-kind 1 (rec t (headingOf (rec t i))) (and-left _ _ (c .texts i m y))));
+            ∙ sym (no-entry (headingOf (rec t i)) 1 (omega arith) (text-points 65535 t c i m y));
       }
     where
       no-entry : (i n : ℕ) → n ≢ 2 → byte (rec t i) 0 ≡ n → eqb i e ≡ false

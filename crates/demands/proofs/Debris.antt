@@ -14,9 +14,11 @@ use Rattle.paper.specs.Table.{rooms, rec}
 use Rattle.paper.specs.Entry.{named}
 use Rattle.paper.specs.Store.{run}
 use Rattle.paper.specs.Mend.{orphan, stray, wiped, mendFirst, mendSecond, mendStores, mended}
+use Rattle.laws.proofs.Tests.{and-left}
 use Rattle.laws.proofs.Scans.{any-cong}
 use Rattle.laws.proofs.Lay.{Whole, ext-table, rec-past}
 use Rattle.laws.proofs.Runs.{run-append, length-run, rooms-run}
+use Rattle.demands.proofs.Clauses.{Sound, named-by}
 use Rattle.demands.proofs.Wipe.{rec-wiped, clears-none}
 
 -- the two clauses of soundness that mending looks after
@@ -66,6 +68,13 @@ nothing-to-mend t k = rw (clears-none (orphan t) (rooms t) (no-orphan t k)) (cle
 pub mended-kept : (t : List ℕ) → Kept t → mended t ≡ t
 unfolding mended run
 mended-kept t k = rw (nothing-to-mend t k)
+
+-- as a sound table does
+pub sound-keeps : (t : List ℕ) → Sound t → Kept t
+sound-keeps t c = record { headings = named-by t c; texts = λ i l k. and-left _ _ (c .texts i l k) }
+
+pub mended-sound : (t : List ℕ) → Sound t → mended t ≡ t
+mended-sound t c = mended-kept t (sound-keeps t c)
 
 module _ (f s : List ℕ) (e : length s ≡ length f) (w : Whole f) (k : Kept f)
     (part : (i : ℕ) → i < rooms f → Part f i (rec f i) (rec s i)) where

@@ -1,81 +1,47 @@
--- How a plan ends at a stop number: refused, whole, or cut. Whole or cut it comes of the same plan with its checks passed, so a cut
--- plan of the right shape, mended, is the table before or the table where the stop number is not reached.
-use mathlib.Core.Bool.{true, false}
-use mathlib.Core.List.{List}
-use mathlib.Core.Logic.{_⊎_, inl, inr}
+-- How a plan ends at a stop number: refused at a walk or a check, whole, or cut. Whether it is refused, and with what, and what its
+-- stores are, does not go by the stop number; that says only whether they are all made.
+use mathlib.Core.Bool.{Bool, true, false, cond}
 use mathlib.Core.Path.{_≡_, refl}
 use Prim.Native.Nat.{ℕ, _≤_, _<_}
-use native.Mathlib.Omega.{arith}
 use lib.ListN.{length}
 use lib.Dec.{leb}
-use borrow.Author.Tests.{leb-true, leb-false, le-leb}
+use borrow.Author.Tests.{leb-true, leb-false, le-leb, lt-leb}
 use Rattle.paper.specs.Check.{Refusal, Verdict, passed, refused, verdict}
-use Rattle.paper.specs.Store.{run}
-use Rattle.paper.specs.Mend.{mended}
 use Rattle.paper.specs.Effect.{Plan, Planned, plan, halted}
-use Rattle.paper.specs.Answer.{Outcome, refusedBy, done, cut, ran, single}
-use Rattle.laws.proofs.Tests.{truth}
-use Rattle.demands.proofs.Clauses.{Sound}
-use Rattle.demands.proofs.Kept.{Keeps}
-use Rattle.demands.proofs.Debris.{mended-kept}
-use Rattle.demands.proofs.Facts.{facts}
-use Rattle.demands.proofs.Cut.{Cut}
-use Rattle.demands.proofs.Plans.{Safe}
+use Rattle.paper.specs.Answer.{Ran, refusedBy, done, cut, stores, ran}
 
-pub data Ending (k : ℕ) (x : Planned) : Type 0 where
-  refusal : (f : Refusal) → ran k x ≡ refusedBy f → Ending k x
-  whole : (p : Plan) → x ≡ plan p → verdict (p .checks) ≡ passed → length (p .stores) ≤ k → ran k x ≡ done p → Ending k x
-  part : (p : Plan) → x ≡ plan p → verdict (p .checks) ≡ passed → k < length (p .stores) → ran k x ≡ cut p → Ending k x
+-- the plan is refused with f
+pub data Refused (x : Planned) (f : Refusal) : Type 0 where
+  walking : x ≡ halted f → Refused x f
+  checked : (p : Plan) → x ≡ plan p → verdict (p .checks) ≡ refused f → Refused x f
 
-pub ending : (k : ℕ) (x : Planned) → Ending k x
-ending k (halted f) = refusal f refl
-ending k (plan p) = go (verdict (p .checks)) refl (truth (leb (length (p .stores)) k))
+-- the plan is p, and its checks pass
+pub record Passed (x : Planned) (p : Plan) : Type 0 where
+  pub plan : x ≡ plan p
+  pub checks : verdict (p .checks) ≡ passed
+
+pub ran-by : (X : Ran → Type 0) (k : ℕ) (x : Planned) → ((f : Refusal) → Refused x f → X (refusedBy f))
+    → ((p : Plan) → Passed x p → length (p .stores) ≤ k → X (done p))
+    → ((p : Plan) → Passed x p → k < length (p .stores) → X (cut p))
+    → X (ran k x)
+ran-by X k (halted f) a b c = a f (walking refl)
+ran-by X k (plan p) a b c = go (verdict (p .checks)) refl
   where
-    go : (v : Verdict) → verdict (p .checks) ≡ v → (leb (length (p .stores)) k ≡ true) ⊎ (leb (length (p .stores)) k ≡ false)
-        → Ending k (plan p)
-    go (refused f) e b = refusal f (rw e)
-    go passed e (inl b) = whole p refl e (leb-true _ _ b) (rw (e, b))
-    go passed e (inr b) = part p refl e (leb-false _ _ b) (rw (e, b))
+    counted : verdict (p .checks) ≡ passed → (y : Bool) → leb (length (p .stores)) k ≡ y → X (cond y (done p) (cut p))
+    counted e true f = b p (record { plan = refl; checks = e }) (leb-true _ _ f)
+    counted e false f = c p (record { plan = refl; checks = e }) (leb-false _ _ f)
 
--- a sound table is mended as it stands
-pub mended-sound : (t : List ℕ) → Sound t → mended t ≡ t
-mended-sound t c = mended-kept t (facts t c .kept)
+    go : (v : Verdict) → verdict (p .checks) ≡ v → X (stores k p v)
+    go passed e = counted e _ refl
+    go (refused f) e = a f (checked p refl e)
 
--- x is the table after, of outcomes by stop number: at some stop number the answer is 0 and the table x
-pub record Done (o : ℕ → Outcome) (x : List ℕ) : Type 0 where
-  pub stop : ℕ
-  pub number : o stop .answer .number ≡ 0
-  pub table : x ≡ o stop .table
+-- and at every stop number it ends so
+pub refuses : (k : ℕ) (x : Planned) (f : Refusal) → Refused x f → ran k x ≡ refusedBy f
+refuses k x f (walking e) = rw e
+refuses k x f (checked p e v) = rw (e, v)
 
--- ---- one plan
+pub passes : (k : ℕ) (x : Planned) (p : Plan) → Passed x p → length (p .stores) ≤ k → ran k x ≡ done p
+passes k x p v l = rw (v .plan, v .checks, le-leb _ _ l)
 
-module _ (t reply : List ℕ) (c : Sound t) (x : Planned) (safe : Safe t x) (sure : Keeps t x) where
-  -- the outcome by stop number
-  abbrev run-to : ℕ → Outcome
-  run-to k = single t reply k (ran k x)
-
-  at-once : (p : Plan) → x ≡ plan p → verdict (p .checks) ≡ passed → Done run-to (run t (p .stores))
-  at-once p e v =
-      let n : ℕ = length (p .stores) in
-      let b : leb n n ≡ true = le-leb n n (omega arith) in
-      record { stop = n; number = rw (e, v, b); table = rw (e, v, b) }
-
-  sound-after : (p : Plan) → x ≡ plan p → verdict (p .checks) ≡ passed → Sound (run t (p .stores))
-  sound-after p e = rw e at sure
-
-  cut-after : (p : Plan) → x ≡ plan p → verdict (p .checks) ≡ passed → (k : ℕ) → Cut t (p .stores) k
-  cut-after p e v = let s : Safe t (plan p) = rw e at safe in s v (facts _ (sound-after p e v) .kept)
-
-  -- the table before, or the table after; sound in either case
-  pub single-cut : (k : ℕ) → Sound (mended (run-to k .table)) × ((mended (run-to k .table) ≡ t) ⊎ Done run-to (mended (run-to k .table)))
-  single-cut k = go (ending k x)
-    where
-      landed : (y : List ℕ) (p : Plan) → x ≡ plan p → verdict (p .checks) ≡ passed → (y ≡ t) ⊎ (y ≡ run t (p .stores))
-          → Sound y × ((y ≡ t) ⊎ Done run-to y)
-      landed y p e v (inl q) = (rw q c, inl q)
-      landed y p e v (inr q) = (rw q (sound-after p e v), inr (rw q (at-once p e v)))
-
-      go : Ending k x → Sound (mended (run-to k .table)) × ((mended (run-to k .table) ≡ t) ⊎ Done run-to (mended (run-to k .table)))
-      go (refusal f q) = let z : mended (run-to k .table) ≡ t = rw q (mended-sound t c) in (rw z c, inl z)
-      go (whole p e v l q) = landed (mended (run-to k .table)) p e v (inr (rw q (mended-sound (run t (p .stores)) (sound-after p e v))))
-      go (part p e v l q) = landed (mended (run-to k .table)) p e v (rw q (cut-after p e v k))
+pub cuts : (k : ℕ) (x : Planned) (p : Plan) → Passed x p → k < length (p .stores) → ran k x ≡ cut p
+cuts k x p v l = rw (v .plan, v .checks, lt-leb _ _ l)

@@ -7,10 +7,9 @@ use Prim.Native.Nat.{ℕ, _≤_}
 use native.Mathlib.Omega.{arith}
 use lib.Dec.{eqb, leb}
 use borrow.Author.Tests.{leb-true, ne-eqb, not-true}
-use Rattle.laws.proofs.Tests.{and-left, and-right}
 use Rattle.paper.specs.Check.{Check, passed, refused, verdict, Refusal}
+use Rattle.laws.proofs.Tests.{and-left, and-right, clash}
 use Rattle.laws.proofs.Lists.{Every}
-use Rattle.demands.proofs.Basics.{clash}
 
 -- a check that does not hold
 abbrev pub Idle : Check → Type 0

@@ -1,56 +1,34 @@
 -- A new file laid on free records: its stores go to different rooms, so that each is there afterwards and all else stays.
--- Nothing of the table before speaks of a free record, and nothing new is an entry; so every clause holds, but that no entry names the file.
-use mathlib.Core.List.{List, [], _∷_}
-use mathlib.Core.Logic.{_⊎_, inl, inr, _≢_, by-cases}
+-- So the table has grown by it, and the rooms after the file's are still free.
+use mathlib.Core.List.{List}
+use mathlib.Core.Logic.{_⊎_, inl, inr, _≢_}
 use mathlib.Core.Path.{_≡_, refl, _∙_}
-use Prim.Native.Nat.{ℕ, zero, suc, _+_, _^_, _≤_, _<_}
+use Prim.Native.Nat.{ℕ, _+_, _^_, _≤_, _<_}
 use native.Mathlib.Omega.{arith}
-use native.Mathlib.Decide.{ℕ-discrete}
 use lib.ListN.{length}
-use Rattle.paper.specs.Scan.{joinBelow, eachBelow}
-use Rattle.paper.specs.Record.{byte, textLength, textRecord}
+use Rattle.paper.specs.Record.{byte, textRecord, headingRecord}
 use Rattle.paper.specs.Table.{rooms, rec, lay, frees, room}
 use Rattle.paper.specs.Block.{blocks, block}
 use Rattle.paper.specs.Store.{Store, puts, run}
 use Rattle.paper.specs.Effect.{newFile}
 use Rattle.laws.proofs.Lists.{Every, every-each, length-each}
-use Rattle.laws.proofs.Lay.{lay-same, lay-other, rooms-lay, length-lay}
-use Rattle.laws.proofs.Runs.{run-append, length-run, rooms-run, Lays, run-each}
-use Rattle.demands.proofs.Clauses.{Own}
-use Rattle.demands.proofs.Rooms.{room-below, room-kind, room-apart}
-use Rattle.demands.proofs.Built.{text-record-kind, length-text, text-heading}
-use Rattle.demands.proofs.Blocks.{length-block, share-most}
+use Rattle.laws.proofs.Fields.{text-record-kind, length-text, text-heading, length-heading, heading-record-kind}
+use Rattle.laws.proofs.Lay.{lay-same, rooms-lay, length-lay}
+use Rattle.laws.proofs.Runs.{length-run, Lays, run-each, stores, each-there}
+use Rattle.laws.proofs.Rooms.{room-below, room-kind, room-apart}
+use Rattle.laws.proofs.Blocks.{block-most}
 use Rattle.demands.proofs.Grown.{New, Grown}
 
--- one store for each number below n
-abbrev stores : (ℕ → ℕ) → (ℕ → List ℕ) → ℕ → List Store
-stores place bytes n = eachBelow (λ p. puts (place p) (bytes p)) n
-
--- stores to different places: each is there afterwards
-module _ (t : List ℕ) (place : ℕ → ℕ) (bytes : ℕ → List ℕ) where
-  one-more : (n : ℕ) → run t (stores place bytes (suc n)) ≡ lay (run t (stores place bytes n)) (place n) (bytes n)
-  unfolding joinBelow run
-  one-more n = run-append t (stores place bytes n) (puts (place n) (bytes n) ∷ [])
-
-  pub each-there : (n : ℕ) → ((p : ℕ) → p < n → place p < rooms t) → ((p : ℕ) → p < n → length (bytes p) ≡ 32)
-      → ((p q : ℕ) → p < n → q < n → place p ≡ place q → p ≡ q) → (p : ℕ) → p < n → rec (run t (stores place bytes n)) (place p) ≡ bytes p
-  each-there zero w s d p l = let z : ⊥ = omega arith in absurd z
-  each-there (suc n) w s d p l =
-      rw (one-more n)
-      (by-cases (ℕ-discrete p n)
-      (λ (e : p ≡ n). rw e (lay-same (run t (stores place bytes n)) (place n) (bytes n) (s n (omega arith)) (rw rooms-run (w n (omega arith)))))
-      (λ (e : p ≢ n).
-      lay-other (run t (stores place bytes n)) (place n) (bytes n) (place p) (s n (omega arith)) (λ q. e (d p n (omega arith) (omega arith) q)) (rw rooms-run (w p (omega arith)))
-      ∙ each-there n (λ i b. w i (omega arith)) (λ i b. s i (omega arith)) (λ i j b c. d i j (omega arith) (omega arith)) p (omega arith)))
-
--- what is filed: a heading, a text as long as the heading says, and room for both
-pub record NewFile (t heading text : List ℕ) : Type 0 where
+-- what is laid: a heading, and room for it and the text
+pub record Roomy (t heading text : List ℕ) : Type 0 where
   pub size : length heading ≡ 32
   pub kind : byte heading 0 ≡ 1
-  pub own : Own heading
-  pub bytes : textLength heading ≡ length text
-  pub short : length text ≤ 24000
   pub room : blocks (length text) < length (frees t)
+
+pub roomy : (t : List ℕ) (type lev code life n : ℕ) (text : List ℕ) → blocks (length text) < length (frees t)
+    → Roomy t (headingRecord type lev code life n) text
+roomy t type lev code life n text l =
+    record { size = length-heading type lev code life n; kind = heading-record-kind type lev code life n; room = l }
 
 -- the table with the file, and the file's text at position p
 abbrev pub filed : List ℕ → List ℕ → List ℕ → List ℕ
@@ -72,12 +50,12 @@ pub length-file : (t heading text : List ℕ) → length (newFile t heading text
 unfolding newFile
 length-file t heading text = rw (length-each (λ p. puts (room t (p + 1)) (textNew t text p)) (blocks (length text))) (omega arith)
 
-module _ (t heading text : List ℕ) (n : NewFile t heading text) where
+module _ (t heading text : List ℕ) (n : Roomy t heading text) where
   pub room-in : (m : ℕ) → m ≤ blocks (length text) → room t m < rooms t
   room-in m l = room-below t m (omega (arith, n .room))
 
   text-fits : (p : ℕ) → p < blocks (length text) → length (textNew t text p) ≡ 32
-  text-fits p l = length-text (room t 0) p (block text p) (rw (length-block text p l) (share-most (length text) p l))
+  text-fits p l = length-text (room t 0) p (block text p) (block-most text p)
 
   text-apart : (p : ℕ) → p < blocks (length text) → room t (p + 1) ≢ room t 0
   text-apart p l e = let z : p + 1 ≡ 0 = room-apart t (p + 1) 0 (omega (arith, n .room)) (omega (arith, n .room)) e in omega arith
@@ -104,10 +82,10 @@ module _ (t heading text : List ℕ) (n : NewFile t heading text) where
       (λ p l. rw rooms-lay (room-in (p + 1) (omega arith))) text-fits
       (λ p q a b e. let z : p + 1 ≡ q + 1 = room-apart t (p + 1) (q + 1) (omega (arith, n .room)) (omega (arith, n .room)) e in omega arith)
 
-  abbrev Laid : ℕ → List ℕ → Type 0
+  abbrev pub Laid : ℕ → List ℕ → Type 0
   Laid i r = ((i ≡ room t 0) × (r ≡ heading)) ⊎ ((p : ℕ) × (p < blocks (length text)) × (i ≡ room t (p + 1)) × (r ≡ textNew t text p))
 
-  each-laid : Every (Lays Laid (rooms t)) (newFile t heading text)
+  pub each-laid : Every (Lays Laid (rooms t)) (newFile t heading text)
   unfolding newFile
   each-laid = (
     record { within = room-in 0 (omega arith); size = n .size; holds = inl (refl, refl) },

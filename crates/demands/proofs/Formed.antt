@@ -14,8 +14,8 @@ use Rattle.paper.specs.Declaration.{Part, given, notGiven, isGiven, orElse, Par
 use Rattle.paper.specs.Line.{Word, words, word}
 use Rattle.paper.specs.Request.{declaredAt, partsAt}
 use Rattle.paper.specs.Walk.{lastName}
-use Rattle.laws.proofs.Tests.{truth, and-left, and-right}
-use Rattle.demands.proofs.Basics.{either}
+use Rattle.laws.proofs.Tests.{truth, and-left, and-right, either}
+use Rattle.laws.proofs.Entries.{link-short}
 
 -- ---- names
 
@@ -30,19 +30,9 @@ pub record Last (w : Word) : Type 0 where
   pub short : length (lastName (chain (w .names))) ≤ 10
   pub base : length (chain (w .names)) ≡ 1 → legalBase (lastName (chain (w .names))) ≡ true
 
-pub link-short : (n : List ℕ) → linkName n ≡ true → (1 ≤ length n) × (length n ≤ 10)
-unfolding linkName
-link-short n e =
-    let f = and-left (leb 1 (length n) && leb (length n) 10) _ e in
-    (leb-true _ _ (and-left (leb 1 (length n)) _ f), leb-true _ _ (and-right (leb 1 (length n)) _ f))
-
 pub named-links : (w : Word) → Named w → linkNames (w .names) ≡ true
 unfolding wellFormed
 named-links w n = and-left (linkNames (w .names)) _ (and-left (linkNames (w .names) && leb (length (chain (w .names))) 16) _ (n .formed))
-
-pub named-few : (w : Word) → Named w → length (chain (w .names)) ≤ 16
-unfolding wellFormed
-named-few w n = leb-true _ _ (and-right (linkNames (w .names)) _ (and-left (linkNames (w .names) && leb (length (chain (w .names))) 16) _ (n .formed)))
 
 -- each of some link names is one
 links-at : (ns : List (List ℕ)) (k : ℕ) → k < length ns → linkNames ns ≡ true → linkName (getD ns k []) ≡ true

@@ -1,34 +1,20 @@
 -- A table grown by a file: what was not free stays, and free records have become a heading or text of a heading that was free.
 -- A scan for entries, or for the text of a heading that was there, passes over both; so it finds and counts what it did.
-use mathlib.Core.Bool.{Bool, false}
+use mathlib.Core.Bool.{Bool, true}
 use mathlib.Core.List.{List}
 use mathlib.Core.Logic.{_⊎_, inl, inr, _≢_}
-use mathlib.Core.Path.{_≡_, refl, sym, ap, _∙_, subst}
+use mathlib.Core.Path.{_≡_, refl, sym, ap, _∙_}
 use Prim.Native.Nat.{ℕ, _<_}
 use native.Mathlib.Omega.{arith}
 use lib.ListN.{length}
-use borrow.Author.Tests.{ne-eqb}
-use Rattle.paper.specs.Record.{byte, isKind, names, headingOf, textAt}
+use Rattle.paper.specs.Record.{byte, names, headingOf, textAt}
 use Rattle.paper.specs.Table.{rooms, rec}
-use Rattle.paper.specs.Entry.{Holder, inDirectory, stands, bears, find, crowd, named, peopled}
-use Rattle.laws.proofs.Tests.{and-no-left, false-by}
+use Rattle.paper.specs.Entry.{Holder, stands, bears, find, crowd, named}
+use Rattle.laws.proofs.Tests.{false-by}
 use Rattle.laws.proofs.Scans.{any-cong, first-cong}
 use Rattle.laws.proofs.Counts.{count-cong}
-use Rattle.laws.proofs.Entries.{TextAt, text-true}
-use Rattle.demands.proofs.Points.{within}
-use Rattle.laws.proofs.Lay.{Whole}
-
--- tests that only entries pass
-pub not-names : (h : ℕ) (r : List ℕ) → byte r 0 ≢ 2 → names h r ≡ false
-not-names h r n = and-no-left (isKind 2 r) _ (ne-eqb _ _ n)
-
-pub not-stands : (d : Holder) (r : List ℕ) → byte r 0 ≢ 2 → stands d r ≡ false
-unfolding stands
-not-stands d r n = and-no-left (isKind 2 r) _ (ne-eqb _ _ n)
-
-pub not-bears : (d : Holder) (n r : List ℕ) → byte r 0 ≢ 2 → bears d n r ≡ false
-unfolding bears
-not-bears d n r k = and-no-left (stands d r) _ (not-stands d r k)
+use Rattle.laws.proofs.Entries.{stands-true, bears-stands, names-kind, TextAt, text-true}
+use Rattle.laws.proofs.Lay.{Whole, within}
 
 -- record b in place of a free record a: a heading, or text of a heading that was free
 pub record New (t a b : List ℕ) : Type 0 where
@@ -50,12 +36,18 @@ new-no-entry t a b n = go (n .kind)
     go (inl k) = omega arith
     go (inr k) = omega (arith, k .0)
 
-new-no-text : (t a b : List ℕ) (h p : ℕ) → New t a b → byte (rec t h) 0 ≡ 1 → textAt h p b ≡ false
-new-no-text t a b h p n k = false-by _ (λ e. go (n .kind) (text-true h p b e))
+-- a test that only entries pass, or that only the text of a heading of t passes, goes by neither
+pub new-entry : (t a b : List ℕ) → New t a b → (test : List ℕ → Bool) → ((r : List ℕ) → test r ≡ true → byte r 0 ≡ 2) → test b ≡ test a
+new-entry t a b n test k = false-by (test b) (λ e. new-no-entry t a b n (k b e)) ∙ sym (false-by (test a) (λ e. omega (arith, k a e, n .free)))
+
+pub new-text : (t a b : List ℕ) (h p : ℕ) → New t a b → byte (rec t h) 0 ≡ 1 → textAt h p b ≡ textAt h p a
+new-text t a b h p n k =
+    false-by (textAt h p b) (λ e. no (n .kind) (text-true h p b e))
+    ∙ sym (false-by (textAt h p a) (λ e. omega (arith, text-true h p a e .kind, n .free)))
   where
-    go : (byte b 0 ≡ 1) ⊎ ((byte b 0 ≡ 3) × (byte (rec t (headingOf b)) 0 ≡ 0)) → TextAt h p b → ⊥
-    go (inl j) x = omega (arith, x .kind)
-    go (inr j) x = let z : byte (rec t h) 0 ≡ 0 = subst (λ (y : ℕ). byte (rec t y) 0 ≡ 0) (x .heading) (j .1) in omega arith
+    no : (byte b 0 ≡ 1) ⊎ ((byte b 0 ≡ 3) × (byte (rec t (headingOf b)) 0 ≡ 0)) → TextAt h p b → ⊥
+    no (inl x) y = omega (arith, y .kind)
+    no (inr (x, z)) y = omega (arith, rw (y .heading) at z, k)
 
 module _ (t f : List ℕ) (g : Grown t f) where
   pub grown-rooms : rooms f ≡ rooms t
@@ -77,35 +69,30 @@ module _ (t f : List ℕ) (g : Grown t f) where
       go (inl e) = e
       go (inr e) = absurd (new-no-entry t (rec t i) (rec f i) e k)
 
-  -- a test that no new record passes, and no free one
-  same-test : (test : List ℕ → Bool) → ((a b : List ℕ) → New t a b → test b ≡ false) → ((r : List ℕ) → byte r 0 ≡ 0 → test r ≡ false)
-      → (i : ℕ) → i < rooms t → test (rec f i) ≡ test (rec t i)
-  same-test test new free i l = go (g .each i l)
+  -- a test that only entries pass says what it did
+  same-entry : (test : List ℕ → Bool) → ((r : List ℕ) → test r ≡ true → byte r 0 ≡ 2) → (i : ℕ) → i < rooms t → test (rec f i) ≡ test (rec t i)
+  same-entry test k i l = go (g .each i l)
     where
       go : (rec f i ≡ rec t i) ⊎ New t (rec t i) (rec f i) → test (rec f i) ≡ test (rec t i)
       go (inl e) = ap test e
-      go (inr e) = new (rec t i) (rec f i) e ∙ sym (free (rec t i) (e .free))
-
-  -- a test that only entries pass
-  same-entry : (test : List ℕ → Bool) → ((r : List ℕ) → byte r 0 ≢ 2 → test r ≡ false) → (i : ℕ) → i < rooms t → test (rec f i) ≡ test (rec t i)
-  same-entry test k = same-test test (λ a b n. k b (new-no-entry t a b n)) (λ r z. k r (omega arith))
+      go (inr e) = new-entry t (rec t i) (rec f i) e test k
 
   pub grown-named : (h : ℕ) → named f h ≡ named t h
   unfolding named
-  grown-named h = rw grown-rooms (any-cong _ _ (rooms t) (same-entry (names h) (not-names h)))
-
-  pub grown-peopled : (h : ℕ) → peopled f h ≡ peopled t h
-  unfolding peopled
-  grown-peopled h = rw grown-rooms (any-cong _ _ (rooms t) (same-entry (stands (inDirectory h)) (not-stands (inDirectory h))))
+  grown-named h = rw grown-rooms (any-cong _ _ (rooms t) (same-entry (names h) (names-kind h)))
 
   pub grown-crowd : (d : Holder) → crowd f d ≡ crowd t d
   unfolding crowd
-  grown-crowd d = rw grown-rooms (count-cong _ _ (rooms t) (same-entry (stands d) (not-stands d)))
+  grown-crowd d = rw grown-rooms (count-cong _ _ (rooms t) (same-entry (stands d) (λ r e. stands-true d r e .kind)))
 
   pub grown-find : (d : Holder) (n : List ℕ) → find f d n ≡ find t d n
   unfolding find
-  grown-find d n = rw grown-rooms (first-cong _ _ (rooms t) (same-entry (bears d n) (not-bears d n)))
+  grown-find d n = rw grown-rooms (first-cong _ _ (rooms t) (same-entry (bears d n) (λ r e. bears-stands d n r e .kind)))
 
   -- the text of a heading of t is where it was
   pub grown-text : (h p : ℕ) → byte (rec t h) 0 ≡ 1 → (i : ℕ) → i < rooms t → textAt h p (rec f i) ≡ textAt h p (rec t i)
-  grown-text h p k = same-test (textAt h p) (λ a b n. new-no-text t a b h p n k) (λ r z. false-by _ (λ e. omega (arith, text-true h p r e .kind)))
+  grown-text h p k i l = go (g .each i l)
+    where
+      go : (rec f i ≡ rec t i) ⊎ New t (rec t i) (rec f i) → textAt h p (rec f i) ≡ textAt h p (rec t i)
+      go (inl e) = ap (textAt h p) e
+      go (inr e) = new-text t (rec t i) (rec f i) h p e k

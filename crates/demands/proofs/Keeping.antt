@@ -2,47 +2,36 @@
 -- entry that it displaces or in a free record; a copy is no longer than its source's blocks, 24 bytes each.
 use mathlib.Core.Bool.{true, false}
 use mathlib.Core.List.{List, [], _∷_, _++_}
-use mathlib.Core.Logic.{inl, inr, _≢_, by-cases}
+use mathlib.Core.Logic.{inl, inr, _≢_}
 use mathlib.Core.Path.{_≡_, refl, ap}
-use Prim.Native.Nat.{ℕ, zero, suc, _+_, _*_, _^_, _-_, _≤_, _<_}
+use Prim.Native.Nat.{ℕ, _^_, _≤_, _<_}
 use native.Mathlib.Omega.{arith}
-use native.Mathlib.Decide.{ℕ-discrete}
-use lib.ListN.{length, length-append, length-take, length-drop}
+use lib.ListN.{length}
 use borrow.Author.Tests.{leb-false}
-use Rattle.paper.specs.Scan.{at, nowhere, joinBelow}
-use Rattle.paper.specs.Record.{byte, headingType, level, lifetime, held, headingRecord, entryCode}
-use Rattle.paper.specs.Table.{rooms, rec, frees, room, textRoom}
+use Rattle.paper.specs.Scan.{at, nowhere}
+use Rattle.paper.specs.Record.{byte, level, lifetime, headingRecord, entryCode}
+use Rattle.paper.specs.Table.{rooms, rec, frees, room}
 use Rattle.paper.specs.Name.{legalBase}
 use Rattle.paper.specs.Declaration.{Part, orElse}
 use Rattle.paper.specs.Line.{Word}
 use Rattle.paper.specs.Check.{Check}
-use Rattle.paper.specs.Block.{blocks, blocksOf, fileText}
 use Rattle.paper.specs.Code.{joined}
 use Rattle.paper.specs.Entry.{Holder, holder, full}
+use Rattle.paper.specs.Block.{blocks, fileText}
 use Rattle.paper.specs.Walk.{State, start, file, reached, toDirectory, lastName}
 use Rattle.paper.specs.Store.{puts, run}
 use Rattle.paper.specs.Effect.{Making, borne, losing, settled, chainOf, making, filing, readInhibited, notSimple, crdPlan, wrsPlan, cpyPlan, dupPlan, chnPlan}
-use Rattle.laws.proofs.Entries.{Stands}
-use Rattle.demands.proofs.Clauses.{Sound}
+use Rattle.laws.proofs.Entries.{Stands, found-stands}
+use Rattle.laws.proofs.Blocks.{file-most}
+use Rattle.demands.proofs.Clauses.{Sound, entry-code, length-most}
 use Rattle.demands.proofs.Formed.{Named, Last, named-last, named-some, Within, within-else}
 use Rattle.demands.proofs.Read.{CrdRead, WrsRead, CpyRead, DupRead, ChnRead}
-use Rattle.demands.proofs.Walked.{Ends, base, inside, heading-fields, entry-code, joined-code, walk-ends, ends-base, walk-reached}
+use Rattle.demands.proofs.Walked.{Ends, base, inside, joined-code, walk-ends, ends-base, walk-reached}
 use Rattle.demands.proofs.Built.{NewHeading, NewEntry}
-use Rattle.demands.proofs.Settled.{Grown, grown-none, found-stands, instead-found}
-use Rattle.demands.proofs.Displaced.{displaced-sound, grown-file}
-use Rattle.demands.proofs.Kept.{Keeps, onward-keeps, end-keeps, making-keeps, chn-keeps}
 use Rattle.demands.proofs.Filed.{length-file}
 use Rattle.demands.proofs.Made.{Made, Entered, made-sound, made-over, displaced-same, new-file, filing-made, linking, linking-made}
-
--- a text has at most 24 bytes a record
-held-few : (t : List ℕ) (i : ℕ) → length (held (rec t i)) ≤ 24
-unfolding held rec
-held-few t i = rw (length-take, length-drop, length-take) (omega arith)
-
-joined-few : (f : ℕ → List ℕ) (n : ℕ) → ((i : ℕ) → length (f i) ≤ 24) → length (joinBelow f n) ≤ n * 24
-unfolding joinBelow
-joined-few f zero h = omega arith
-joined-few f (suc n) h = rw length-append (omega (arith, joined-few f n h, h n))
+use Rattle.demands.proofs.Settled.{instead-found, displaced-sound}
+use Rattle.demands.proofs.Kept.{Keeps, holder-keeps, end-keeps, making-keeps, chn-keeps}
 
 -- a declared number, or the one taken where it is not given
 at-most : (b d : ℕ) (p : Part) → Within 0 b p → d ≤ b → orElse p d ≤ b
@@ -67,22 +56,22 @@ simple-heading lev code life n l b f s =
 
 module _ (t : List ℕ) (c : Sound t) where
   -- a new entry, given that it may be laid once there is room for the stores before it
-  made-keeps : (o : ℕ) (m : Making) → (length (m .first) ≤ length (frees t) → Made o t m × Grown t (run t (m .first)))
+  made-keeps : (o : ℕ) (m : Making) → (length (m .first) ≤ length (frees t) → Made o t m)
       → (thirteen fifteen : List Check) → Keeps t (making t m thirteen fifteen)
   made-keeps o m made = making-keeps t m over free
     where
       over : (e : ℕ) → borne t m ≡ at e → length (m .first) ≤ length (frees t) → losing t e (m .entry) ≡ false
           → Sound (run t (m .first ++ puts e (m .entry) ∷ settled t e (m .entry)))
       over e b l v =
-          let d = made l .0 in
+          let d = made l in
           let s : Stands (m .directory .holder) (m .entry) = stands-in (m .entry) (m .directory .holder) (d .fits .kind) (d .place) in
-          displaced-sound t (m .first) e (m .entry) c (made l .1) (found-stands t (m .directory .holder) (m .name) e b .1 .kind)
+          displaced-sound t (m .first) e (m .entry) c (d .before .grown) (found-stands t (m .directory .holder) (m .name) e b .1 .kind)
           (instead-found t (m .directory .holder) (m .name) e (m .entry) b (d .fits .size) s) v
           (rw (displaced-same o t m c d e b) (made-over o t m c d e b))
 
       free : borne t m ≡ nowhere → full t (m .directory .holder) ≡ false → length (m .first) < length (frees t)
           → Sound (run t (m .first ++ puts (room t (length (m .first))) (m .entry) ∷ []))
-      free b f l = made-sound o t m c (made (omega arith) .0) b (leb-false _ _ f) l
+      free b f l = made-sound o t m c (made (omega arith)) b (leb-false _ _ f) l
 
   -- a new file, whose heading and entry are as they should be
   filing-keeps : (place : ℕ) (w : Word) (d : State) (type lev code life : ℕ) (text : List ℕ) → NewHeading type lev code life (length text)
@@ -92,7 +81,7 @@ module _ (t : List ℕ) (c : Sound t) where
       made-keeps (room t 0) (filing t place w d code head text) (λ l.
       let roomy : blocks (length text) < length (frees t) = omega (arith, length-file t head text, l) in
       let n = new-file t type lev code life text h roomy in
-      (filing-made t place w d code head text c n x, grown-file t head text (c .few) (n .size) (n .kind) roomy))
+      filing-made t place w d code head text c n x)
     where
       head : List ℕ
       head = headingRecord type lev code life (length text)
@@ -127,13 +116,7 @@ module _ (t : List ℕ) (c : Sound t) where
 
   -- a copy has at most 24 bytes a block of its source
   copy-few : (h : ℕ) → h < rooms t → byte (rec t h) 0 ≡ 1 → length (fileText t h) ≤ 24000
-  unfolding fileText
-  copy-few h l k =
-      let o = c .own h l .heading k in
-      let few : length (fileText t h) ≤ blocksOf t h * 24 = joined-few _ (blocksOf t h) (λ p. held-few t (textRoom t h p)) in
-      by-cases (ℕ-discrete (headingType (rec t h)) 0)
-      (λ (z : headingType (rec t h) ≡ 0). omega (arith, few, o .directory z .1))
-      (λ (z : headingType (rec t h) ≢ 0). omega (arith, few, o .simple (omega (arith, heading-fields (rec t h) o .type))))
+  copy-few h l k = omega (arith, file-most t h, length-most (rec t h) (c .own h l .heading k))
 
   -- ---- each function
 
@@ -144,7 +127,7 @@ module _ (t : List ℕ) (c : Sound t) where
       let b : orElse code 0 ≤ 7 = at-most 7 0 code (h .code) (omega arith) in
       let n : NewHeading 0 (orElse lev 0) (orElse code 0) 1 0 =
       record { types = omega arith; levels = l; codes = b; least = omega arith; most = omega arith; size = omega arith; plain = λ _. (refl, refl) } in
-      onward-keeps t 1 (toDirectory t 1 (start u) (chainOf name)) _ (λ d q.
+      holder-keeps t u 1 name _ (λ d q.
       filing-keeps 1 name d 0 (orElse lev 0) (orElse code 0) 1 [] n (entered u name d (orElse code 0) m (h .name) b q) [] [])
 
   pub wrs-keeps : (u : ℕ) (text : List ℕ) (life : ℕ) (lev code : Part) (name : Word) → u ≤ 999999 → WrsRead text life lev code name
@@ -153,7 +136,7 @@ module _ (t : List ℕ) (c : Sound t) where
   wrs-keeps u text life lev code name m h =
       let l : orElse lev 0 ≤ 3 = at-most 3 0 lev (h .level) (omega arith) in
       let b : orElse code 0 ≤ 7 = at-most 7 0 code (h .code) (omega arith) in
-      onward-keeps t 2 (toDirectory t 1 (start u) (chainOf name)) _ (λ d q.
+      holder-keeps t u 2 name _ (λ d q.
       filing-keeps 2 name d 1 (orElse lev 0) (orElse code 0) life text (simple-heading _ _ life (length text) l b (h .lifetime) (h .text))
       (entered u name d (orElse code 0) m (h .name) b q) [] [])
 
@@ -161,7 +144,7 @@ module _ (t : List ℕ) (c : Sound t) where
       → Keeps t (cpyPlan t u old new life lev code)
   unfolding cpyPlan
   cpy-keeps u old new life lev code m h =
-      end-keeps t u 1 old _ (λ e f _ r. onward-keeps t 2 (toDirectory t 1 (start u) (chainOf new)) _ (λ d q.
+      end-keeps t u 1 old _ (λ e f _ r. holder-keeps t u 2 new _ (λ d q.
       let source : List ℕ = rec t (file t f) in
       let s = walk-reached 65535 t c e (chainOf old) f r in
       let l : orElse lev (level source) ≤ 3 = at-most 3 (level source) lev (h .level) (s .fields .level) in
@@ -174,13 +157,13 @@ module _ (t : List ℕ) (c : Sound t) where
   pub dup-keeps : (u : ℕ) (old new : Word) (code : Part) → u ≤ 999999 → DupRead old new code → Keeps t (dupPlan t u old new code)
   unfolding dupPlan run
   dup-keeps u old new code m h =
-      end-keeps t u 1 old _ (λ e f _ r. onward-keeps t 2 (toDirectory t 1 (start u) (chainOf new)) _ (λ d q.
+      end-keeps t u 1 old _ (λ e f _ r. holder-keeps t u 2 new _ (λ d q.
       let s = walk-reached 65535 t c e (chainOf old) f r in
       let b : orElse code 0 ≤ 7 = at-most 7 0 code (h .code) (omega arith) in
       let j : ℕ = joined (entryCode (rec t (f .entry))) (orElse code 0) in
       let x = entered u new d j m (h .new) (joined-code _ _ (entry-code (rec t (f .entry)) (s .own)) b) q in
       made-keeps 65535 (linking 2 d j (file t f) (lastName (chainOf new)))
-      (λ _. (linking-made t 2 d j (file t f) (lastName (chainOf new)) c (s .heading) x, grown-none t)) [] []))
+      (λ _. linking-made t 2 d j (file t f) (lastName (chainOf new)) c (s .heading) x) [] []))
 
   pub chn-kept : (u : ℕ) (old link : Word) → ChnRead old link → Keeps t (chnPlan t u old link)
   chn-kept u old link h =

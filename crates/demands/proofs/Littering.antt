@@ -1,59 +1,48 @@
 -- A new file's heading and text, before its entry stands, are debris: they lie in free records, no entry names a free record,
 -- and the text's heading is a free record of the table before.
-use mathlib.Core.Bool.{true, false}
 use mathlib.Core.List.{List}
-use mathlib.Core.Path.{_≡_, refl}
-use Prim.Native.Nat.{ℕ, _+_, _^_, _<_}
+use mathlib.Core.Logic.{inl, inr}
+use mathlib.Core.Path.{_≡_}
+use Prim.Native.Nat.{ℕ, _+_, _≤_, _<_}
 use native.Mathlib.Omega.{arith}
-use lib.ListN.{length, length-take}
-use Rattle.paper.specs.Record.{byte, names, headingNamed, blank, textRecord}
+use lib.ListN.{length}
+use Rattle.paper.specs.Record.{blank}
 use Rattle.paper.specs.Table.{rooms, rec, frees, room}
 use Rattle.paper.specs.Block.{blocks, block}
-use Rattle.paper.specs.Entry.{named}
-use Rattle.paper.specs.Store.{puts}
+use Rattle.paper.specs.Store.{Store}
 use Rattle.paper.specs.Effect.{newFile}
-use Rattle.laws.proofs.Tests.{false-by}
-use Rattle.laws.proofs.Scans.{any-true}
-use Rattle.laws.proofs.Lists.{Every, every-each}
-use Rattle.laws.proofs.Entries.{names-kind, names-heading}
-use Rattle.demands.proofs.Rooms.{room-below, room-kind}
-use Rattle.demands.proofs.Built.{length-text, text-heading}
-use Rattle.demands.proofs.Debris.{heading, text}
-use Rattle.demands.proofs.Facts.{Facts}
+use Rattle.laws.proofs.Lists.{Every, every-imp}
+use Rattle.laws.proofs.Fields.{text-heading}
+use Rattle.laws.proofs.Lay.{length-rec}
+use Rattle.laws.proofs.Runs.{Lays}
+use Rattle.laws.proofs.Rooms.{room-below, room-kind, free-blank}
+use Rattle.demands.proofs.Clauses.{Sound}
+use Rattle.demands.proofs.Points.{no-heading-unnamed}
+use Rattle.demands.proofs.Filed.{Roomy, Laid, each-laid, was-free, text-kind, small}
+use Rattle.demands.proofs.Debris.{Goes, heading, text}
 use Rattle.demands.proofs.Cut.{Litters}
 
-module _ (t : List ℕ) (c : Facts t) where
-  -- no entry names a free record
-  unnamed : (a : ℕ) → rec t a ≡ blank → named t a ≡ false
-  unfolding named blank
-  unnamed a z = false-by (named t a) (λ n. let s = any-true (λ i. names a (rec t i)) (rooms t) n in one (s .0) (s .1) (s .2))
-    where
-      one : (i : ℕ) → i < rooms t → names a (rec t i) ≡ true → ⊥
-      one i l n =
-          let o : byte (rec t (headingNamed (rec t i))) 0 ≡ 1 = c .entries i l (names-kind a (rec t i) n) in
-          omega (arith, rw (names-heading a (rec t i) n, z) at o)
-
+module _ (t : List ℕ) (c : Sound t) where
   free : (m : ℕ) → m < length (frees t) → rec t (room t m) ≡ blank
-  free m l = c .blanks (room t m) (room-below t m l) (room-kind t m l)
+  free m l = let b = room-below t m l in free-blank (rec t (room t m)) (length-rec t (room t m) b) (c .own (room t m) b .free (room-kind t m l))
 
-  -- given as many free records as there are stores
-  module _ (head body : List ℕ) (k : byte head 0 ≡ 1) (e : length head ≡ 32) (enough : blocks (length body) < length (frees t)) where
-    first : 0 < length (frees t)
-    first = omega arith
+  pub littering : (head body : List ℕ) → Roomy t head body → Every (Litters t) (newFile t head body)
+  unfolding blank
+  littering head body n = every-imp (Lays (Laid t head body n) (rooms t)) (Litters t) (newFile t head body) one (each-laid t head body n)
+    where
+      at-room : (m : ℕ) → m ≤ blocks (length body) → rec t (room t m) ≡ blank
+      at-room m l = free m (omega (arith, n .room))
 
-    one : (p : ℕ) → p < blocks (length body) → Litters t (puts (room t (p + 1)) (textRecord (room t 0) p (block body p)))
-    unfolding textRecord blank
-    one p b =
-        let h : room t 0 < 256 ^ 2 = omega (arith, room-below t 0 first, c .few) in
-        record {
-          within = room-below t (p + 1) (omega arith);
-          size = length-text (room t 0) p (block body p) (unfold block in rw length-take (omega arith));
-          holds = (free (p + 1) (omega arith), text refl (rw (text-heading (room t 0) p (block body p) h, free 0 first)));
-        }
+      debris : (i : ℕ) (r : List ℕ) → Laid t head body n i r → (rec t i ≡ blank) × Goes t i r
+      debris i r (inl (e, q)) = (
+        rw e (at-room 0 (omega arith)),
+        heading (rw q (n .kind)) (rw e (no-heading-unnamed 65535 t c (room t 0) (omega (arith, was-free t head body n 0 (omega arith))))),
+      )
+      debris i r (inr (p, l, e, q)) = (
+        rw e (at-room (p + 1) (omega arith)),
+        text (rw q (text-kind t head body n p))
+            (rw (q, text-heading (room t 0) p (block body p) (small t head body n (c .few)), at-room 0 (omega arith))),
+      )
 
-    pub new-file : Every (Litters t) (newFile t head body)
-    unfolding newFile
-    new-file = (
-      record { within = room-below t 0 first; size = e; holds = (free 0 first, heading k (unnamed (room t 0) (free 0 first))) },
-      every-each _ _ (blocks (length body)) one,
-    )
+      one : (s : Store) → Lays (Laid t head body n) (rooms t) s → Litters t s
+      one s l = record { within = l .within; size = l .size; holds = debris (s .at) (s .bytes) (l .holds) }

@@ -11,25 +11,25 @@ use lib.ListN.{length}
 use Rattle.paper.specs.Scan.{eachBelow}
 use Rattle.paper.specs.Record.{byte, names, headingNamed, blank}
 use Rattle.paper.specs.Table.{rooms, rec, lay, textRoom}
-use Rattle.paper.specs.Block.{blocksOf}
 use Rattle.paper.specs.Entry.{named}
+use Rattle.paper.specs.Block.{blocksOf}
 use Rattle.paper.specs.Store.{Store, puts, clear, run}
 use Rattle.paper.specs.Effect.{freed, lost, settled}
 use Rattle.laws.proofs.Tests.{truth, not-both, false-by}
 use Rattle.laws.proofs.Scans.{any-true, any-here}
 use Rattle.laws.proofs.Lists.{Every, every-each}
-use Rattle.laws.proofs.Lay.{Whole, lay-same, lay-other, rooms-lay, length-blank}
+use Rattle.laws.proofs.Lay.{Whole, lay-same, lay-other, rooms-lay, length-blank, within, kinds-apart}
 use Rattle.laws.proofs.Runs.{Lays, run-each, rooms-run}
-use Rattle.demands.proofs.Debris.{Kept, Goes, heading, text}
-use Rattle.demands.proofs.Cleared.{within, kinds-apart}
-use Rattle.demands.proofs.Facts.{Facts}
+use Rattle.demands.proofs.Clauses.{Sound}
+use Rattle.demands.proofs.Freed.{text-found}
+use Rattle.demands.proofs.Debris.{Kept, Goes, heading, text, sound-keeps}
 use Rattle.demands.proofs.Cut.{Litters, Sweeps, counted, run-counted, rooms-counted, Cut, power-cut}
 
 -- what is not free is left by stores of debris
 stays : (t : List ℕ) (pre : List Store) → Whole t → Every (Litters t) pre
     → (k i : ℕ) → byte (rec t i) 0 ≡ suc k → rec (run t pre) i ≡ rec t i
 unfolding blank
-stays t pre w lit k i q = go (run-each _ t pre lit i (within t k i w q))
+stays t pre w lit k i q = go (run-each _ t pre lit i (within t i w (omega arith)))
   where
     go : (rec (run t pre) i ≡ rec t i) ⊎ ((rec t i ≡ blank) × Goes t i (rec (run t pre) i)) → rec (run t pre) i ≡ rec t i
     go (inl e) = e
@@ -40,7 +40,7 @@ goes-nameless : (f : List ℕ) (i h : ℕ) (r : List ℕ) → Goes f i r → nam
 goes-nameless f i h r (heading c n) = rw c
 goes-nameless f i h r (text c n) = rw c
 
-module _ (t : List ℕ) (c : Facts t) (pre : List Store) (lit : Every (Litters t) pre) (e : ℕ) (r : List ℕ)
+module _ (t : List ℕ) (c : Sound t) (pre : List Store) (lit : Every (Litters t) pre) (e : ℕ) (r : List ℕ)
     (ke : byte (rec t e) 0 ≡ 2) (lr : length r ≡ 32) where
   m : List ℕ
   m = counted t pre (puts e r)
@@ -50,7 +50,7 @@ module _ (t : List ℕ) (c : Facts t) (pre : List Store) (lit : Every (Litters t
   rooms-m = rooms-counted t pre (puts e r)
 
   in-e : e < rooms t
-  in-e = within t 1 e (c .whole) ke
+  in-e = within t e (c .whole) (omega arith)
 
   rec-e : rec m e ≡ r
   unfolding m
@@ -61,7 +61,7 @@ module _ (t : List ℕ) (c : Facts t) (pre : List Store) (lit : Every (Litters t
   other i l d = lay-other (run t pre) e r i lr d (rw (rooms-run t pre) l)
 
   stays-m : (k i : ℕ) → i ≢ e → byte (rec t i) 0 ≡ suc k → rec m i ≡ rec t i
-  stays-m k i d q = other i (within t k i (c .whole) q) d ∙ stays t pre (c .whole) lit k i q
+  stays-m k i d q = other i (within t i (c .whole) (omega arith)) d ∙ stays t pre (c .whole) lit k i q
 
   -- what names a heading with the debris names it without
   names-m : (h i : ℕ) → i < rooms t → names h (rec m i) ≡ true → named (lay t e r) h ≡ true
@@ -84,10 +84,10 @@ module _ (t : List ℕ) (c : Facts t) (pre : List Store) (lit : Every (Litters t
 
   kh : byte (rec t h) 0 ≡ 1
   unfolding h
-  kh = c .entries e in-e ke
+  kh = c .targets e in-e ke
 
   in-h : h < rooms t
-  in-h = within t 0 h (c .whole) kh
+  in-h = within t h (c .whole) (omega (arith, kh))
 
   -- the file is lost
   module _ (lose : named (lay t e r) h ≡ false) where
@@ -100,7 +100,7 @@ module _ (t : List ℕ) (c : Facts t) (pre : List Store) (lit : Every (Litters t
 
     clears-texts : Every (Lays (λ i x. x ≡ blank) (rooms t)) texts
     unfolding texts
-    clears-texts = every-each _ _ (blocksOf t h) (λ p b. record { within = c .texts h p in-h kh b .0; size = length-blank; holds = refl })
+    clears-texts = every-each _ _ (blocksOf t h) (λ p b. record { within = text-found 65535 t h c kh p b .0; size = length-blank; holds = refl })
 
     is-f : f ≡ run (lay m h blank) texts
     unfolding f freed run texts
@@ -151,7 +151,7 @@ module _ (t : List ℕ) (c : Facts t) (pre : List Store) (lit : Every (Litters t
         one : (p : ℕ) → p < blocksOf t h → Sweeps f m (clear (textRoom t h p))
         one p b =
             let i : ℕ = textRoom t h p in
-            let g = c .texts h p in-h kh b in
+            let g = text-found 65535 t h c kh p b in
             let s : rec m i ≡ rec t i = stays-m 2 i (kinds-apart t i e 3 2 (g .1 .kind) ke (omega arith)) (g .1 .kind) in
             record {
               within = rw rooms-m (g .0);
@@ -173,12 +173,12 @@ module _ (t : List ℕ) (e : ℕ) (r : List ℕ) where
   settled-freed n = rw n
 
 -- an entry overwritten or cleared, after stores of debris: the table before or the table after
-pub losing-cut : (t : List ℕ) → Facts t → (pre : List Store) → Every (Litters t) pre
+pub losing-cut : (t : List ℕ) → Sound t → (pre : List Store) → Every (Litters t) pre
     → (e : ℕ) (r : List ℕ) → byte (rec t e) 0 ≡ 2 → length r ≡ 32
     → Kept (run t (pre ++ puts e r ∷ settled t e r)) → (k : ℕ) → Cut t (pre ++ puts e r ∷ settled t e r) k
 unfolding h f m
 losing-cut t c pre lit e r ke lr d =
-    power-cut t pre (puts e r) (settled t e r) (c .whole) (c .kept) d lit (go (truth (still-named t e r)))
+    power-cut t pre (puts e r) (settled t e r) (c .whole) (sound-keeps t c) d lit (go (truth (still-named t e r)))
   where
     go : (still-named t e r ≡ true) ⊎ (still-named t e r ≡ false)
         → Every (Sweeps (run t (pre ++ puts e r ∷ settled t e r)) (counted t pre (puts e r))) (settled t e r)

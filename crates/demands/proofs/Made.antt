@@ -19,16 +19,16 @@ use Rattle.paper.specs.Walk.{State, lastName}
 use Rattle.paper.specs.Store.{Store, puts, run}
 use Rattle.paper.specs.Effect.{Making, borne, placing, newFile, chainOf, entryIn, filing}
 use Rattle.laws.proofs.Tests.{or-left, or-right}
-use Rattle.laws.proofs.Scans.{first-at}
-use Rattle.laws.proofs.Entries.{bears-stands}
+use Rattle.laws.proofs.Fields.{heading-length, entry-record-kind, length-entry, entry-holder, entry-heading, entry-user, entry-name}
+use Rattle.laws.proofs.Entries.{link-short, found-bears, found-stands}
+use Rattle.laws.proofs.Lay.{within}
 use Rattle.laws.proofs.Runs.{run-append, rooms-run}
+use Rattle.laws.proofs.Rooms.{room-below, room-kind}
 use Rattle.demands.proofs.Clauses.{SoundBut, Sound}
-use Rattle.demands.proofs.Points.{within}
-use Rattle.demands.proofs.Rooms.{room-below, room-kind}
-use Rattle.demands.proofs.Built.{NewHeading, NewEntry, legal-length, length-heading, heading-record-kind, own-heading, heading-length, entry-record-kind, length-entry, entry-holder, entry-heading, entry-user, entry-name, own-entry}
+use Rattle.demands.proofs.Built.{NewHeading, NewEntry, own-heading, own-entry}
 use Rattle.demands.proofs.Grown.{Grown, grown-none, grown-stays, grown-find, grown-crowd}
-use Rattle.demands.proofs.Filed.{NewFile, length-file, heading-there, small, still-free, filed-grown}
-use Rattle.demands.proofs.FiledSound.{grown-holder, filed-sound}
+use Rattle.demands.proofs.Filed.{roomy, length-file, heading-there, small, still-free, filed-grown}
+use Rattle.demands.proofs.FiledSound.{grown-holder, NewFile, filed-sound}
 use Rattle.demands.proofs.Placed.{Fits, placed-free, placed-over}
 
 -- the stores before a new entry, which is to name heading o if that is new
@@ -47,8 +47,8 @@ pub before-file : (t heading text : List ℕ) → Sound t → NewFile t heading 
 before-file t heading text c n =
     record {
       sound = filed-sound t heading text c n;
-      grown = filed-grown t heading text n (c .few);
-      next = λ l. still-free t heading text n (length (newFile t heading text)) (omega (arith, length-file t heading text)) l;
+      grown = filed-grown t heading text (n .laid) (c .few);
+      next = λ l. still-free t heading text (n .laid) (length (newFile t heading text)) (omega (arith, length-file t heading text)) l;
     }
 
 -- a new entry: the stores before it, and its record in the table after them
@@ -81,19 +81,18 @@ module _ (o : ℕ) (t : List ℕ) (m : Making) (c : Sound t) (d : Made o t m) wh
 
   -- an entry is displaced: it is as it was, and the table is sound but for its file
   module _ (e : ℕ) (b : borne t m ≡ at e) where
-    pub displaced-there : (e < rooms t) × (bears (m .directory .holder) (m .name) (rec t e) ≡ true)
-    unfolding find
-    displaced-there = let g = first-at (λ i. bears (m .directory .holder) (m .name) (rec t i)) (rooms t) e b in (g .below, g .passes)
-
     pub displaced-same : rec f e ≡ rec t e
-    displaced-same = grown-stays t f (d .before .grown) e (c .whole) (omega (arith, bears-stands _ _ _ (displaced-there .1) .kind))
+    displaced-same = grown-stays t f (d .before .grown) e (c .whole) (omega (arith, found-stands t (m .directory .holder) (m .name) e b .1 .kind))
 
     pub made-over : SoundBut (headingNamed (rec t e)) (lay (run t (m .first)) e (m .entry))
     made-over =
         rw displaced-same at
-        (placed-over o f e (m .entry) (d .before .sound) (d .fits) (rw rooms-run (displaced-there .0))
+        (placed-over o f e (m .entry) (d .before .sound) (d .fits) (rw rooms-run (there .0))
         (rw displaced-same
-        (subst (λ (x : Holder). bears x (nameOf (m .entry)) (rec t e) ≡ true) (sym (d .place)) (rw (d .name) (displaced-there .1)))))
+        (subst (λ (x : Holder). bears x (nameOf (m .entry)) (rec t e) ≡ true) (sym (d .place)) (rw (d .name) (there .1)))))
+      where
+        there : (e < rooms t) × (bears (m .directory .holder) (m .name) (rec t e) ≡ true)
+        there = found-bears t (m .directory .holder) (m .name) e b
 
 -- ---- the entries of CRD, WRS, CPY and DUP
 
@@ -116,7 +115,7 @@ module _ (t : List ℕ) (d : Holder) (code heading : ℕ) (name : List ℕ) (x :
   entry-place = λ i. record { heading = at-heading i; user = at-user i }
 
   entry-named : nameOf r ≡ name
-  entry-named = entry-name code (d .heading) heading (d .user) name (legal-length name (x .fields .legal))
+  entry-named = entry-name code (d .heading) heading (d .user) name (link-short name (x .fields .legal) .1)
 
   entry-held : holderThere t 0 r ≡ true
   entry-held = go (x .there)
@@ -130,7 +129,7 @@ module _ (t : List ℕ) (d : Holder) (code heading : ℕ) (name : List ℕ) (x :
   entry-fits o f c g l k n =
       let e : headingNamed r ≡ heading = entry-heading code (d .heading) heading (d .user) name l in
       record {
-        size = length-entry code (d .heading) heading (d .user) name (legal-length name (x .fields .legal));
+        size = length-entry code (d .heading) heading (d .user) name (link-short name (x .fields .legal) .1);
         kind = entry-record-kind code (d .heading) heading (d .user) name;
         own = own-entry code (d .heading) heading (d .user) name (x .fields);
         held = grown-holder t f c g 0 r entry-held;
@@ -143,12 +142,10 @@ pub new-file : (t : List ℕ) (type lev code life : ℕ) (text : List ℕ) → N
     → NewFile t (headingRecord type lev code life (length text)) text
 new-file t type lev code life text h l =
     record {
-      size = length-heading type lev code life (length text);
-      kind = heading-record-kind type lev code life (length text);
+      laid = roomy t type lev code life (length text) text l;
       own = own-heading type lev code life (length text) h;
       bytes = heading-length type lev code life (length text) (omega (arith, h .size));
       short = h .size;
-      room = l;
     }
 
 -- CRD, WRS, CPY: a new file and its entry
@@ -160,7 +157,7 @@ filing-made t place w d code heading text c n x =
       before = b;
       fits =
           entry-fits t (d .holder) code (room t 0) (lastName (chainOf w)) x (room t 0) (run t (newFile t heading text)) c (b .grown)
-          (small t heading text n (c .few)) (rw (heading-there t heading text n) (n .kind)) (inl refl);
+          (small t heading text (n .laid) (c .few)) (rw (heading-there t heading text (n .laid)) (n .laid .kind)) (inl refl);
       place = entry-place t (d .holder) code (room t 0) (lastName (chainOf w)) x;
       name = entry-named t (d .holder) code (room t 0) (lastName (chainOf w)) x;
     }

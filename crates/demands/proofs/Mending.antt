@@ -18,10 +18,9 @@ use Rattle.paper.specs.Answer.{Outcome, plain, mendable, mendRun, mending}
 use Rattle.laws.proofs.Tests.{truth, and-left}
 use Rattle.laws.proofs.Lay.{Whole}
 use Rattle.laws.proofs.Runs.{length-run}
-use Rattle.demands.proofs.Debris.{nothing-to-mend, mended-kept}
-use Rattle.demands.proofs.Again.{again}
 use Rattle.demands.proofs.Clauses.{sound-clauses}
-use Rattle.demands.proofs.Facts.{facts}
+use Rattle.demands.proofs.Debris.{nothing-to-mend, mended-kept, sound-keeps, mended-sound}
+use Rattle.demands.proofs.Again.{again}
 use Rattle.demands.proofs.MendAnswered.{MendCame, unsized, unsound, whole, cutOff, mend-came, mend-answered}
 
 -- a mend that is not cut
@@ -54,7 +53,7 @@ pub mend-nothing : (t : List ℕ) (k : ℕ) → sized t ≡ true → sound t ≡
     → mending t k ≡ record { answer = plain 0 0 0 0; table = t; reply = [] }
 unfolding mending mendable verdict run
 mend-nothing t k s e =
-    let c = facts t (sound-clauses t s e) .kept in
+    let c = sound-keeps t (sound-clauses t s e) in
     rw (mended-kept t c, s, e, nothing-to-mend t c, le-leb 0 k (omega arith))
 
 -- the table and the number where the stop number is not reached
@@ -99,7 +98,7 @@ module _ (t : List ℕ) (k : ℕ) where
       go : MendCame t k (mending t k) → mended (mending t k .table) ≡ mended t
       go (unsized a e) = rw e
       go (unsound a b e) = rw e
-      go (whole a b m e) = rw e (mended-kept (mended t) (facts (mended t) (sound-clauses (mended t) (sized-mended t a) b) .kept))
+      go (whole a b m e) = rw e (mended-sound (mended t) (sound-clauses (mended t) (sized-mended t a) b))
       go (cutOff a b m e) = rw e (again t (size a) k)
 
   same-verdict : mendable (mending t k .table) ≡ mendable t

@@ -1,77 +1,21 @@
 -- Every refusal of a walk or a plan has a number of the list and the place that goes with it.
 -- Each stands in one check with its number and its place written there, and a walk stops with 11, 12 or 13 alone.
-use mathlib.Core.Bool.{not}
 use mathlib.Core.List.{List, [], _∷_, _++_}
-use mathlib.Core.Logic.{_⊎_, inl, inr}
-use mathlib.Core.Path.{_≡_, refl}
-use Prim.Native.Nat.{ℕ, suc, _≤_}
+use mathlib.Core.Logic.{inl, inr}
+use mathlib.Core.Path.{refl}
+use Prim.Native.Nat.{ℕ, _≤_}
 use native.Mathlib.Omega.{arith}
 use lib.ListN.{length}
 use borrow.Author.Tests.{ltb-false}
-use Rattle.paper.specs.Declaration.{Part, fits}
+use Rattle.paper.specs.Declaration.{Part}
 use Rattle.paper.specs.Line.{Word}
-use Rattle.paper.specs.Walk.{lastName, State, start, file, Step, on, off, looked, look, enter, then, follow, Walked, reached, stopped, linked, toDirectory, toLast}
-use Rattle.paper.specs.Check.{Check}
-use Rattle.laws.proofs.Lists.{Every, every-append}
-use Rattle.paper.specs.Scan.{Found, at, nowhere}
-use Rattle.paper.specs.Record.{directory}
-use Rattle.paper.specs.Table.{rec}
-use Rattle.paper.specs.Code.{noRead}
-use Rattle.paper.specs.Entry.{find}
-use Rattle.paper.specs.Effect.{Plan, Planned, plan, halted, onward, chainOf, toHolder, toEnd, Making, making, writing, readInhibited, notSimple, noDirectory, writeInhibited, tooShort, crdPlan, wrsPlan, rdsPlan, cpyPlan, dupPlan, chnPlan, delPlan, dprPlan, lstPlan, lstBasePlan}
-use Rattle.demands.proofs.Basics.{either, every-parts}
-use Rattle.demands.proofs.Fair.{Idle, Fair, FairCheck, fair-line, fair-at}
-
--- ---- walking
-
--- numbers 11, 12 and 13
-abbrev Walks : ℕ → Type 0
-Walks n = ((n ≡ 11) ⊎ (n ≡ 12)) ⊎ (n ≡ 13)
-
-abbrev Steps : Step → Type 0
-Steps (on s) = Unit {0}
-Steps (off n) = Walks n
-
-abbrev Stops : Walked → Type 0
-Stops (reached s) = Unit {0}
-Stops (stopped n link) = Walks n
-
-steps-look : (t : List ℕ) (s : State) (n : List ℕ) → Steps (look t s n)
-unfolding look
-steps-look t s n = go (find t (s .holder) n)
-  where
-    go : (x : Found) → Steps (looked t s x)
-    go (at e) = tt
-    go nowhere = inl (inl refl)
-
-steps-enter : (t : List ℕ) (s : State) → Steps (enter t s)
-unfolding enter
-steps-enter t s =
-    either Steps (not (directory (rec t (file t s)))) _ _ (inl (inr refl)) (either Steps (noRead (s .code)) _ _ (inr refl) tt)
-
-steps-follow : (t : List ℕ) (s : State) (n : List ℕ) → Steps (follow t s n)
-unfolding follow
-steps-follow t s n = go (look t s n) (steps-look t s n)
-  where
-    go : (x : Step) → Steps x → Steps (then x (enter t))
-    go (on s) h = steps-enter t s
-    go (off n) h = h
-
-stops-linked : (k : ℕ) (x : Step) (f : State → Walked) → Steps x → ((s : State) → Stops (f s)) → Stops (linked k x f)
-stops-linked k (on s) f h g = g s
-stops-linked k (off n) f h g = h
-
-stops-directory : (t : List ℕ) (k : ℕ) (s : State) (ns : List (List ℕ)) → Stops (toDirectory t k s ns)
-unfolding toDirectory
-stops-directory t k s [] = tt
-stops-directory t k s (n ∷ []) = tt
-stops-directory t k s (n ∷ m ∷ ns) =
-    stops-linked k (follow t s n) _ (steps-follow t s n) (λ d. stops-directory t (suc k) d (m ∷ ns))
-
-stops-last : (t : List ℕ) (d : State) (ns : List (List ℕ)) → Stops (toLast t d ns)
-stops-last t d ns = stops-linked (length ns) (look t d (lastName ns)) reached (steps-look t d (lastName ns)) (λ s. tt)
-
--- ---- plans
+use Rattle.paper.specs.Check.{Refusal, Check}
+use Rattle.paper.specs.Walk.{State}
+use Rattle.paper.specs.Effect.{Plan, Planned, plan, halted, toHolder, toEnd, Making, making, writing, readInhibited, notSimple, noDirectory, writeInhibited, tooShort, crdPlan, wrsPlan, rdsPlan, cpyPlan, dupPlan, chnPlan, delPlan, dprPlan, lstPlan, lstBasePlan}
+use Rattle.laws.proofs.Lists.{Every, every-append, every-parts}
+use Rattle.demands.proofs.Fair.{Idle, Fair, FairCheck, verdict-fair, fair-line, fair-at}
+use Rattle.demands.proofs.Steps.{Walks, holder-by, end-by}
+use Rattle.demands.proofs.Ended.{Refused, walking, checked}
 
 -- a plan's refusals are fair, and what it writes fits the reply buffer where no check holds
 pub record FairPlan (reply : List ℕ) (p : Plan) : Type 0 where
@@ -82,22 +26,24 @@ abbrev pub FairPlanned : List ℕ → Planned → Type 0
 FairPlanned reply (plan p) = FairPlan reply p
 FairPlanned reply (halted f) = Fair f
 
-fair-onward : (reply : List ℕ) (place : ℕ) (w : Walked) (f : State → Planned) → 1 ≤ place → Stops w → ((s : State) → FairPlanned reply (f s))
-    → FairPlanned reply (onward place w f)
-fair-onward reply place (reached s) f l h g = g s
-fair-onward reply place (stopped n link) f l (inl (inl e)) g = rw e (fair-at 11 place link refl l)
-fair-onward reply place (stopped n link) f l (inl (inr e)) g = rw e (fair-at 12 place link refl l)
-fair-onward reply place (stopped n link) f l (inr e) g = rw e (fair-at 13 place link refl l)
+-- the refusal of a plan, at its walks or its checks
+pub fair-refused : (reply : List ℕ) (x : Planned) (f : Refusal) → FairPlanned reply x → Refused x f → Fair f
+fair-refused reply x f h (walking e) = rw e at h
+fair-refused reply x f h (checked p e v) = let g : FairPlan reply p = rw e at h in verdict-fair (p .checks) f (g .checks) v
+
+fair-walk : (reply : List ℕ) (place : ℕ) → 1 ≤ place → (n link : ℕ) → Walks n → FairPlanned reply (halted (record { number = n; place = place; link = link }))
+fair-walk reply place l n link (inl (inl e)) = rw e (fair-at 11 place link refl l)
+fair-walk reply place l n link (inl (inr e)) = rw e (fair-at 12 place link refl l)
+fair-walk reply place l n link (inr e) = rw e (fair-at 13 place link refl l)
 
 module _ (t reply : List ℕ) (u : ℕ) where
   fair-holder : (place : ℕ) (w : Word) (f : State → Planned) → 1 ≤ place → ((d : State) → FairPlanned reply (f d))
       → FairPlanned reply (toHolder t u place w f)
-  fair-holder place w f l g = fair-onward reply place (toDirectory t 1 (start u) (chainOf w)) f l (stops-directory t 1 (start u) (chainOf w)) g
+  fair-holder place w f l g = holder-by (FairPlanned reply) place (fair-walk reply place l) t u w f (λ d _. g d)
 
   fair-end : (place : ℕ) (w : Word) (f : State → State → Planned) → 1 ≤ place → ((d s : State) → FairPlanned reply (f d s))
       → FairPlanned reply (toEnd t u place w f)
-  fair-end place w f l g =
-      fair-holder place w _ l (λ d. fair-onward reply place (toLast t d (chainOf w)) (f d) l (stops-last t d (chainOf w)) (g d))
+  fair-end place w f l g = end-by (FairPlanned reply) place (fair-walk reply place l) t u w f (λ d s _ _. g d s)
 
   -- a new entry: 14, 17 and 18 at its place, 19 of the whole; and 13 and 15 of the old name
   fair-making : (m : Making) (thirteen fifteen : List Check) → 1 ≤ m .place → Every FairCheck thirteen → Every FairCheck fifteen

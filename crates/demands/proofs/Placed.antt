@@ -3,7 +3,7 @@
 use mathlib.Core.Bool.{true, false}
 use mathlib.Core.List.{List}
 use mathlib.Core.Logic.{_⊎_, inl, inr, _≢_, by-cases}
-use mathlib.Core.Path.{_≡_, refl, sym, ap, _∙_, subst}
+use mathlib.Core.Path.{_≡_, sym, ap, _∙_, subst}
 use Prim.Native.Nat.{ℕ, _≤_, _<_}
 use native.Mathlib.Omega.{arith}
 use native.Mathlib.Decide.{ℕ-discrete}
@@ -17,10 +17,10 @@ use Rattle.paper.specs.Sound.{holderThere, textInPlace}
 use Rattle.laws.proofs.Tests.{truth, not-both, false-by}
 use Rattle.laws.proofs.Scans.{any-true, any-here, any-false, first-nowhere}
 use Rattle.laws.proofs.Counts.{count-cong, count-more-at}
-use Rattle.laws.proofs.Entries.{Stands, stands-true, stands-holder, bears-stands, bears-name, bears-by, names-kind, names-heading, names-by, text-true}
-use Rattle.laws.proofs.Lay.{lay-same, lay-other, rooms-lay, length-lay}
+use Rattle.laws.proofs.Entries.{Stands, stands-true, stands-holder, bears-stands, bears-both, bears-back, names-kind, names-heading, names-by, text-true}
+use Rattle.laws.proofs.Lay.{lay-same, lay-other, rooms-lay, length-lay, within}
 use Rattle.demands.proofs.Clauses.{Own, SoundBut, Sound}
-use Rattle.demands.proofs.Points.{within, holder-stays, text-points}
+use Rattle.demands.proofs.Points.{holder-stays, text-points}
 
 -- entry r may be laid at e in t, where o is the heading that no entry need name before, and o′ the one after
 pub record Placing (o o′ : ℕ) (t : List ℕ) (e : ℕ) (r : List ℕ) : Type 0 where
@@ -35,18 +35,6 @@ pub record Placing (o o′ : ℕ) (t : List ℕ) (e : ℕ) (r : List ℕ) : Type
   pub roomy : (d : Holder) → crowd (lay t e r) d ≤ limit d
   pub new : (o ≡ headingNamed r) ⊎ (o ≡ 65535)
   pub left : (h : ℕ) → names h (rec t e) ≡ true → h ≡ o′
-
--- two entries that bear one name in one place: the second bears the first's
-pub bears-both : (d : Holder) (n a b : List ℕ) → bears d n a ≡ true → bears d n b ≡ true → bears (holder a) (nameOf a) b ≡ true
-bears-both d n a b x y =
-    let s = bears-stands d n a x in
-    let u = bears-stands d n b y in
-    bears-by (holder a) (nameOf a) b (record { kind = u .kind; heading = u .heading ∙ sym (s .heading); user = u .user ∙ sym (s .user) })
-    (sym (bears-name d n a x) ∙ bears-name d n b y)
-
--- an entry bears its own name
-pub bears-own : (r : List ℕ) → byte r 0 ≡ 2 → bears (holder r) (nameOf r) r ≡ true
-bears-own r k = bears-by (holder r) (nameOf r) r (record { kind = k; heading = refl; user = refl }) refl
 
 module _ (o o′ : ℕ) (t : List ℕ) (e : ℕ) (r : List ℕ) (c : SoundBut o t) (p : Placing o o′ t e r) where
   abbrev f : List ℕ
@@ -99,7 +87,7 @@ module _ (o o′ : ℕ) (t : List ℕ) (e : ℕ) (r : List ℕ) (c : SoundBut o 
       at-entry i l
       (λ x q. at-entry j m (λ y _. x ∙ sym y) (λ y s. absurd (p .alone j m y (rw (q, s) at b))))
       (λ x q. at-entry j m
-      (λ y s. absurd (p .alone i l x (bears-both (holder (rec t i)) (nameOf (rec t i)) r (rec t i) (rw (q, s) at b) (bears-own (rec t i) (rw q at k)))))
+      (λ y s. absurd (p .alone i l x (bears-back (rec t i) r (rw q at k) (rw (q, s) at b))))
       (λ y s. c .apart i j l m (rw q at k) (rw (q, s) at b)))
 
   placed-named : (i : ℕ) → i < rooms t → byte (rec f i) 0 ≡ 1 → (named f i ≡ true) ⊎ (i ≡ o′)

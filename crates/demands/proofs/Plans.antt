@@ -3,75 +3,70 @@
 use mathlib.Core.List.{List, [], _∷_, _++_}
 use mathlib.Core.Logic.{inl}
 use mathlib.Core.Path.{_≡_, refl}
-use Prim.Native.Nat.{ℕ, zero, suc, _+_, _≤_}
+use Prim.Native.Nat.{ℕ, zero, suc, _≤_}
 use native.Mathlib.Omega.{arith}
 use lib.ListN.{length}
 use borrow.Author.Tests.{ltb-false}
 use Rattle.paper.specs.Scan.{Found, at, nowhere}
-use Rattle.paper.specs.Record.{byte, level, lifetime, blank, headingRecord}
+use Rattle.paper.specs.Record.{level, lifetime, blank, headingRecord}
 use Rattle.paper.specs.Table.{rec, frees, room}
 use Rattle.paper.specs.Declaration.{Part, orElse}
 use Rattle.paper.specs.Line.{Word}
 use Rattle.paper.specs.Check.{Check, passed, verdict}
 use Rattle.paper.specs.Block.{fileText}
-use Rattle.paper.specs.Walk.{State, start, file, Walked, reached, stopped, toDirectory, toLast, lastName}
+use Rattle.paper.specs.Walk.{State, file, reached, toLast, lastName}
 use Rattle.paper.specs.Store.{Store, run}
-use Rattle.paper.specs.Effect.{Planned, plan, halted, onward, chainOf, toHolder, toEnd, Making, borne, placing, needed, readInhibited, writeInhibited, notSimple, making, filing, crdPlan, wrsPlan, cpyPlan, dupPlan, chnPlan, dprPlan, delPlan, rdsPlan, lstPlan, lstBasePlan}
-use Rattle.laws.proofs.Lists.{Every}
+use Rattle.paper.specs.Effect.{Planned, plan, halted, chainOf, toHolder, toEnd, Making, borne, placing, needed, readInhibited, writeInhibited, notSimple, making, filing, crdPlan, wrsPlan, cpyPlan, dupPlan, chnPlan, dprPlan, delPlan, rdsPlan, lstPlan, lstBasePlan}
+use Rattle.laws.proofs.Lists.{Every, every-parts}
+use Rattle.laws.proofs.Fields.{length-entry}
+use Rattle.laws.proofs.Entries.{found-stands}
 use Rattle.laws.proofs.Lay.{length-blank}
-use Rattle.demands.proofs.Built.{length-heading, length-entry}
-use Rattle.demands.proofs.Filed.{length-file}
-use Rattle.demands.proofs.Settled.{found-stands}
-use Rattle.demands.proofs.Kept.{check-passed, verdict-end, last-stands}
-use Rattle.demands.proofs.Debris.{Kept, mended-kept}
-use Rattle.demands.proofs.Facts.{Facts}
+use Rattle.demands.proofs.Clauses.{Sound}
+use Rattle.demands.proofs.Fair.{Idle, verdict-idle}
+use Rattle.demands.proofs.Steps.{last-looked, holder-by, end-by}
+use Rattle.demands.proofs.Filed.{roomy, length-file}
+use Rattle.demands.proofs.Debris.{Kept, sound-keeps, mended-sound}
 use Rattle.demands.proofs.Cut.{Litters, Cut, power-cut}
 use Rattle.demands.proofs.Losing.{losing-cut}
-use Rattle.demands.proofs.Littering.{new-file}
+use Rattle.demands.proofs.Littering.{littering}
 
 -- a plan that a power cut leaves whole: the table before or the table after
 abbrev pub Safe : List ℕ → Planned → Type 0
 Safe t (halted f) = Unit {0}
 Safe t (plan p) = verdict (p .checks) ≡ passed → Kept (run t (p .stores)) → (k : ℕ) → Cut t (p .stores) k
 
-onward-safe : (t : List ℕ) (place : ℕ) (w : Walked) (f : State → Planned) → ((s : State) → w ≡ reached s → Safe t (f s))
-    → Safe t (onward place w f)
-onward-safe t place (reached s) f h = h s refl
-onward-safe t place (stopped number link) f h = tt
-
 -- a walk to an argument's directory, or to its file, and what follows it
 holder-safe : (t : List ℕ) (u place : ℕ) (w : Word) (f : State → Planned) → ((d : State) → Safe t (f d)) → Safe t (toHolder t u place w f)
-holder-safe t u place w f h = onward-safe t place (toDirectory t 1 (start u) (chainOf w)) f (λ d _. h d)
+holder-safe t u place w f h = holder-by (Safe t) place (λ _ _ _. tt) t u w f (λ d _. h d)
 
 end-safe : (t : List ℕ) (u place : ℕ) (w : Word) (f : State → State → Planned)
     → ((d s : State) → toLast t d (chainOf w) ≡ reached s → Safe t (f d s)) → Safe t (toEnd t u place w f)
-end-safe t u place w f h = holder-safe t u place w _ (λ d. onward-safe t place (toLast t d (chainOf w)) (f d) (h d))
+end-safe t u place w f h = end-by (Safe t) place (λ _ _ _. tt) t u w f (λ d s _. h d s)
 
-module _ (t : List ℕ) (c : Facts t) where
+module _ (t : List ℕ) (c : Sound t) where
   -- no store
   none-safe : (k : ℕ) → Cut t [] k
   unfolding run
-  none-safe zero = inl (mended-kept t (c .kept))
-  none-safe (suc k) = inl (mended-kept t (c .kept))
+  none-safe zero = inl (mended-sound t c)
+  none-safe (suc k) = inl (mended-sound t c)
 
   -- one store alone
   one-safe : (s : Store) → Kept (run t (s ∷ [])) → (k : ℕ) → Cut t (s ∷ []) k
-  one-safe s d = power-cut t [] s [] (c .whole) (c .kept) d tt tt
+  one-safe s d = power-cut t [] s [] (c .whole) (sound-keeps t c) d tt tt
 
   -- a new entry, given that the stores before it are debris
   making-safe : (m : Making) (thirteen fifteen : List Check) → (length (m .first) ≤ length (frees t) → Every (Litters t) (m .first))
       → length (m .entry) ≡ 32 → Safe t (making t m thirteen fifteen)
   unfolding making
   making-safe m thirteen fifteen lit size e d =
-      let a = check-passed _ _ (verdict-end (thirteen ++ writeInhibited (m .place) (m .directory) ∷ fifteen) _ e) in
-      let b = check-passed _ _ (a .1) in
-      go (borne t m) refl (ltb-false _ _ (check-passed _ _ (b .1) .0)) d
+      let a = every-parts Idle (thirteen ++ writeInhibited (m .place) (m .directory) ∷ fifteen) _ (verdict-idle _ e) .1 in
+      go (borne t m) refl (ltb-false _ _ (a .1 .1 .0)) d
     where
       go : (x : Found) → borne t m ≡ x → needed m x ≤ length (frees t) → Kept (run t (placing t m x)) → (k : ℕ) → Cut t (placing t m x) k
       go (at i) q enough d =
           let f = found-stands t (m .directory .holder) (m .name) i q .1 in
           losing-cut t c (m .first) (lit enough) i (m .entry) (f .kind) size d
-      go nowhere q enough d = power-cut t (m .first) _ [] (c .whole) (c .kept) d (lit (omega arith)) tt
+      go nowhere q enough d = power-cut t (m .first) _ [] (c .whole) (sound-keeps t c) d (lit (omega arith)) tt
 
   -- a new file under a name that fits its field
   filing-safe : (place : ℕ) (w : Word) (d : State) (type lev code life n : ℕ) (body : List ℕ) (thirteen fifteen : List Check)
@@ -79,14 +74,11 @@ module _ (t : List ℕ) (c : Facts t) where
       → Safe t (making t (filing t place w d code (headingRecord type lev code life n) body) thirteen fifteen)
   filing-safe place w d type lev code life n body thirteen fifteen l =
       making-safe (filing t place w d code head body) thirteen fifteen
-      (λ enough. new-file t c head body kind (length-heading type lev code life n) (omega (arith, length-file t head body, enough)))
+      (λ enough. littering t c head body (roomy t type lev code life n body (omega (arith, length-file t head body, enough))))
       (length-entry code (d .holder .heading) (room t 0) (d .holder .user) (lastName (chainOf w)) l)
     where
       head : List ℕ
       head = headingRecord type lev code life n
-
-      kind : byte head 0 ≡ 1
-      kind = unfold headingRecord in refl
 
   -- ---- each function
 
@@ -128,7 +120,7 @@ module _ (t : List ℕ) (c : Facts t) where
   pub del-safe : (u place : ℕ) (name : Word) → Safe t (delPlan t u place name)
   unfolding delPlan
   del-safe u place name =
-      end-safe t u place name _ (λ d f q _. losing-cut t c [] tt (f .entry) blank (last-stands t d f (chainOf name) q .1 .kind) length-blank)
+      end-safe t u place name _ (λ d f q _. losing-cut t c [] tt (f .entry) blank (last-looked t d (chainOf name) f q .stands .kind) length-blank)
 
   pub rds-safe : (u : ℕ) (reply : List ℕ) (name : Word) → Safe t (rdsPlan t u reply name)
   unfolding rdsPlan

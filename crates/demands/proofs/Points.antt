@@ -1,12 +1,10 @@
--- What a record points to: past the table there is nothing, so what holds something is in it; and an entry's directory, the heading
--- that it names and a text's heading are headings. Where those stay, what points to them does.
+-- What a record points to: an entry's directory, the heading that it names and a text's heading are headings.
+-- Where those stay, what points to them does; and what is no heading, no entry names.
 use mathlib.Core.Bool.{true, false}
 use mathlib.Core.List.{List}
-use mathlib.Core.Logic.{_⊎_, inl, inr, _≢_, by-cases}
+use mathlib.Core.Logic.{_⊎_, inl, inr, _≢_}
 use mathlib.Core.Path.{_≡_, subst}
 use Prim.Native.Nat.{ℕ, _<_}
-use native.Mathlib.Omega.{arith}
-use native.Mathlib.Decide.{decLt}
 use Rattle.paper.specs.Record.{byte, directory, simple, holderOf, headingOf, names}
 use Rattle.paper.specs.Table.{rooms, rec}
 use Rattle.paper.specs.Entry.{named}
@@ -14,14 +12,7 @@ use Rattle.paper.specs.Sound.{isBase, holderThere}
 use Rattle.laws.proofs.Tests.{and-left, or-cases, or-left, or-right, false-by}
 use Rattle.laws.proofs.Scans.{any-none}
 use Rattle.laws.proofs.Entries.{names-kind, names-heading, typed-kind}
-use Rattle.laws.proofs.Lay.{Whole, rec-past}
 use Rattle.demands.proofs.Clauses.{SoundBut}
-
--- a record that holds something is in the table
-pub within : (t : List ℕ) (i : ℕ) → Whole t → byte (rec t i) 0 ≢ 0 → i < rooms t
-within t i w n =
-    by-cases (decLt i (rooms t)) (λ (l : i < rooms t). l)
-    (λ (l : ¬ (i < rooms t)). absurd (n (rw (rec-past t i w (omega arith)))))
 
 -- an entry's directory is there where every heading stays
 pub holder-stays : (t f : List ℕ) → ((h : ℕ) → byte (rec t h) 0 ≡ 1 → rec f h ≡ rec t h) → (i : ℕ) (r : List ℕ)

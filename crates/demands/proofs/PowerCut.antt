@@ -3,21 +3,23 @@
 use mathlib.Core.Bool.{true}
 use mathlib.Core.List.{List}
 use mathlib.Core.Logic.{_⊎_, inl, inr}
-use mathlib.Core.Path.{_≡_}
+use mathlib.Core.Path.{_≡_, ap, _∙_}
 use Prim.Native.Nat.{ℕ, _≤_}
+use native.Mathlib.Omega.{arith}
 use lib.ListN.{length, take}
 use Rattle.paper.specs.Table.{sized}
 use Rattle.paper.specs.Line.{Word}
 use Rattle.paper.specs.Request.{del, request, asked}
 use Rattle.paper.specs.Sound.{sound}
-use Rattle.paper.specs.Mend.{mendStores, mended}
 use Rattle.paper.specs.Effect.{Planned}
-use Rattle.paper.specs.Answer.{ran, single, granted, requested, mending}
+use Rattle.paper.specs.Mend.{mendStores, mended}
+use Rattle.paper.specs.Answer.{Outcome, ran, single, granted, requested, mending}
 use Rattle.demands.proofs.Clauses.{Sound, sound-clauses, clauses-sound}
+use Rattle.demands.proofs.Debris.{mended-sound}
 use Rattle.demands.proofs.Mending.{mendedWhole, mend-whole}
-use Rattle.demands.proofs.Ended.{mended-sound, Done, single-cut}
-use Rattle.demands.proofs.DelCut.{del-cut}
-use Rattle.demands.proofs.Course.{Course, untried, by-plan, by-names, course}
+use Rattle.demands.proofs.Tried.{Tried, lent, by-plan, by-names, ways}
+use Rattle.demands.proofs.Landed.{Done, single-cut, del-cut}
+use Rattle.demands.proofs.Stops.{Uncut, deleting-same, stop-same}
 
 -- where a cut request is once it is mended: the table before; the table after; for DEL, the table after some first part of its names
 pub data Lands (t line text reply : List ℕ) (u : ℕ) (x : List ℕ) : Type 0 where
@@ -38,15 +40,15 @@ pub record Harmless (t line text reply : List ℕ) (u k : ℕ) : Type 0 where
       → mending (requested t line text reply u k .table) j ≡ mendedWhole (requested t line text reply u k .table)
 
 landed : (t line text reply : List ℕ) (u k : ℕ) → Sound t → Landed t line text reply u k
-landed t line text reply u k c = go (course t line text reply u)
+landed t line text reply u k c = go (ways t line text reply u)
   where
     alone : (x : Planned) {y : List ℕ} → ((k : ℕ) → requested t line text reply u k ≡ single t reply k (ran k x))
         → (y ≡ t) ⊎ Done (λ k. single t reply k (ran k x)) y → Lands t line text reply u y
     alone x q (inl z) = before z
     alone x q (inr d) = after (record { stop = d .stop; number = rw (q (d .stop)) (d .number); table = rw (q (d .stop)) (d .table) })
 
-    go : Course t line text reply u → Landed t line text reply u k
-    go (untried f q) =
+    go : Tried t line text reply u → Landed t line text reply u k
+    go (lent f q) =
         let z : mended (requested t line text reply u k .table) ≡ t = rw (q k) (mended-sound t c) in
         record { sound = rw z c; lands = before z }
     go (by-plan x safe keeps q) =
@@ -62,3 +64,15 @@ demand-three t line text reply u k s e =
     let d = landed t line text reply u k (sound-clauses t s e) in
     let f = clauses-sound (mended (requested t line text reply u k .table)) (d .sound) in
     record { lands = d .lands; answers = λ j. mend-whole (requested t line text reply u k .table) j (f .0) (f .1) }
+
+-- the table after is the table of every outcome that is not 22
+pub only-after : (t line text reply : List ℕ) (u : ℕ) (x : List ℕ) → Done (requested t line text reply u) x
+    → (j : ℕ) → Uncut (requested t line text reply u j) → x ≡ requested t line text reply u j .table
+only-after t line text reply u x d j b =
+    d .table ∙ ap (λ (o : Outcome). o .table) (stop-same t line text reply u (d .stop) j (λ z. omega (arith, z, d .number)) b)
+
+pub only-part : (t text reply : List ℕ) (u : ℕ) (ws : List Word) (x : List ℕ) → Done (λ k. granted t text reply u k (del ws)) x
+    → (j : ℕ) → Uncut (granted t text reply u j (del ws)) → x ≡ granted t text reply u j (del ws) .table
+unfolding granted
+only-part t text reply u ws x d j b =
+    d .table ∙ ap (λ (o : Outcome). o .table) (deleting-same ws t u reply (d .stop) j 0 0 (λ z. omega (arith, z, d .number)) b)

@@ -7,18 +7,17 @@ use Prim.Native.Nat.{ℕ, _+_, _-_, _≤_, _<_}
 use native.Mathlib.Omega.{arith}
 use lib.ListN.{length, getD, take, drop, length-take, length-drop}
 use lib.Dec.{eqb, leb, ltb}
+use lib.Seq.{take-all, getD-take, getD-drop}
 use borrow.Author.Tests.{ltb-true, leb-true, eq-eqb, ltb-false, not-false}
+use Rattle.paper.specs.Scan.{at}
 use Rattle.paper.specs.Name.{linkName, chain, wellFormed, legalBase, baseName, lonePoint}
 use Rattle.paper.specs.Declaration.{Part, isGiven, Parts, fits, fitWrs, fitCpy}
 use Rattle.paper.specs.Line.{Word, words, word, legalLine}
+use Rattle.paper.specs.Check.{Check, check, Verdict, passed, refused, verdict}
 use Rattle.paper.specs.Request.{declaredAt, partsAt, Request, crd, wrs, rds, cpy, dup, chn, del, dpr, lst, lstBase, Read, request, unread, readAs, counted, miscounted, malformed, illegal, unfit, each, between, misnamed, readCrd, readWrs, readRds, readLst, readCpy, readDup, linkAlone, readChn, readDpr, readDel, isFunction, readFunction, read, textTooLong, withText, asked}
 use Rattle.paper.specs.Walk.{lastName, start}
-use Rattle.laws.proofs.Tests.{and-left, and-right, and-parts}
-use lib.Seq.{take-all, getD-take, getD-drop}
-use Rattle.paper.specs.Check.{Check, check, Verdict, passed, refused, verdict}
-use Rattle.laws.proofs.Lists.{Every, every-at, every-append}
-use Rattle.paper.specs.Scan.{at}
-use Rattle.demands.proofs.Basics.{either, every-parts, every-both}
+use Rattle.laws.proofs.Tests.{and-left, and-right, and-parts, either}
+use Rattle.laws.proofs.Lists.{Every, every-at, every-append, every-parts, every-both}
 use Rattle.demands.proofs.Formed.{Named, Within, within-else, lettered-at, fits-parts, medium-long, may-medium-long}
 use Rattle.demands.proofs.Fair.{Idle, verdict-idle, Fair, FairCheck, verdict-fair, fair-line, fair-at}
 
@@ -302,7 +301,3 @@ read-right line text = go (read line) (heard line text)
         ended passed e = h (verdict-idle _ e .0)
         ended (refused f) e = verdict-fair _ f (fair-line 10 0 refl, tt) e
     go (unread f) h = h
-
--- what a line and its text ask for is as its function needs it
-pub told : (line text : List ℕ) (r : Request) → asked line text ≡ request r → Told text r
-told line text r e = subst (Right text) e (read-right line text)

@@ -1,6 +1,6 @@
 -- DPR lays a heading again with another code: every other byte stays, so its type, lifetime and text length do.
 -- No other record goes by a heading's code, and a code of 0 to 7 is all that the heading owes for it.
-use mathlib.Core.Bool.{true, _&&_}
+use mathlib.Core.Bool.{true}
 use mathlib.Core.List.{List}
 use mathlib.Core.Logic.{_≢_}
 use mathlib.Core.Path.{_≡_, _∙_}
@@ -10,15 +10,13 @@ use lib.ListN.{length, length-set}
 use lib.Seq.{getD-set-same, getD-set-other}
 use lib.Dec.{leb}
 use borrow.Author.Tests.{le-leb}
-use Rattle.paper.specs.Record.{byte, headingType, level, headingCode, textLength, zeros}
+use Rattle.paper.specs.Record.{byte, headingCode, textLength, zeros}
 use Rattle.paper.specs.Table.{rec, lay}
 use Rattle.paper.specs.Effect.{recoded}
-use Rattle.laws.proofs.Tests.{and-left, and-right}
-use Rattle.laws.proofs.Scans.{all-cong}
 use Rattle.laws.proofs.Numbers.{number-cong}
-use Rattle.laws.proofs.Lay.{length-rec}
-use Rattle.demands.proofs.Clauses.{HeadingOwn, Own, Sound}
-use Rattle.demands.proofs.Cleared.{within}
+use Rattle.laws.proofs.Scans.{all-cong}
+use Rattle.laws.proofs.Lay.{length-rec, within}
+use Rattle.demands.proofs.Clauses.{HeadingOwn, Own, heading-fields, Sound}
 use Rattle.demands.proofs.Alike.{Like, replaced-sound}
 
 module _ (r : List ℕ) (code : ℕ) (s : length r ≡ 32) (k : byte r 0 ≡ 1) where
@@ -65,13 +63,13 @@ module _ (r : List ℕ) (code : ℕ) (s : length r ≡ 32) (k : byte r 0 ≡ 1) 
       }
     where
       code-old : leb (headingCode r) 7 ≡ true
-      code-old = and-right (leb (headingType r) 1 && leb (level r) 3) _ (and-left _ _ (and-left _ _ (and-left _ _ (and-left _ _ (o .shape)))))
+      code-old = le-leb _ _ (heading-fields r o .code)
 
 -- a heading with its new code: the table is sound
 pub recoded-sound : (t : List ℕ) (h code : ℕ) → Sound t → byte (rec t h) 0 ≡ 1 → code ≤ 7 → Sound (lay t h (recoded (rec t h) code))
 unfolding recoded
 recoded-sound t h code c k b =
-    let l = within t 0 h (c .whole) k in
+    let l = within t h (c .whole) (omega arith) in
     let s = length-rec t h l in
     replaced-sound 65535 t h (recoded (rec t h) code) c l (length-set (rec t h) 3 code ∙ s) (recoded-like (rec t h) code s k)
     (recoded-own (rec t h) code s k b (c .own h l .heading k))

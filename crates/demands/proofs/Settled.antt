@@ -1,7 +1,7 @@
 -- Settling is planned on the table before and run on the table in which the new file and the entry already stand. It comes to the same:
 -- a new file fills free records only, brings no entry and no text of an old heading, and the entry stands where the one before it stood.
 use mathlib.Core.Bool.{Bool, true, false, _&&_, not, cond}
-use mathlib.Core.List.{List, [], _∷_}
+use mathlib.Core.List.{List, [], _∷_, _++_}
 use mathlib.Core.Logic.{_⊎_, inl, inr, _≢_, by-cases}
 use mathlib.Core.Path.{_≡_, refl, sym, ap, _∙_}
 use Prim.Native.Nat.{ℕ, _<_}
@@ -9,33 +9,22 @@ use native.Mathlib.Omega.{arith}
 use native.Mathlib.Decide.{ℕ-discrete}
 use lib.ListN.{length}
 use Rattle.paper.specs.Scan.{Found, at, nowhere, firstBelow}
-use Rattle.paper.specs.Record.{byte, directory, headingNamed, holderOf, userOf, names, headingOf, textAt, blank}
+use Rattle.paper.specs.Record.{byte, directory, headingNamed, holderOf, userOf, names, textAt, blank}
 use Rattle.paper.specs.Table.{rooms, rec, lay, place, textRoom}
-use Rattle.paper.specs.Entry.{Holder, inDirectory, stands, bears, find, named, peopled}
+use Rattle.paper.specs.Entry.{Holder, inDirectory, stands, find, named, peopled}
 use Rattle.paper.specs.Block.{blocksOf}
-use Rattle.paper.specs.Store.{Store, clear, run}
+use Rattle.paper.specs.Store.{Store, puts, clear, run}
 use Rattle.paper.specs.Effect.{freed, lost, settled, losing}
 use Rattle.laws.proofs.Tests.{truth, not-both, and-left, and-right, and-both, false-by}
-use Rattle.laws.proofs.Scans.{any-true, any-here, any-cong, first-cong, first-at}
+use Rattle.laws.proofs.Scans.{any-true, any-here, any-cong, first-cong}
 use Rattle.laws.proofs.Lists.{join-cong}
-use Rattle.laws.proofs.Entries.{Stands, bears-stands, stands-true, stands-by, names-kind, TextAt, text-true}
-use Rattle.laws.proofs.Lay.{Whole, lay-same, lay-other, length-lay, length-blank}
+use Rattle.laws.proofs.Entries.{Stands, stands-true, stands-by, found-stands, names-kind, text-true}
+use Rattle.laws.proofs.Lay.{Whole, lay-same, lay-other, length-lay, length-blank, within, kinds-apart}
+use Rattle.laws.proofs.Runs.{run-append}
 use Rattle.demands.proofs.Clauses.{SoundBut, Sound}
-use Rattle.demands.proofs.Cleared.{within, kinds-apart, entry-cleared}
+use Rattle.demands.proofs.Grown.{New, Grown, grown-none, grown-stays, new-entry, new-text}
+use Rattle.demands.proofs.Cleared.{entry-cleared}
 use Rattle.demands.proofs.Freed.{freed-sound, named-sound}
-
--- record b in place of a free record a: a heading, or text of a heading that was free
-pub record New (t a b : List ℕ) : Type 0 where
-  pub free : byte a 0 ≡ 0
-  pub kind : (byte b 0 ≡ 1) ⊎ ((byte b 0 ≡ 3) × (byte (rec t (headingOf b)) 0 ≡ 0))
-
--- m is t with such records
-pub record Grown (t m : List ℕ) : Type 0 where
-  pub long : length m ≡ length t
-  pub each : (i : ℕ) → i < rooms t → (rec m i ≡ rec t i) ⊎ New t (rec t i) (rec m i)
-
-pub grown-none : (t : List ℕ) → Grown t t
-grown-none t = record { long = refl; each = λ i l. inl refl }
 
 -- record r in place of the entry a: an entry that stands where a stood, or no entry
 pub record Instead (a r : List ℕ) : Type 0 where
@@ -52,13 +41,6 @@ instead-entry a r s ka kr h u =
           let x = stands-true d r e in
           stands-by d a (record { kind = ka; heading = sym h ∙ x .heading; user = sym u ∙ x .user });
     }
-
--- what bears a name in d is an entry that stands there
-pub found-stands : (t : List ℕ) (d : Holder) (n : List ℕ) (e : ℕ) → find t d n ≡ at e → (e < rooms t) × Stands d (rec t e)
-unfolding find
-found-stands t d n e q =
-    let f = first-at (λ i. bears d n (rec t i)) (rooms t) e q in
-    (f .below, bears-stands d n (rec t e) (f .passes))
 
 -- an entry of d in place of the one that bears its name
 pub instead-found : (t : List ℕ) (d : Holder) (n : List ℕ) (e : ℕ) (r : List ℕ) → find t d n ≡ at e → length r ≡ 32 → Stands d r → Instead (rec t e) r
@@ -77,23 +59,6 @@ instead-blank a =
           let y : ⊥ = omega arith in
           absurd y;
     }
-
--- a new record is no entry, and no text of a heading of t
-new-no-entry : (t a b : List ℕ) → New t a b → (test : List ℕ → Bool) → ((r : List ℕ) → test r ≡ true → byte r 0 ≡ 2) → test b ≡ test a
-new-no-entry t a b n test k = false-by (test b) (λ e. no (n .kind) (k b e)) ∙ sym (false-by (test a) (λ e. omega (arith, k a e, n .free)))
-  where
-    no : (byte b 0 ≡ 1) ⊎ ((byte b 0 ≡ 3) × (byte (rec t (headingOf b)) 0 ≡ 0)) → byte b 0 ≡ 2 → ⊥
-    no (inl x) y = omega arith
-    no (inr (x, z)) y = omega arith
-
-new-no-text : (t a b : List ℕ) (h p : ℕ) → New t a b → byte (rec t h) 0 ≡ 1 → textAt h p b ≡ textAt h p a
-new-no-text t a b h p n k =
-    false-by (textAt h p b) (λ e. no (n .kind) (text-true h p b e))
-    ∙ sym (false-by (textAt h p a) (λ e. omega (arith, text-true h p a e .kind, n .free)))
-  where
-    no : (byte b 0 ≡ 1) ⊎ ((byte b 0 ≡ 3) × (byte (rec t (headingOf b)) 0 ≡ 0)) → TextAt h p b → ⊥
-    no (inl x) y = omega (arith, y .kind)
-    no (inr (x, z)) y = omega (arith, rw (y .heading) at z, k)
 
 place-same : (a b : List ℕ) → length a ≡ length b → (f : Found) → place a f ≡ place b f
 place-same a b e (at i) = refl
@@ -118,7 +83,7 @@ module _ (t m : List ℕ) (e : ℕ) (r : List ℕ) (g : Grown t m) (n : Instead 
     where
       go : (rec (lay m e r) i ≡ rec t i) ⊎ New t (rec t i) (rec (lay m e r) i) → test (rec (lay m e r) i) ≡ test (rec t i)
       go (inl x) = rw x
-      go (inr x) = new-no-entry t (rec t i) (rec (lay m e r) i) x test y
+      go (inr x) = new-entry t (rec t i) (rec (lay m e r) i) x test y
 
   named-same : (h : ℕ) → named (lay m e r) h ≡ named (lay t e r) h
   unfolding named
@@ -144,7 +109,7 @@ module _ (t m : List ℕ) (e : ℕ) (r : List ℕ) (g : Grown t m) (n : Instead 
   -- an old heading and its text are as they were
   module _ (h : ℕ) (w : Whole t) (kh : byte (rec t h) 0 ≡ 1) where
     rec-h : rec (lay m e r) h ≡ rec t h
-    rec-h = go (there h (within t 0 h w kh) (kinds-apart t h e 1 2 kh k (omega arith)))
+    rec-h = go (there h (within t h w (omega arith)) (kinds-apart t h e 1 2 kh k (omega arith)))
       where
         go : (rec (lay m e r) h ≡ rec t h) ⊎ New t (rec t h) (rec (lay m e r) h) → rec (lay m e r) h ≡ rec t h
         go (inl x) = x
@@ -160,7 +125,7 @@ module _ (t m : List ℕ) (e : ℕ) (r : List ℕ) (g : Grown t m) (n : Instead 
       where
         go : (rec (lay m e r) i ≡ rec t i) ⊎ New t (rec t i) (rec (lay m e r) i) → textAt h p (rec (lay m e r) i) ≡ textAt h p (rec t i)
         go (inl x) = rw x
-        go (inr x) = new-no-text t (rec t i) (rec (lay m e r) i) h p x kh
+        go (inr x) = new-text t (rec t i) (rec (lay m e r) i) h p x kh
 
     room-same : (p : ℕ) → textRoom (lay m e r) h p ≡ textRoom t h p
     unfolding textRoom
@@ -210,5 +175,13 @@ module _ (t m : List ℕ) (e : ℕ) (r : List ℕ) (c : Sound t) (g : Grown t m)
 pub deleted-sound : (t : List ℕ) (e : ℕ) → Sound t → byte (rec t e) 0 ≡ 2 → losing t e blank ≡ false → Sound (run t (clear e ∷ settled t e blank))
 unfolding run
 deleted-sound t e c k v =
-    let l = within t 1 e (c .whole) k in
+    let l = within t e (c .whole) (omega arith) in
     settled-sound t t e blank c (grown-none t) (instead-blank (rec t e)) l k (entry-cleared t e c l k) v
+
+-- the stores of an entry that displaces e: the table is sound if it is so, but for e's file, once the entry is laid
+pub displaced-sound : (t : List ℕ) (first : List Store) (e : ℕ) (r : List ℕ) → Sound t → Grown t (run t first) → byte (rec t e) 0 ≡ 2 → Instead (rec t e) r
+    → losing t e r ≡ false → SoundBut (headingNamed (rec (run t first) e)) (lay (run t first) e r) → Sound (run t (first ++ puts e r ∷ settled t e r))
+unfolding run
+displaced-sound t first e r c g k n v s =
+    rw (run-append t first (puts e r ∷ settled t e r))
+    (settled-sound t (run t first) e r c g n (within t e (c .whole) (omega arith)) k (rw (grown-stays t (run t first) g e (c .whole) (omega arith)) at s) v)

@@ -9,17 +9,17 @@ use Rattle.paper.specs.Sound.{sound}
 use Rattle.paper.specs.Answer.{requested}
 use Rattle.demands.proofs.Clauses.{Sound, sound-clauses, clauses-sound}
 use Rattle.demands.proofs.Kept.{single-sound, deleting-sound}
-use Rattle.demands.proofs.Course.{Course, untried, by-plan, by-names, course}
+use Rattle.demands.proofs.Tried.{Tried, lent, by-plan, by-names, ways}
 use Rattle.demands.proofs.Stops.{Uncut}
 
 pub sound-kept : (t line text reply : List ℕ) (u k : ℕ) → sized t ≡ true → sound t ≡ true → Uncut (requested t line text reply u k)
     → (sized (requested t line text reply u k .table) ≡ true) × (sound (requested t line text reply u k .table) ≡ true)
-sound-kept t line text reply u k s e a = clauses-sound (requested t line text reply u k .table) (go (course t line text reply u))
+sound-kept t line text reply u k s e a = clauses-sound (requested t line text reply u k .table) (go (ways t line text reply u))
   where
     c : Sound t
     c = sound-clauses t s e
 
-    go : Course t line text reply u → Sound (requested t line text reply u k .table)
-    go (untried f q) = rw (q k) c
+    go : Tried t line text reply u → Sound (requested t line text reply u k .table)
+    go (lent f q) = rw (q k) c
     go (by-plan x safe keeps q) = rw (q k) (single-sound t reply k c x keeps (rw (q k) at a))
     go (by-names names d q) = rw (q k) (deleting-sound names t u reply k 0 0 c (rw (q k) at a))

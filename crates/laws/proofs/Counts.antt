@@ -1,13 +1,17 @@
 -- Laws of counting, by induction on the bound: one more number adds one where it passes and else nothing.
 -- Two tests that differ at one number differ by one in their counts.
-use mathlib.Core.Bool.{Bool, true, false, cond, true≢false}
+use mathlib.Core.Bool.{Bool, true, false, cond}
 use mathlib.Core.Logic.{_≢_, by-cases}
 use mathlib.Core.Path.{_≡_, refl, sym, ap, _∙_}
 use Prim.Native.Nat.{ℕ, zero, suc, _+_, _≤_, _<_}
 use native.Mathlib.Omega.{arith}
 use native.Mathlib.Numerals.{add-one}
 use native.Mathlib.Decide.{ℕ-discrete}
-use Rattle.paper.specs.Scan.{countBelow}
+use lib.Dec.{eqb}
+use borrow.Author.Tests.{eqb-true, eq-eqb, ne-eqb}
+use Rattle.paper.specs.Scan.{anyBelow, countBelow}
+use Rattle.laws.proofs.Tests.{true-by}
+use Rattle.laws.proofs.Scans.{any-false}
 
 pub count-cong : (p q : ℕ → Bool) (n : ℕ) → ((i : ℕ) → i < n → p i ≡ q i) → countBelow p n ≡ countBelow q n
 unfolding countBelow
@@ -75,3 +79,26 @@ count-mono p q (suc n) h = go (p n) refl (count-mono p q n (λ i l. h i (omega a
         → cond b (countBelow p n + 1) (countBelow p n) ≤ cond (q n) (countBelow q n + 1) (countBelow q n)
     go true e r = rw (h n (omega arith) e) (omega arith)
     go false e r = raised (q n) _ _ r
+
+-- what is counted once is there, and there is no second
+pub count-least : (p : ℕ → Bool) (n i : ℕ) → i < n → p i ≡ true → 1 ≤ countBelow p n
+count-least p n i l e =
+    rw (← (count-once (λ j. eqb j i) n i l (eq-eqb i i refl) (λ j m d. ne-eqb j i d)))
+    (count-mono (λ j. eqb j i) p n (λ j m q. rw (eqb-true j i q) e))
+
+pub once-there : (p : ℕ → Bool) (n : ℕ) → countBelow p n ≡ 1 → anyBelow p n ≡ true
+once-there p n e =
+    true-by (anyBelow p n) (λ f.
+    let z : countBelow p n ≡ 0 = count-none p n (λ i l. any-false p n i l f) in
+    omega arith)
+
+pub once-only : (p : ℕ → Bool) (n i j : ℕ) → countBelow p n ≡ 1 → i < n → j < n → p i ≡ true → p j ≡ true → i ≡ j
+once-only p n i j e l m x y =
+    by-cases (ℕ-discrete i j) (λ (q : i ≡ j). q)
+    (λ (q : i ≢ j).
+    let others : ℕ → Bool = λ k. cond (eqb k i) false (p k) in
+    let a : countBelow p n ≡ countBelow others n + 1 =
+    count-more-at others p n i l (rw (eq-eqb i i refl)) x (λ k b d. rw (ne-eqb k i d)) in
+    let b : 1 ≤ countBelow others n = count-least others n j m (rw (ne-eqb j i (λ z. q (sym z))) y) in
+    let z : ⊥ = omega arith in
+    absurd z)

@@ -1,16 +1,19 @@
 -- Names and entries, the tests as facts: `same` is equality, by going through both lists together.
 -- An entry stands in a holder, bears a name or names a heading exactly when its fields say so.
-use mathlib.Core.Bool.{Bool, true, false, _&&_, true≢false}
+use mathlib.Core.Bool.{Bool, true, _&&_, true≢false}
 use mathlib.Core.List.{List, [], _∷_}
-use mathlib.Core.Path.{_≡_, refl, sym, ap, ap₂, _∙_}
-use Prim.Native.Nat.{ℕ, zero, suc, _+_, _≤_, _<_}
-use native.Mathlib.Omega.{arith}
-use lib.Dec.{eqb}
-use borrow.Author.Tests.{eqb-true, eq-eqb}
-use Rattle.paper.specs.Record.{byte, isKind, directory, simple, headingType, holderOf, headingNamed, userOf, nameOf, names, headingOf, position, textAt}
-use Rattle.paper.specs.Name.{same}
-use Rattle.paper.specs.Entry.{Holder, holder, stands, bears}
+use mathlib.Core.Path.{_≡_, refl, sym, ap₂, _∙_}
+use Prim.Native.Nat.{ℕ, _≤_, _<_}
+use lib.Dec.{eqb, leb}
+use lib.ListN.{length}
+use borrow.Author.Tests.{eqb-true, eq-eqb, leb-true}
+use Rattle.paper.specs.Scan.{at}
+use Rattle.paper.specs.Record.{byte, isKind, headingType, holderOf, headingNamed, userOf, nameOf, names, headingOf, position, textAt}
+use Rattle.paper.specs.Table.{rooms, rec}
+use Rattle.paper.specs.Name.{same, linkName}
+use Rattle.paper.specs.Entry.{Holder, holder, stands, bears, find}
 use Rattle.laws.proofs.Tests.{and-left, and-right, and-both}
+use Rattle.laws.proofs.Scans.{first-at}
 
 pub same-true : (a b : List ℕ) → same a b ≡ true → a ≡ b
 unfolding same
@@ -26,6 +29,13 @@ same-refl (a ∷ s) = and-both (eqb a a) (same s s) (eq-eqb a a refl) (same-refl
 
 pub eq-same : (a b : List ℕ) → a ≡ b → same a b ≡ true
 eq-same a b e = rw e (same-refl b)
+
+-- "A link name has 1 to 10 characters"
+pub link-short : (n : List ℕ) → linkName n ≡ true → (1 ≤ length n) × (length n ≤ 10)
+unfolding linkName
+link-short n e =
+    let f = and-left (leb 1 (length n) && leb (length n) 10) _ e in
+    (leb-true _ _ (and-left (leb 1 (length n)) _ f), leb-true _ _ (and-right (leb 1 (length n)) _ f))
 
 -- an entry that stands in d
 pub record Stands (d : Holder) (r : List ℕ) : Type 0 where
@@ -63,6 +73,30 @@ bears-name d n r e = same-true _ _ (and-right (stands d r) _ e)
 pub bears-by : (d : Holder) (n r : List ℕ) → Stands d r → n ≡ nameOf r → bears d n r ≡ true
 unfolding bears
 bears-by d n r s e = and-both (stands d r) _ (stands-by d r s) (eq-same _ _ e)
+
+-- an entry bears its own name
+pub bears-own : (r : List ℕ) → byte r 0 ≡ 2 → bears (holder r) (nameOf r) r ≡ true
+bears-own r k = bears-by (holder r) (nameOf r) r (record { kind = k; heading = refl; user = refl }) refl
+
+-- two entries that bear one name in one place: the second bears the first's
+pub bears-both : (d : Holder) (n a b : List ℕ) → bears d n a ≡ true → bears d n b ≡ true → bears (holder a) (nameOf a) b ≡ true
+bears-both d n a b x y =
+    let s = bears-stands d n a x in
+    let u = bears-stands d n b y in
+    bears-by (holder a) (nameOf a) b (record { kind = u .kind; heading = u .heading ∙ sym (s .heading); user = u .user ∙ sym (s .user) })
+    (sym (bears-name d n a x) ∙ bears-name d n b y)
+
+-- .. and so the first the second's
+pub bears-back : (a b : List ℕ) → byte a 0 ≡ 2 → bears (holder a) (nameOf a) b ≡ true → bears (holder b) (nameOf b) a ≡ true
+bears-back a b k e = bears-both (holder a) (nameOf a) b a e (bears-own a k)
+
+-- what is found under a name in d bears it there
+pub found-bears : (t : List ℕ) (d : Holder) (n : List ℕ) (e : ℕ) → find t d n ≡ at e → (e < rooms t) × (bears d n (rec t e) ≡ true)
+unfolding find
+found-bears t d n e q = let f = first-at (λ i. bears d n (rec t i)) (rooms t) e q in (f .below, f .passes)
+
+pub found-stands : (t : List ℕ) (d : Holder) (n : List ℕ) (e : ℕ) → find t d n ≡ at e → (e < rooms t) × Stands d (rec t e)
+found-stands t d n e q = let f = found-bears t d n e q in (f .0, bears-stands d n (rec t e) (f .1))
 
 -- an entry that names heading h
 pub names-kind : (h : ℕ) (r : List ℕ) → names h r ≡ true → byte r 0 ≡ 2

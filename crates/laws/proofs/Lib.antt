@@ -3,6 +3,10 @@ pub mod Numbers
 pub mod Scans
 pub mod Counts
 pub mod Lists
+pub mod Fields
 pub mod Entries
 pub mod Lay
 pub mod Runs
+pub mod Rooms
+pub mod Blocks
+pub mod Orders

@@ -1,15 +1,16 @@
 -- Lists by a scan: by induction on the bound, the newest number's items stand last.
 -- What holds of each item of a list holds of its parts, and of what is mapped from it.
 use mathlib.Core.Bool.{Bool, true, false, cond}
-use mathlib.Core.List.{List, [], _∷_, _++_, map}
+use mathlib.Core.List.{List, [], _∷_, _++_, map, append-nil}
 use mathlib.Core.Logic.{_≢_, by-cases}
-use mathlib.Core.Path.{_≡_, refl, sym, ap, _∙_}
-use Prim.Native.Nat.{ℕ, zero, suc, _+_, _-_, _≤_, _<_}
+use mathlib.Core.Path.{_≡_, refl, ap, _∙_}
+use Prim.Native.Nat.{ℕ, zero, suc, _+_, _*_, _-_, _≤_, _<_}
 use native.Mathlib.Omega.{arith}
 use native.Mathlib.Numerals.{add-one}
 use native.Mathlib.Decide.{ℕ-discrete}
+use native.Mathlib.Nat.{suc-mul}
 use lib.ListN.{length, take, drop, getD, length-append, List·getD-append}
-use lib.Seq.{getD-at, take-append-add}
+use lib.Seq.{getD-at, getD-append-seam, take-append-add}
 use Rattle.paper.specs.Scan.{joinBelow, listBelow, eachBelow, countBelow}
 
 -- ---- what holds of every item
@@ -45,6 +46,15 @@ every-at P [] m d l h = let z : ⊥ = omega arith in absurd z
 every-at P (x ∷ xs) zero d l h = h .0
 every-at P (x ∷ xs) (suc m) d l h = every-at P xs m d (omega arith) (h .1)
 
+-- in the two parts of a list; and two such facts of the same items make a third
+pub every-parts {ℓ} : {A : Type ℓ} (P : A → Type 0) (xs ys : List A) → Every P (xs ++ ys) → Every P xs × Every P ys
+every-parts P [] ys h = (tt, h)
+every-parts P (x ∷ xs) ys h = let r = every-parts P xs ys (h .1) in ((h .0, r .0), r .1)
+
+pub every-both {ℓ} : {A : Type ℓ} (P Q R : A → Type 0) (xs : List A) → ((x : A) → P x → Q x → R x) → Every P xs → Every Q xs → Every R xs
+every-both P Q R [] f h k = tt
+every-both P Q R (x ∷ xs) f h k = (f x (h .0) (k .0), every-both P Q R xs f (h .1) (k .1))
+
 -- ---- joined lists
 
 pub join-cong : {A : Type 0} (f g : ℕ → List A) (n : ℕ) → ((i : ℕ) → i < n → f i ≡ g i) → joinBelow f n ≡ joinBelow g n
@@ -60,6 +70,12 @@ pub every-join : {A : Type 0} (P : A → Type 0) (f : ℕ → List A) (n : ℕ) 
 unfolding joinBelow
 every-join P f zero h = tt
 every-join P f (suc n) h = every-append P (joinBelow f n) (f n) (every-join P f n (λ i l. h i (omega arith))) (h n (omega arith))
+
+-- lists of at most m items each
+pub join-most : {A : Type 0} (f : ℕ → List A) (n m : ℕ) → ((i : ℕ) → length (f i) ≤ m) → length (joinBelow f n) ≤ n * m
+unfolding joinBelow
+join-most f zero m h = omega arith
+join-most f (suc n) m h = rw (length-append, suc-mul) (omega (arith, join-most f n m h, h n))
 
 -- one item for each number
 pub length-each : {A : Type 0} (f : ℕ → A) (n : ℕ) → length (eachBelow f n) ≡ n
@@ -102,6 +118,25 @@ length-list p (suc n) = rw length-append (go (p n) (length-list p n))
         → length (listBelow p n) + length (cond b (n ∷ []) []) ≡ cond b (countBelow p n + 1) (countBelow p n)
     go true e = omega arith
     go false e = omega arith
+
+-- the numbers listed rise
+pub rising : (p : ℕ → Bool) (n d a b : ℕ) → a < b → b < length (listBelow p n) → getD (listBelow p n) a d < getD (listBelow p n) b d
+unfolding joinBelow
+rising p zero d a b h l = let z : ⊥ = omega arith in absurd z
+rising p (suc n) d a b h l = go (p n) (rising p n d a b h) l
+  where
+    xs : List ℕ
+    xs = listBelow p n
+
+    go : (c : Bool) → (b < length xs → getD xs a d < getD xs b d) → b < length (xs ++ cond c (n ∷ []) [])
+        → getD (xs ++ cond c (n ∷ []) []) a d < getD (xs ++ cond c (n ∷ []) []) b d
+    go false r k = rw append-nil (r (rw append-nil at k))
+    go true r k =
+        let m : b < length xs + 1 = rw length-append at k in
+        by-cases (ℕ-discrete b (length xs))
+        (λ (q : b ≡ length xs). rw (q, getD-append-seam xs n [] d, List·getD-append xs (n ∷ []) d a (omega arith))
+        (every-at _ xs a d (omega arith) (every-below p n) .0))
+        (λ (q : b ≢ length xs). rw (List·getD-append xs (n ∷ []) d b (omega arith), List·getD-append xs (n ∷ []) d a (omega arith)) (r (omega arith)))
 
 -- a list taken past the end of its first part
 pub take-past {ℓ} : {A : Type ℓ} (k : ℕ) (xs ys : List A) → length xs ≤ k → take k (xs ++ ys) ≡ xs ++ take (k - length xs) ys

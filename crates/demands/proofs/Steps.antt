@@ -1,0 +1,144 @@
+-- What a walk does, on any table: each link looks its name up among the entries that stand where the walk is, and enters a directory.
+-- It stops with 11, 12 or 13 alone; so what holds of a halted plan, and of the plan where the walks end, holds of the whole.
+use mathlib.Core.Bool.{Bool, true, false, not, cond}
+use mathlib.Core.List.{List, [], _∷_}
+use mathlib.Core.Logic.{_⊎_, inl, inr}
+use mathlib.Core.Path.{_≡_, refl, ap, _∙_, subst}
+use Prim.Native.Nat.{ℕ, suc, _<_}
+use lib.ListN.{length}
+use Rattle.paper.specs.Scan.{Found, at, nowhere}
+use Rattle.paper.specs.Record.{directory, nameOf}
+use Rattle.paper.specs.Table.{rooms, rec}
+use Rattle.paper.specs.Line.{Word}
+use Rattle.paper.specs.Code.{noRead}
+use Rattle.paper.specs.Entry.{inDirectory, find}
+use Rattle.paper.specs.Walk.{State, start, applies, file, Step, on, off, looked, look, enter, then, follow, Walked, reached, stopped, linked, toDirectory, lastName, toLast}
+use Rattle.paper.specs.Effect.{Planned, halted, onward, chainOf, toHolder, toEnd}
+use Rattle.laws.proofs.Tests.{either, clash}
+use Rattle.laws.proofs.Entries.{Stands, bears-stands, bears-name, found-bears}
+
+-- ---- one link
+
+-- what is found under the name n in s
+pub record Looked (t : List ℕ) (s : State) (n : List ℕ) (f : State) : Type 0 where
+  pub within : f .entry < rooms t
+  pub stands : Stands (s .holder) (rec t (f .entry))
+  pub name : n ≡ nameOf (rec t (f .entry))
+  pub first : find t (s .holder) n ≡ at (f .entry)
+  pub holder : f .holder ≡ s .holder
+  pub code : f .code ≡ applies t (f .entry)
+
+pub look-on : (t : List ℕ) (s : State) (n : List ℕ) (f : State) → look t s n ≡ on f → Looked t s n f
+unfolding look
+look-on t s n f e = go (find t (s .holder) n) refl e
+  where
+    go : (x : Found) → find t (s .holder) n ≡ x → looked t s x ≡ on f → Looked t s n f
+    go (at i) p q =
+        let c : record { holder = s .holder; entry = i; code = applies t i } ≡ f = cc in
+        let g = found-bears t (s .holder) n i p in
+        subst (Looked t s n) c
+        (record {
+          within = g .0;
+          stands = bears-stands _ _ _ (g .1);
+          name = bears-name (s .holder) _ _ (g .1);
+          first = p;
+          holder = refl;
+          code = refl;
+        })
+    go nowhere p q = clash (cc)
+
+-- a directory of the table, entered by an entry that names it
+pub record Inside (t : List ℕ) (s : State) (d : State) : Type 0 where
+  pub heading : d .holder ≡ inDirectory (file t s)
+  pub directory : directory (rec t (file t s)) ≡ true
+  pub entry : d .entry ≡ s .entry
+  pub code : d .code ≡ s .code
+
+pub enter-on : (t : List ℕ) (s d : State) → enter t s ≡ on d → Inside t s d
+unfolding enter
+enter-on t s d e = go (directory (rec t (file t s))) refl (noRead (s .code)) e
+  where
+    went : State
+    went = record { holder = inDirectory (file t s); entry = s .entry; code = s .code }
+
+    go : (a : Bool) → directory (rec t (file t s)) ≡ a → (b : Bool) → cond (not a) (off 12) (cond b (off 13) (on went)) ≡ on d → Inside t s d
+    go false p b q = clash (cc)
+    go true p true q = clash (cc)
+    go true p false q =
+        let c : went ≡ d = cc in
+        subst (Inside t s) c (record { heading = refl; directory = p; entry = refl; code = refl })
+
+-- the last link
+pub last-looked : (t : List ℕ) (d : State) (ns : List (List ℕ)) (s : State) → toLast t d ns ≡ reached s → Looked t d (lastName ns) s
+last-looked t d ns s e = go (look t d (lastName ns)) refl e
+  where
+    go : (x : Step) → look t d (lastName ns) ≡ x → linked (length ns) x reached ≡ reached s → Looked t d (lastName ns) s
+    go (off number) p q = clash (cc)
+    go (on y) p q = let g : y ≡ s = cc in look-on t d (lastName ns) s (p ∙ ap on g)
+
+-- ---- where a walk stops
+
+-- "at each link 11, 12, 13"
+abbrev pub Walks : ℕ → Type 0
+Walks n = ((n ≡ 11) ⊎ (n ≡ 12)) ⊎ (n ≡ 13)
+
+abbrev Steps : Step → Type 0
+Steps (on s) = Unit {0}
+Steps (off n) = Walks n
+
+abbrev Stops : Walked → Type 0
+Stops (reached s) = Unit {0}
+Stops (stopped n link) = Walks n
+
+steps-look : (t : List ℕ) (s : State) (n : List ℕ) → Steps (look t s n)
+unfolding look
+steps-look t s n = go (find t (s .holder) n)
+  where
+    go : (x : Found) → Steps (looked t s x)
+    go (at e) = tt
+    go nowhere = inl (inl refl)
+
+steps-enter : (t : List ℕ) (s : State) → Steps (enter t s)
+unfolding enter
+steps-enter t s =
+    either Steps (not (directory (rec t (file t s)))) _ _ (inl (inr refl)) (either Steps (noRead (s .code)) _ _ (inr refl) tt)
+
+steps-follow : (t : List ℕ) (s : State) (n : List ℕ) → Steps (follow t s n)
+unfolding follow
+steps-follow t s n = go (look t s n) (steps-look t s n)
+  where
+    go : (x : Step) → Steps x → Steps (then x (enter t))
+    go (on s) h = steps-enter t s
+    go (off n) h = h
+
+stops-linked : (k : ℕ) (x : Step) (f : State → Walked) → Steps x → ((s : State) → Stops (f s)) → Stops (linked k x f)
+stops-linked k (on s) f h g = g s
+stops-linked k (off n) f h g = h
+
+stops-directory : (t : List ℕ) (k : ℕ) (s : State) (ns : List (List ℕ)) → Stops (toDirectory t k s ns)
+unfolding toDirectory
+stops-directory t k s [] = tt
+stops-directory t k s (n ∷ []) = tt
+stops-directory t k s (n ∷ m ∷ ns) =
+    stops-linked k (follow t s n) _ (steps-follow t s n) (λ d. stops-directory t (suc k) d (m ∷ ns))
+
+stops-last : (t : List ℕ) (d : State) (ns : List (List ℕ)) → Stops (toLast t d ns)
+stops-last t d ns = stops-linked (length ns) (look t d (lastName ns)) reached (steps-look t d (lastName ns)) (λ s. tt)
+
+-- ---- what follows a walk
+
+module _ (X : Planned → Type 0) (place : ℕ) (stop : (n link : ℕ) → Walks n → X (halted (record { number = n; place = place; link = link }))) where
+  onward-by : (w : Walked) (f : State → Planned) → Stops w → ((s : State) → w ≡ reached s → X (f s)) → X (onward place w f)
+  onward-by (reached s) f h g = g s refl
+  onward-by (stopped n link) f h g = stop n link h
+
+  module _ (t : List ℕ) (u : ℕ) (w : Word) where
+    -- to an argument's directory
+    pub holder-by : (f : State → Planned) → ((d : State) → toDirectory t 1 (start u) (chainOf w) ≡ reached d → X (f d)) → X (toHolder t u place w f)
+    holder-by f = onward-by (toDirectory t 1 (start u) (chainOf w)) f (stops-directory t 1 (start u) (chainOf w))
+
+    -- .. and to the file that it names
+    pub end-by : (f : State → State → Planned)
+        → ((d s : State) → toDirectory t 1 (start u) (chainOf w) ≡ reached d → toLast t d (chainOf w) ≡ reached s → X (f d s))
+        → X (toEnd t u place w f)
+    end-by f g = holder-by _ (λ d e. onward-by (toLast t d (chainOf w)) (f d) (stops-last t d (chainOf w)) (λ s. g d s e))

@@ -1,0 +1,57 @@
+-- A request that is tried on a sound table is one plan, which keeps soundness and has the shape of the power cut, or DEL, a plan for
+-- each name: each function is told what it needs, and a name that was read fits its field.
+use mathlib.Core.List.{List}
+use mathlib.Core.Path.{_≡_}
+use Prim.Native.Nat.{ℕ, _≤_}
+use Rattle.paper.specs.Line.{Word}
+use Rattle.paper.specs.Check.{Refusal}
+use Rattle.paper.specs.Request.{Request, crd, wrs, rds, cpy, dup, chn, del, dpr, lst, lstBase, request, asked}
+use Rattle.paper.specs.Effect.{Planned, crdPlan, wrsPlan, rdsPlan, cpyPlan, dupPlan, chnPlan, dprPlan, lstPlan, lstBasePlan}
+use Rattle.paper.specs.Answer.{refusing, ran, single, deleting, granted, requested}
+use Rattle.demands.proofs.Clauses.{Sound, sound-clauses}
+use Rattle.demands.proofs.Formed.{named-last}
+use Rattle.demands.proofs.Read.{Told}
+use Rattle.demands.proofs.Course.{Course, untried, tried, course}
+use Rattle.demands.proofs.Kept.{Keeps, dpr-keeps, rds-keeps, lst-keeps, lstBase-keeps}
+use Rattle.demands.proofs.Keeping.{crd-keeps, wrs-keeps, cpy-keeps, dup-keeps, chn-kept}
+use Rattle.demands.proofs.Plans.{Safe, crd-safe, wrs-safe, cpy-safe, dup-safe, chn-safe, dpr-safe, rds-safe, lst-safe, lst-base-safe}
+
+pub data Tried (t line text reply : List ℕ) (u : ℕ) : Type 0 where
+  lent : (f : Refusal) → ((k : ℕ) → requested t line text reply u k ≡ refusing t reply f) → Tried t line text reply u
+  by-plan : (x : Planned) → Safe t x → Keeps t x
+      → ((k : ℕ) → requested t line text reply u k ≡ single t reply k (ran k x)) → Tried t line text reply u
+  by-names : (names : List Word) → asked line text ≡ request (del names)
+      → ((k : ℕ) → requested t line text reply u k ≡ deleting t u reply k 0 0 names) → Tried t line text reply u
+
+module _ (t line text reply : List ℕ) (u : ℕ) where
+  tries : Sound t → u ≤ 999999 → (r : Request) → asked line text ≡ request r → Told text r
+      → ((k : ℕ) → requested t line text reply u k ≡ granted t text reply u k r) → Tried t line text reply u
+  unfolding granted
+  tries c m (crd name level code) a h =
+      by-plan (crdPlan t u name level code) (crd-safe t c u name level code (named-last name (h .name) .short))
+      (crd-keeps t c u name level code m h)
+  tries c m (wrs lifetime level code name) a h =
+      by-plan (wrsPlan t u text lifetime level code name)
+      (wrs-safe t c u text lifetime level code name (named-last name (h .name) .short))
+      (wrs-keeps t c u text lifetime level code name m h)
+  tries c m (rds name) a h = by-plan (rdsPlan t u reply name) (rds-safe t c u reply name) (rds-keeps t u reply name c)
+  tries c m (cpy old new lifetime level code) a h =
+      by-plan (cpyPlan t u old new lifetime level code)
+      (cpy-safe t c u old new lifetime level code (named-last new (h .new) .short))
+      (cpy-keeps t c u old new lifetime level code m h)
+  tries c m (dup old new code) a h =
+      by-plan (dupPlan t u old new code) (dup-safe t c u old new code (named-last new (h .new) .short))
+      (dup-keeps t c u old new code m h)
+  tries c m (chn old link) a h = by-plan (chnPlan t u old link) (chn-safe t c u old link) (chn-kept t c u old link h)
+  tries c m (del names) a h = by-names names a
+  tries c m (dpr name code) a h =
+      by-plan (dprPlan t u name code) (dpr-safe t c u name code) (dpr-keeps t u name code c (h .code))
+  tries c m (lst name) a h = by-plan (lstPlan t u reply name) (lst-safe t c u reply name) (lst-keeps t u reply name c)
+  tries c m lstBase a h = by-plan (lstBasePlan t u reply) (lst-base-safe t c u reply) (lstBase-keeps t u reply c)
+
+  pub ways : Tried t line text reply u
+  ways = go (course t line text reply u)
+    where
+      go : Course t line text reply u → Tried t line text reply u
+      go (untried f h e) = lent f e
+      go (tried r h e) = tries (sound-clauses t (h .sized) (h .sound)) (h .user) r (h .asked) (h .told) e

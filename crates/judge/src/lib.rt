@@ -1,0 +1,39 @@
+// Is this table sound?
+ghost use mathlib.Core.Path.{_≡_};
+ghost use mathlib.Core.Bool.{true};
+ghost use Rattle.paper.specs.Table.{sized};
+ghost use Rattle.paper.specs.Sound.{sound};
+ghost use Rattle.judge.specs.Judged.{judged};
+
+// Whether a sized table is sound. The records are judged one by one first: then the same bytes are the same name.
+fn is_sound(table: &[u8]) -> bool
+    requires { ⌜ sized (now table) ≡ true ⌝ }
+    ensures { λ r. ⌜ r ≡ sound (now (table .entry)) ⌝ }
+{
+    if !shapes::records_are_right(table) {
+        return false;
+    }
+    if !marks::headings_are_named(table) {
+        return false;
+    }
+    if !marks::text_is_sound(table) {
+        return false;
+    }
+    if !twins::none_are_twins(table) {
+        return false;
+    }
+    crowds::none_are_crowded(table)
+}
+
+// Document 01's number for the table: 1 if it is not sized, 2 if it is not sound, and else 0.
+pub fn judge(table: &[u8]) -> u8
+    ensures { λ r. ⌜ r ≡ judged (now (table .entry)) ⌝ }
+{
+    if !fields::is_sized(table) {
+        return 1;
+    }
+    if !is_sound(table) {
+        return 2;
+    }
+    0
+}

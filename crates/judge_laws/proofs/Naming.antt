@@ -1,0 +1,74 @@
+-- The turns of the loops that judge whether every heading is named.
+-- A mark is set where an entry names the record, so after the last entry it says whether any does.
+use mathlib.Core.Bool.{Bool, true, false, not, cond}
+use mathlib.Core.List.{List}
+use mathlib.Core.Logic.{_⊎_, inl, inr, _≢_, by-cases}
+use mathlib.Core.Path.{_≡_, refl, sym, _∙_}
+use Prim.Native.Nat.{ℕ, _+_, _≤_, _<_}
+use native.Mathlib.Omega.{arith}
+use native.Mathlib.Decide.{ℕ-discrete}
+use lib.ListN.{length, getD, set, length-set}
+use lib.Seq.{getD-set-same, getD-set-other}
+use lib.Dec.{eqb}
+use borrow.Author.Tests.{eq-eqb, ne-eqb, ltb-true, ltb-false}
+use Rattle.judge_laws.specs.Naming.{namesOne, NamedBelow, headed}
+use Rattle.paper.specs.Entry.{named}
+use Rattle.paper.specs.Record.{isKind, headingNamed, names}
+use Rattle.paper.specs.Scan.{anyBelow}
+use Rattle.paper.specs.Sound.{allNamed}
+use Rattle.paper.specs.Table.{rooms, rec}
+use Rattle.judge_laws.proofs.Scans.{truth, and-left, and-right, any-more}
+use Rattle.judge_laws.proofs.Tests.{all-here, all-false}
+
+pub named-none : (t mark : List ℕ) → length t ≤ 65536 → ((s : ℕ) → s < 2048 → getD mark s 0 ≡ 0) → NamedBelow t mark 0
+unfolding anyBelow
+named-none t mark b z h l = z h (omega arith)
+
+module _ (t mark : List ℕ) (i : ℕ) (m : NamedBelow t mark i) where
+  marks : length mark ≡ 2048 → length t ≤ 65536 → namesOne t i ≡ true → NamedBelow t (set mark (headingNamed (rec t i)) 1) (i + 1)
+  marks z b e h l =
+      rw any-more
+      (by-cases (ℕ-discrete h (headingNamed (rec t i)))
+      (λ (q : h ≡ headingNamed (rec t i)). rw (q, k, eq-eqb (headingNamed (rec t i)) (headingNamed (rec t i)) refl) (getD-set-same mark (headingNamed (rec t i)) 1 0 (omega (arith, r))))
+      (λ (q : h ≢ headingNamed (rec t i)). rw (k, ne-eqb (headingNamed (rec t i)) h (λ x. q (sym x))) (getD-set-other mark (headingNamed (rec t i)) h 1 0 q ∙ m h l)))
+    where
+      k : isKind 2 (rec t i) ≡ true
+      k = and-left (isKind 2 (rec t i)) _ e
+
+      r : headingNamed (rec t i) < rooms t
+      r = ltb-true _ _ (and-right (isKind 2 (rec t i)) _ e)
+
+  none : namesOne t i ≡ false → NamedBelow t mark (i + 1)
+  none e h l = rw (any-more, other (truth (isKind 2 (rec t i)))) (m h l)
+    where
+      other : (isKind 2 (rec t i) ≡ true) ⊎ (isKind 2 (rec t i) ≡ false) → names h (rec t i) ≡ false
+      other (inl k) =
+          let f : rooms t ≤ headingNamed (rec t i) = ltb-false _ _ (rw k at e) in
+          rw (k, ne-eqb (headingNamed (rec t i)) h (λ (x : headingNamed (rec t i) ≡ h). omega arith))
+      other (inr k) = rw k
+
+  pub name-turned : (mark′ : List ℕ) → length mark ≡ 2048 → length t ≤ 65536
+      → mark′ ≡ cond (namesOne t i) (set mark (headingNamed (rec t i)) 1) mark → NamedBelow t mark′ (i + 1) × (length mark′ ≡ 2048)
+  name-turned mark′ z b q = go (truth (namesOne t i))
+    where
+      go : (namesOne t i ≡ true) ⊎ (namesOne t i ≡ false) → NamedBelow t mark′ (i + 1) × (length mark′ ≡ 2048)
+      go (inl e) = let r : mark′ ≡ set mark (headingNamed (rec t i)) 1 = q ∙ rw e in (rw r (marks z b e), rw (r, length-set) z)
+      go (inr e) = let r : mark′ ≡ mark = q ∙ rw e in (rw r (none e), rw r z)
+
+module _ (t mark : List ℕ) (m : NamedBelow t mark (rooms t)) where
+  -- the mark tells
+  pub mark-tells : (i : ℕ) → i < rooms t → not (eqb (getD mark i 0) 0) ≡ named t i
+  unfolding named
+  mark-tells i l = rw (m i l) (go (anyBelow (λ j. names i (rec t j)) (rooms t)))
+    where
+      go : (b : Bool) → not (eqb (cond b 1 0) 0) ≡ b
+      go true = refl
+      go false = refl
+
+pub all-headed : (t : List ℕ) → ((i : ℕ) → i < rooms t → headed t i ≡ true) → allNamed t ≡ true
+unfolding allNamed
+all-headed t h = all-here (headed t) (rooms t) h
+
+pub one-bare : (t : List ℕ) (i : ℕ) → i < rooms t → headed t i ≡ false → allNamed t ≡ false
+unfolding allNamed
+one-bare t i l e = all-false (headed t) (rooms t) i l e

@@ -1,0 +1,104 @@
+-- Twins: entries that stand in one place and bear one name, found in the chains by a hash of what they share.
+-- A twin has the same hash, so it is in the bucket; the walk down the bucket meets the last one first.
+use mathlib.Core.Bool.{true, false, _&&_}
+use mathlib.Core.List.{List}
+use mathlib.Core.Path.{_≡_, sym, _∙_}
+use Prim.Native.Nat.{ℕ, _+_, _-_, _≤_, _<_}
+use native.Mathlib.Omega.{arith}
+use lib.ListN.{getD}
+use lib.Dec.{eqb}
+use borrow.Author.Tests.{eqb-true, eq-eqb}
+use Rattle.judge_laws.specs.Chains.{inBucket, lastIn, Linked}
+use Rattle.judge_laws.specs.Twins.{twin, twinTo, single, noTwins, hashOf}
+use Rattle.paper.specs.Entry.{stands}
+use Rattle.paper.specs.Record.{byte, two, isKind, holderOf, userOf}
+use Rattle.paper.specs.Scan.{anyBelow}
+use Rattle.paper.specs.Table.{rooms, rec}
+use Rattle.judge_laws.proofs.Chains.{Walk, walk-start, walk-end, walk-found, walk-on}
+use Rattle.judge_laws.proofs.Lasts.{any-none, any-some}
+use Rattle.judge_laws.proofs.Records.{two-bytes}
+use Rattle.judge_laws.proofs.Scans.{and-left, and-right, and-both}
+use Rattle.judge_laws.proofs.Tests.{all-true, all-here, false-by, all-false}
+
+pub hash-below : (r : List ℕ) → hashOf r < 2048
+unfolding hashOf
+hash-below r = omega arith
+
+-- what twins share
+pub record Alike (a b : List ℕ) : Type 0 where
+  pub kind : isKind 2 b ≡ true
+  pub place : holderOf b ≡ holderOf a
+  pub user : userOf b ≡ userOf a
+  pub bytes : (j : ℕ) → j < 11 → byte a (9 + j) ≡ byte b (9 + j)
+
+pub twin-alike : (a b : List ℕ) → twin a b ≡ true → Alike a b
+unfolding stands
+twin-alike a b e =
+    let s = and-left (isKind 2 b && (eqb (holderOf b) (holderOf a) && eqb (userOf b) (userOf a))) _ e in
+    let p = and-right (isKind 2 b) _ s in
+    let y = and-right (isKind 2 b && (eqb (holderOf b) (holderOf a) && eqb (userOf b) (userOf a))) _ e in
+    record {
+      kind = and-left (isKind 2 b) _ s;
+      place = eqb-true _ _ (and-left (eqb (holderOf b) (holderOf a)) _ p);
+      user = eqb-true _ _ (and-right (eqb (holderOf b) (holderOf a)) _ p);
+      bytes = λ j l. eqb-true _ _ (all-true (λ j. eqb (byte a (9 + j)) (byte b (9 + j))) 11 j l y);
+    }
+
+pub alike-twin : (a b : List ℕ) → Alike a b → twin a b ≡ true
+unfolding stands
+alike-twin a b s =
+    and-both (isKind 2 b && (eqb (holderOf b) (holderOf a) && eqb (userOf b) (userOf a))) _
+    (and-both (isKind 2 b) _ (s .kind) (and-both (eqb (holderOf b) (holderOf a)) _ (eq-eqb _ _ (s .place)) (eq-eqb _ _ (s .user))))
+    (all-here (λ j. eqb (byte a (9 + j)) (byte b (9 + j))) 11 (λ j l. eq-eqb _ _ (s .bytes j l)))
+
+-- twins have one hash
+pub hash-alike : (a b : List ℕ) → Alike a b → hashOf b ≡ hashOf a
+unfolding hashOf
+hash-alike a b s =
+    rw (s .place, s .user, ← (s .bytes 0 (omega arith)), w 1 (omega arith), w 3 (omega arith), w 5 (omega arith), w 7 (omega arith), w 9 (omega arith))
+  where
+    w : (j : ℕ) → j < 10 → two b (9 + j) ≡ two a (9 + j)
+    w j l = let q : 9 + j + 1 ≡ 9 + (j + 1) = omega arith in two-bytes b (9 + j) ∙ rw (q, ← (s .bytes j (omega arith)), ← (s .bytes (j + 1) (omega arith)), ← q) (sym (two-bytes a (9 + j)))
+
+twin-bucket : (t : List ℕ) (i j : ℕ) → twinTo t i j ≡ true → inBucket hashOf t (hashOf (rec t i)) j ≡ true
+twin-bucket t i j e =
+    let s = twin-alike (rec t i) (rec t j) e in
+    and-both (isKind 2 (rec t j)) _ (s .kind) (eq-eqb (hashOf (rec t j)) (hashOf (rec t i)) (hash-alike (rec t i) (rec t j) s))
+
+-- the walk for an entry alike
+pub twin-start : (t : List ℕ) (i c : ℕ) → c ≡ lastIn hashOf t (hashOf (rec t i)) i → Walk hashOf t (twinTo t i) i c
+twin-start t i c e = walk-start hashOf t (twinTo t i) i (twin-bucket t i) c e
+
+module _ (t : List ℕ) (i c : ℕ) (w : Walk hashOf t (twinTo t i) i c) where
+  pub twin-end : c ≤ 0 → anyBelow (twinTo t i) i ≡ false
+  twin-end l = any-none (twinTo t i) i (walk-end hashOf t (twinTo t i) i (twin-bucket t i) c w l)
+
+  pub twin-found : 0 < c → twin (rec t i) (rec t (c - 1)) ≡ true → anyBelow (twinTo t i) i ≡ true
+  twin-found l e =
+      any-some (twinTo t i) i c
+      (walk-found hashOf t (twinTo t i) i (twin-bucket t i) c w l e) l
+
+  pub twin-on : (next : List ℕ) (c′ : ℕ) → 0 < c → twin (rec t i) (rec t (c - 1)) ≡ false
+      → Linked hashOf t next i → c′ ≡ getD next (c - 1) 0
+      → Walk hashOf t (twinTo t i) i c′ × (c′ < c)
+  twin-on next c′ l n h e = walk-on hashOf t (twinTo t i) i (twin-bucket t i) next c c′ w l n h e
+
+-- the whole test
+pub single-all : (t : List ℕ) → ((i : ℕ) → i < rooms t → single t i ≡ true) → noTwins t ≡ true
+unfolding noTwins
+single-all t h = all-here (single t) (rooms t) h
+
+pub twin-one : (t : List ℕ) (i : ℕ) → i < rooms t → single t i ≡ false → noTwins t ≡ false
+unfolding noTwins
+twin-one t i l e = all-false (single t) (rooms t) i l e
+
+-- the test, part by part
+module _ (a b : List ℕ) where
+  pub twin-not-place : (holderOf a ≡ holderOf b → ⊥) → twin a b ≡ false
+  twin-not-place n = false-by (twin a b) (λ e. n (sym (twin-alike a b e .place)))
+
+  pub twin-not-user : (userOf a ≡ userOf b → ⊥) → twin a b ≡ false
+  twin-not-user n = false-by (twin a b) (λ e. n (sym (twin-alike a b e .user)))
+
+  pub twin-not-byte : (j : ℕ) → j < 11 → (byte a (9 + j) ≡ byte b (9 + j) → ⊥) → twin a b ≡ false
+  twin-not-byte j l n = false-by (twin a b) (λ e. n (twin-alike a b e .bytes j l))

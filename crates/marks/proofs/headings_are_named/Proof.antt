@@ -1,0 +1,36 @@
+-- A table that is not sized is refused; on any other the answer is that of the pass.
+-- The scratch starts without a mark, so its marks are those of no entry.
+use mathlib.Core.Path.{refl, sym, _∙_}
+use lib.ListN.{getD-replicate}
+use borrow.Author.Tests.{not-true, not-false}
+use borrow.Author.Needs.{needs}
+use Rattle.paper.specs.Sound.{allNamed}
+use Rattle.paper.specs.Table.{sized}
+use Rattle.judge_laws.proofs.Records.{sized-whole}
+use Rattle.judge_laws.proofs.Scans.{and-no-left, and-past}
+use Rattle.marks.proofs.headings_are_named.Statement.{statement}
+use Rattle.marks.proofs.headings_are_named.Tie as tie
+
+is-sized-requires : tie.Need-is-sized-requires
+is-sized-requires c κs = search needs
+
+returns : tie.Need-returns
+returns c = sym (and-no-left (sized (c .before .before .before .args .t .now)) (allNamed (c .before .before .before .args .t .now)) (sym (c .before .is-sized .ensures) ∙ not-true _ (c .if1 .taken)))
+
+mark-named-requires : tie.Need-mark-named-requires
+mark-named-requires c κs =
+    let e = sym (c .before .before .is-sized .ensures) ∙ not-false _ (c .before .if1 .left) in
+    (sized-whole (c .before .before .before .before .args .t .now) e .1, refl, λ s l. getD-replicate 2048 s 0 0 l)
+
+all-marked-requires : tie.Need-all-marked-requires
+all-marked-requires c κs =
+    let e = sym (c .before .before .before .before .is-sized .ensures) ∙ not-false _ (c .before .before .before .if1 .left) in
+    (sized-whole (c .before .before .before .before .before .before .args .t .now) e .1, c .before .mark-named .ensures)
+
+returns-2 : tie.Need-returns-2
+returns-2 c = c .all-marked .ensures ∙ sym (and-past (sized (c .before .before .before .before .before .before .before .args .t .now)) (allNamed (c .before .before .before .before .before .before .before .args .t .now)) (sym (c .before .before .before .before .before .is-sized .ensures) ∙ not-false _ (c .before .before .before .before .if1 .left)))
+
+pub headings-are-named-spec : {M : Type 1} → statement M
+headings-are-named-spec =
+    tie.close
+    (tie.spec is-sized-requires returns mark-named-requires all-marked-requires returns-2)

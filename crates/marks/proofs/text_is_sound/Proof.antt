@@ -1,0 +1,42 @@
+-- A table that is not sized is refused; on any other the answer is that of the pass.
+-- The scratch starts without a mark, and the second pass runs where the first laid the slots out.
+use mathlib.Core.Bool.{_&&_}
+use mathlib.Core.Path.{refl, sym, _∙_}
+use lib.ListN.{getD-replicate}
+use borrow.Author.Tests.{not-true, not-false}
+use borrow.Author.Needs.{needs}
+use Rattle.judge_laws.specs.Places.{textSound}
+use Rattle.paper.specs.Sound.{textsWhole, noOtherText}
+use Rattle.paper.specs.Table.{sized}
+use Rattle.judge_laws.proofs.Records.{sized-whole}
+use Rattle.judge_laws.proofs.Scans.{and-no-left, and-past}
+use Rattle.marks.proofs.text_is_sound.Statement.{statement}
+use Rattle.marks.proofs.text_is_sound.Tie as tie
+
+is-sized-requires : tie.Need-is-sized-requires
+is-sized-requires c κs = search needs
+
+returns : tie.Need-returns
+returns c = sym (and-no-left (sized (c .before .before .before .args .t .now)) (textsWhole (c .before .before .before .args .t .now) && noOtherText (c .before .before .before .args .t .now)) (sym (c .before .is-sized .ensures) ∙ not-true _ (c .if1 .taken)))
+
+lay-out-requires : tie.Need-lay-out-requires
+lay-out-requires c κs =
+    let e = sym (c .before .before .is-sized .ensures) ∙ not-false _ (c .before .if1 .left) in
+    let w = sized-whole (c .before .before .before .before .args .t .now) e in
+    (w .0, w .1, refl)
+
+returns-2 : tie.Need-returns-2
+unfolding textSound
+returns-2 c = sym (and-past (sized (c .before .before .before .before .before .before .args .t .now)) (textSound (c .before .before .before .before .before .before .args .t .now)) (sym (c .before .before .before .before .is-sized .ensures) ∙ not-false _ (c .before .before .before .if1 .left)) ∙ c .before .lay-out .ensures .0 (not-true _ (c .if2 .taken)))
+
+mark-all-requires : tie.Need-mark-all-requires
+mark-all-requires c κs = (c .before .before .before .lay-out .ensures .1 (not-false _ (c .before .before .if2 .left)), refl, λ s l. getD-replicate 2048 s 0 0 l)
+
+returns-3 : tie.Need-returns-3
+unfolding textSound
+returns-3 c = c .mark-all .ensures ∙ sym (and-past (sized (c .before .before .before .before .before .before .before .before .before .args .t .now)) (textSound (c .before .before .before .before .before .before .before .before .before .args .t .now)) (sym (c .before .before .before .before .before .before .before .is-sized .ensures) ∙ not-false _ (c .before .before .before .before .before .before .if1 .left)))
+
+pub text-is-sound-spec : {M : Type 1} → statement M
+text-is-sound-spec =
+    tie.close
+    (tie.spec is-sized-requires returns lay-out-requires returns-2 mark-all-requires returns-3)

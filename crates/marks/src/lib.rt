@@ -1,0 +1,239 @@
+// Text by slots and headings by marks: each judged in one pass over the table.
+ghost use mathlib.Core.Path.{_≡_};
+ghost use mathlib.Core.Bool.{_&&_, cond, true, false};
+ghost use Prim.Native.Nat.{ℕ, _<_, _≤_, _%_};
+ghost use lib.ListN.{length, getD, set};
+ghost use Rattle.paper.specs.Record.{byte, two, isKind, headingNamed};
+ghost use Rattle.paper.specs.Table.{sized, rooms, rec};
+ghost use Rattle.paper.specs.Sound.{inPlace, textsWhole, noOtherText, allNamed};
+ghost use Rattle.judge_laws.specs.Naming.{NamedBelow, namesOne, headed};
+ghost use Rattle.judge_laws.specs.Places.{weight, shortAt, textSound, slotOf, Laid, fresh};
+use fields::Entry;
+use fields::Heading;
+use fields::Record;
+use fields::Text;
+
+fn wide(x: u8) -> usize
+    ensures { λ r. ⌜ (r ≡ x) × (r < 256) ⌝ }
+{
+    x as usize
+}
+
+fn wide16(x: u16) -> usize
+    ensures { λ r. ⌜ (r ≡ x) × (r < 65536) ⌝ }
+{
+    x as usize
+}
+
+// The byte at place j of record i.
+fn byte_of(t: &[u8], i: usize, j: usize) -> usize
+    requires { ⌜ (i < rooms (now t)) × (j < 32) ⌝ }
+    ensures { λ r. ⌜ (r ≡ byte (rec (now (t .entry)) i) j) × (r < 256) ⌝ }
+{
+    wide(t[i * Record::BYTES + j])
+}
+
+// The two-byte number at place j of record i, low byte first.
+fn two_of(t: &[u8], i: usize, j: usize) -> usize
+    requires { ⌜ (i < rooms (now t)) × (j < 31) ⌝ }
+    ensures { λ r. ⌜ (r ≡ two (rec (now (t .entry)) i) j) × (r < 65536) ⌝ }
+{
+    byte_of(t, i, j) + byte_of(t, i, j + 1) * 256
+}
+
+// How many text records record i asks for.
+fn weight_of(t: &[u8], i: usize) -> usize
+    requires { ⌜ i < rooms (now t) ⌝ }
+    ensures { λ r. ⌜ (r ≡ weight (rec (now (t .entry)) i)) × (r < 2732) ⌝ }
+{
+    if byte_of(t, i, Record::KIND) == Heading::KIND {
+        if byte_of(t, i, Heading::TYPE) == Heading::SIMPLE {
+            return (two_of(t, i, Heading::LENGTH) + 23) / 24;
+        }
+    }
+    0
+}
+
+// Whether record i, if it is a simple file's heading, has a fit length.
+fn is_short(t: &[u8], i: usize) -> bool
+    requires { ⌜ i < rooms (now t) ⌝ }
+    ensures { λ r. ⌜ r ≡ shortAt (now (t .entry)) i ⌝ }
+{
+    if byte_of(t, i, Record::KIND) == Heading::KIND {
+        if byte_of(t, i, Heading::TYPE) == Heading::SIMPLE {
+            return two_of(t, i, Heading::LENGTH) <= Heading::LONGEST;
+        }
+    }
+    true
+}
+
+// 1 if record i is text.
+fn text_of(t: &[u8], i: usize) -> usize
+    requires { ⌜ i < rooms (now t) ⌝ }
+    ensures { λ r. ⌜ (r ≡ cond (isKind 3 (rec (now (t .entry)) i)) 1 0) × (r ≤ 1) ⌝ }
+{
+    if byte_of(t, i, Record::KIND) == Text::KIND {
+        return 1;
+    }
+    0
+}
+
+// Whether no file is too long and there is as much text as the headings ask for; if so, each record's first slot is laid down.
+fn lay_out(t: &[u8], start: &mut [u16; 2048]) -> bool
+    requires { ⌜ (length (now t) % 32 ≡ 0) × (length (now t) ≤ 65536) × (length (now start) ≡ 2048) ⌝ }
+    ensures { λ r. ⌜ (r ≡ false → textSound (now (t .entry)) ≡ false) × (r ≡ true → Laid (now (t .entry)) (now (start .exit))) ⌝ }
+{
+    let n = t.len() / Record::BYTES;
+    let mut sum: usize = 0;
+    let mut count: usize = 0;
+    let mut i: usize = 0;
+    while i < n {
+        start[i] = sum as u16;
+        if !is_short(t, i) {
+            return false;
+        }
+        sum += weight_of(t, i);
+        if n < sum {
+            return false;
+        }
+        count += text_of(t, i);
+        i += 1;
+    }
+    count == sum
+}
+
+// Whether text record i is in place in the file of heading h.
+fn in_place(t: &[u8], h: usize, i: usize) -> bool
+    requires { ⌜ (i < rooms (now t)) × (length (now t) % 32 ≡ 0) ⌝ }
+    ensures { λ r. ⌜ r ≡ inPlace (rec (now (t .entry)) h) (rec (now (t .entry)) i) ⌝ }
+{
+    if t.len() / Record::BYTES <= h {
+        return false;
+    }
+    let blocks = weight_of(t, h);
+    let p = two_of(t, i, Text::POSITION);
+    if blocks <= p {
+        return false;
+    }
+    let held = byte_of(t, i, Text::HELD);
+    if p + 1 < blocks {
+        return held == Text::MOST;
+    }
+    held == two_of(t, h, Heading::LENGTH) - p * Text::MOST
+}
+
+// Record i, if it is text, takes its slot: whether it is in place and the slot was free.
+fn mark_turn(t: &[u8], start: &[u16; 2048], mark: &mut [u8; 2048], i: usize) -> bool
+    requires { ⌜ (i < rooms (now t)) × Laid (now t) (now start) ⌝ }
+    ensures { λ r. ⌜ (r ≡ fresh (now (t .entry)) (now (mark .entry)) i) × (now (mark .exit) ≡ cond (fresh (now (t .entry)) (now (mark .entry)) i && isKind 3 (rec (now (t .entry)) i)) (set (now (mark .entry)) (slotOf (now (t .entry)) i) 1) (now (mark .entry))) ⌝ }
+{
+    if byte_of(t, i, Record::KIND) != Text::KIND {
+        return true;
+    }
+    let h = two_of(t, i, Text::HEADING);
+    if !in_place(t, h, i) {
+        return false;
+    }
+    let s = wide16(start[h]) + two_of(t, i, Text::POSITION);
+    if mark[s] != 0 {
+        return false;
+    }
+    mark[s] = 1;
+    true
+}
+
+// Whether each text record is in place in a slot of its own.
+fn mark_all(t: &[u8], start: &[u16; 2048], mark: &mut [u8; 2048]) -> bool
+    requires { ⌜ Laid (now t) (now start) × (length (now mark) ≡ 2048) × ((s : ℕ) → s < 2048 → getD (now mark) s 0 ≡ 0) ⌝ }
+    ensures { λ r. ⌜ r ≡ textSound (now (t .entry)) ⌝ }
+{
+    let n = t.len() / Record::BYTES;
+    let mut i: usize = 0;
+    while i < n {
+        if !mark_turn(t, start, mark, i) {
+            return false;
+        }
+        i += 1;
+    }
+    true
+}
+
+// Whether the table is sized and its text is sound: each simple file has its text whole, and there is no other.
+pub fn text_is_sound(t: &[u8]) -> bool
+    ensures { λ r. ⌜ r ≡ (sized (now (t .entry)) && (textsWhole (now (t .entry)) && noOtherText (now (t .entry)))) ⌝ }
+{
+    if !fields::is_sized(t) {
+        return false;
+    }
+    let mut start = [0u16; 2048];
+    let mut mark = [0u8; 2048];
+    if !lay_out(t, &mut start) {
+        return false;
+    }
+    mark_all(t, &start, &mut mark)
+}
+
+// If record i is an entry that names a record of the table, that record is marked.
+fn name_turn(t: &[u8], mark: &mut [u8; 2048], i: usize)
+    requires { ⌜ (i < rooms (now t)) × (length (now t) ≤ 65536) ⌝ }
+    ensures { λ _. ⌜ now (mark .exit) ≡ cond (namesOne (now (t .entry)) i) (set (now (mark .entry)) (headingNamed (rec (now (t .entry)) i)) 1) (now (mark .entry)) ⌝ }
+{
+    if byte_of(t, i, Record::KIND) == Entry::KIND {
+        let h = two_of(t, i, Entry::NAMED);
+        if h < t.len() / Record::BYTES {
+            mark[h] = 1;
+        }
+    }
+}
+
+// Every record that an entry names is marked.
+fn mark_named(t: &[u8], mark: &mut [u8; 2048])
+    requires { ⌜ (length (now t) ≤ 65536) × (length (now mark) ≡ 2048) × ((s : ℕ) → s < 2048 → getD (now mark) s 0 ≡ 0) ⌝ }
+    ensures { λ _. ⌜ NamedBelow (now (t .entry)) (now (mark .exit)) (rooms (now (t .entry))) ⌝ }
+{
+    let n = t.len() / Record::BYTES;
+    let mut i: usize = 0;
+    while i < n {
+        name_turn(t, mark, i);
+        i += 1;
+    }
+}
+
+// Whether record i, if it is a heading, is marked.
+fn heading_marked(t: &[u8], mark: &[u8; 2048], i: usize) -> bool
+    requires { ⌜ (i < rooms (now t)) × (length (now t) ≤ 65536) × NamedBelow (now t) (now mark) (rooms (now t)) ⌝ }
+    ensures { λ r. ⌜ r ≡ headed (now (t .entry)) i ⌝ }
+{
+    if byte_of(t, i, Record::KIND) != Heading::KIND {
+        return true;
+    }
+    mark[i] != 0
+}
+
+// Whether every heading is marked.
+fn all_marked(t: &[u8], mark: &[u8; 2048]) -> bool
+    requires { ⌜ (length (now t) ≤ 65536) × NamedBelow (now t) (now mark) (rooms (now t)) ⌝ }
+    ensures { λ r. ⌜ r ≡ allNamed (now (t .entry)) ⌝ }
+{
+    let n = t.len() / Record::BYTES;
+    let mut i: usize = 0;
+    while i < n {
+        if !heading_marked(t, mark, i) {
+            return false;
+        }
+        i += 1;
+    }
+    true
+}
+
+// Whether the table is sized and every heading is named by an entry.
+pub fn headings_are_named(t: &[u8]) -> bool
+    ensures { λ r. ⌜ r ≡ (sized (now (t .entry)) && allNamed (now (t .entry))) ⌝ }
+{
+    if !fields::is_sized(t) {
+        return false;
+    }
+    let mut mark = [0u8; 2048];
+    mark_named(t, &mut mark);
+    all_marked(t, &mark)
+}

@@ -1,0 +1,4 @@
+pub mod Declarations
+pub mod Verdicts
+pub mod Functions
+pub mod Ties

@@ -1,0 +1,81 @@
+-- The count and the names come first, then the declaration;
+-- what is granted has the parts of the declaration that is taken.
+use mathlib.Core.Path.{sym, _∙_}
+use mathlib.Core.List.{_∷_}
+use Rattle.paper.specs.Declaration.{fitCrd}
+use Rattle.paper.specs.Line.{word}
+use Rattle.paper.specs.Request.{crd, miscounted, misnamed, declaredAt, partsAt, readCrd}
+use Rattle.reader.proofs.Verdicts.{form-refused, form-unfit, form-fit}
+use borrow.Author.Needs.{needs}
+use Rattle.reader.proofs.request.read_crd.Statement.{statement}
+use Rattle.reader.proofs.request.read_crd.Tie as tie
+
+check-form-requires : tie.Need-check-form-requires
+check-form-requires c κs = tt
+
+enum-known-refusal : tie.Need-enum-known-refusal
+enum-known-refusal c = search needs
+
+returns : tie.Need-returns
+unfolding readCrd
+returns c =
+    let line = c .before .before .before .before .before .args .line .now in
+    let r = crd (word line 1) (partsAt line 2 .level) (partsAt line 2 .code) in
+    let cs = miscounted 1 2 line ∷ misnamed 1 2 line in
+    sym (form-refused r cs 2 fitCrd (declaredAt line 2) _ (c .before .before .before .check-form .ensures) _ (c .before .refusal .given .1))
+
+enum-told : tie.Need-enum-told
+enum-told c = search needs
+
+declared-at-requires : tie.Need-declared-at-requires
+declared-at-requires c κs = tt
+
+taken-by-crd-requires : tie.Need-taken-by-crd-requires
+taken-by-crd-requires c κs = tt
+
+enum-known-parts : tie.Need-enum-known-parts
+enum-known-parts c = search needs
+
+enum-told-2 : tie.Need-enum-told-2
+enum-told-2 c = search needs
+
+unfit-at-requires : tie.Need-unfit-at-requires
+unfit-at-requires c κs = tt
+
+returns-2 : tie.Need-returns-2
+unfolding readCrd
+returns-2 c =
+    let line = c .before .before .before .before .before .before .before .before .before .args .line .now in
+    let r = crd (word line 1) (partsAt line 2 .level) (partsAt line 2 .code) in
+    let cs = miscounted 1 2 line ∷ misnamed 1 2 line in
+    c .unfit-at .ensures
+    ∙ sym (form-unfit r cs 2 fitCrd (declaredAt line 2) _ (c .before .before .before .before .before .before .before .check-form .ensures) (c .before .before .before .before .before .enum-told .given .1) _ _ (c .before .before .before .before .declared-at .ensures) (c .before .before .before .taken-by-crd .ensures) (c .before .enum-told2 .given .1))
+
+word-at-requires : tie.Need-word-at-requires
+word-at-requires c κs = tt
+
+returns-3 : tie.Need-returns-3
+unfolding readCrd
+returns-3 c =
+    let line = c .before .before .before .before .before .before .before .before .before .before .args .line .now in
+    let r = crd (word line 1) (partsAt line 2 .level) (partsAt line 2 .code) in
+    let cs = miscounted 1 2 line ∷ misnamed 1 2 line in
+    let t = form-fit r cs 2 fitCrd (declaredAt line 2) _ (c .before .before .before .before .before .before .before .before .check-form .ensures) (c .before .before .before .before .before .before .enum-told .given .1) _ _ (c .before .before .before .before .before .declared-at .ensures) (c .before .before .before .before .taken-by-crd .ensures) _ (c .before .before .parts .given .1) in
+    rw (c .word-at .ensures, t .1) (sym (t .0))
+
+pub read-crd-spec : {M : Type 1} → statement M
+read-crd-spec =
+    tie.close
+    (tie.spec
+    check-form-requires
+    enum-known-refusal
+    returns
+    enum-told
+    declared-at-requires
+    taken-by-crd-requires
+    enum-known-parts
+    enum-told-2
+    unfit-at-requires
+    returns-2
+    word-at-requires
+    returns-3)

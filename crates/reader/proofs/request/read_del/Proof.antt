@@ -1,0 +1,61 @@
+-- The count and the names decide; of the words after the first
+-- there is at least one where the count passed.
+use mathlib.Core.Path.{sym}
+use mathlib.Core.List.{_∷_}
+use lib.ListN.{length, drop}
+use Rattle.paper.specs.Line.{words}
+use Rattle.paper.specs.Request.{del, miscounted, misnamed, readDel}
+use Rattle.reader.proofs.Verdicts.{read-refused, read-passed}
+use Rattle.reader.proofs.Functions.{count-least, rest-first, rest-count}
+use borrow.Author.Needs.{needs}
+use Rattle.reader.proofs.request.read_del.Statement.{statement}
+use Rattle.reader.proofs.request.read_del.Tie as tie
+
+count-words-requires : tie.Need-count-words-requires
+count-words-requires c κs = tt
+
+check-form-requires : tie.Need-check-form-requires
+check-form-requires c κs = tt
+
+enum-known-refusal : tie.Need-enum-known-refusal
+enum-known-refusal c = search needs
+
+returns : tie.Need-returns
+unfolding readDel
+returns c =
+    let line = c .before .before .before .before .before .before .args .line .now in
+    let e = rw (c .before .before .before .before .count-words .ensures) at (c .before .before .before .check-form .ensures) in
+    let cs = misnamed 1 (length (words line)) line in
+    sym (read-refused (del (drop 1 (words line))) (miscounted 1 8 line ∷ cs) _ _ e (c .before .refusal .given .1))
+
+enum-told : tie.Need-enum-told
+enum-told c = search needs
+
+word-at-requires : tie.Need-word-at-requires
+word-at-requires c κs = tt
+
+arguments-requires : tie.Need-arguments-requires
+arguments-requires c κs = tt
+
+returns-2 : tie.Need-returns-2
+unfolding readDel
+returns-2 c =
+    let line = c .before .before .before .before .before .before .before .args .line .now in
+    let e = rw (c .before .before .before .before .before .count-words .ensures) at (c .before .before .before .before .check-form .ensures) in
+    let cs = misnamed 1 (length (words line)) line in
+    let l = count-least 1 8 line cs _ e (c .before .before .enum-told .given .1) in
+    rw (c .arguments .ensures, c .before .word-at .ensures, ← rest-first line l, ← rest-count line l)
+    (sym (read-passed (del (drop 1 (words line))) (miscounted 1 8 line ∷ cs) _ e (c .before .before .enum-told .given .1)))
+
+pub read-del-spec : {M : Type 1} → statement M
+read-del-spec =
+    tie.close
+    (tie.spec
+    count-words-requires
+    check-form-requires
+    enum-known-refusal
+    returns
+    enum-told
+    word-at-requires
+    arguments-requires
+    returns-2)

@@ -1,0 +1,85 @@
+-- A lone point is known by its place; with it the count decides,
+-- and else the count and the name.
+use mathlib.Core.Path.{sym, _∙_}
+use mathlib.Core.List.{[], _∷_}
+use Rattle.paper.specs.Line.{word}
+use Rattle.paper.specs.Request.{lst, lstBase, miscounted, misnamed, readLst}
+use Rattle.reader.proofs.Verdicts.{read-refused, read-passed}
+use Rattle.reader.proofs.Functions.{word-alone}
+use borrow.Author.Needs.{needs}
+use Rattle.reader.proofs.request.read_lst.Statement.{statement}
+use Rattle.reader.proofs.request.read_lst.Tie as tie
+
+word-at-requires : tie.Need-word-at-requires
+word-at-requires c κs = tt
+
+slice-aggregate-is-alone : tie.Need-slice-aggregate-is-alone
+slice-aggregate-is-alone c = search needs
+
+is-alone-requires : tie.Need-is-alone-requires
+is-alone-requires c κs = tt
+
+check-count-requires : tie.Need-check-count-requires
+check-count-requires c κs = tt
+
+enum-known-refusal : tie.Need-enum-known-refusal
+enum-known-refusal c = search needs
+
+returns : tie.Need-returns
+unfolding readLst
+returns c =
+    let line = c .before .before .before .before .before .before .before .before .before .args .line .now in
+    let f = word-alone line 1 _ (c .before .before .before .before .before .before .before .word-at .ensures) (46 ∷ []) _ (c .before .before .before .before .before .is-alone .ensures) ∙ c .before .before .before .before .if1 .taken in
+    rw f (sym (read-refused lstBase (miscounted 1 1 line ∷ []) _ _ (c .before .before .before .check-count .ensures) (c .before .refusal .given .1)))
+
+enum-told : tie.Need-enum-told
+enum-told c = search needs
+
+returns-2 : tie.Need-returns-2
+unfolding readLst
+returns-2 c =
+    let line = c .before .before .before .before .before .before .before .before .args .line .now in
+    let f = word-alone line 1 _ (c .before .before .before .before .before .before .word-at .ensures) (46 ∷ []) _ (c .before .before .before .before .is-alone .ensures) ∙ c .before .before .before .if1 .taken in
+    rw f (sym (read-passed lstBase (miscounted 1 1 line ∷ []) _ (c .before .before .check-count .ensures) (c .enum-told .given .1)))
+
+check-form-requires : tie.Need-check-form-requires
+check-form-requires c κs = tt
+
+enum-known-refusal-2 : tie.Need-enum-known-refusal-2
+enum-known-refusal-2 c = search needs
+
+returns-3 : tie.Need-returns-3
+unfolding readLst
+returns-3 c =
+    let line = c .before .before .before .before .before .before .before .before .before .args .line .now in
+    let f = word-alone line 1 _ (c .before .before .before .before .before .before .before .word-at .ensures) (46 ∷ []) _ (c .before .before .before .before .before .is-alone .ensures) ∙ c .before .before .before .before .if1 .left in
+    rw f (sym (read-refused (lst (word line 1)) (miscounted 1 1 line ∷ misnamed 1 2 line) _ _ (c .before .before .before .check-form .ensures) (c .before .refusal2 .given .1)))
+
+enum-told-2 : tie.Need-enum-told-2
+enum-told-2 c = search needs
+
+returns-4 : tie.Need-returns-4
+unfolding readLst
+returns-4 c =
+    let line = c .before .before .before .before .before .before .before .before .args .line .now in
+    let f = word-alone line 1 _ (c .before .before .before .before .before .before .word-at .ensures) (46 ∷ []) _ (c .before .before .before .before .is-alone .ensures) ∙ c .before .before .before .if1 .left in
+    rw (f, c .before .before .before .before .before .before .word-at .ensures)
+    (sym (read-passed (lst (word line 1)) (miscounted 1 1 line ∷ misnamed 1 2 line) _ (c .before .before .check-form .ensures) (c .enum-told2 .given .1)))
+
+pub read-lst-spec : {M : Type 1} → statement M
+read-lst-spec =
+    tie.close
+    (tie.spec
+    word-at-requires
+    slice-aggregate-is-alone
+    is-alone-requires
+    check-count-requires
+    enum-known-refusal
+    returns
+    enum-told
+    returns-2
+    check-form-requires
+    enum-known-refusal-2
+    returns-3
+    enum-told-2
+    returns-4)

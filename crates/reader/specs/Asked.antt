@@ -1,0 +1,58 @@
+-- The request, the refusal and the answer of the reader, for the paper's. A name stands by the place where its word starts.
+use mathlib.Core.List.{List, [], _∷_}
+use Prim.Native.Nat.{ℕ}
+use lib.ListN.{length}
+use Rattle.paper.specs.Line.{Word}
+use Rattle.paper.specs.Check as paper
+use Rattle.paper.specs.Check.{Check, passed, refused}
+use Rattle.paper.specs.Request.{malformed, illegal, crd, wrs, rds, cpy, dup, chn, del, dpr, lst, lstBase, request, unread}
+use Rattle.paper.specs.Request as asked
+use Rattle.reader.specs.Given.{shownLifetime, shownLevel, shownDigit}
+use Rattle.reader.specs.declared.request.Request.{Request}
+use Rattle.reader.specs.declared.request.Request.the-variants.{Crd, Wrs, Rds, Cpy, Dup, Chn, Del, Dpr, Lst, LstBase}
+use Rattle.reader.specs.declared.request.Refusal.{Refusal}
+use Rattle.reader.specs.declared.request.Verdict.{Verdict}
+use Rattle.reader.specs.declared.request.Verdict.the-variants as verdicts
+use Rattle.reader.specs.declared.request.Read.{Read}
+use Rattle.reader.specs.declared.request.Read.the-variants as answers
+use Rattle.reader.specs.declared.request.Fault.{Fault}
+use Rattle.reader.specs.declared.request.Fault.the-variants as faults
+
+-- where the first of some words starts
+abbrev pub firstStart : List Word → ℕ
+firstStart [] = 0
+firstStart (w ∷ ws) = w .start
+
+-- a line for each of the nine functions, and LST of a lone point
+abbrev pub shownRequest : asked.Request → Request
+shownRequest (crd w v d) = Crd (w .start) (shownLevel v) (shownDigit d)
+shownRequest (wrs f v d w) = Wrs f (shownLevel v) (shownDigit d) (w .start)
+shownRequest (rds w) = Rds (w .start)
+shownRequest (cpy o n f v d) = Cpy (o .start) (n .start) (shownLifetime f) (shownLevel v) (shownDigit d)
+shownRequest (dup o n d) = Dup (o .start) (n .start) (shownDigit d)
+shownRequest (chn o l) = Chn (o .start) (l .start)
+shownRequest (del ws) = Del (firstStart ws) (length ws)
+shownRequest (dpr w d) = Dpr (w .start) d
+shownRequest (lst w) = Lst (w .start)
+shownRequest lstBase = LstBase
+
+abbrev pub shownRefusal : paper.Refusal → Refusal
+shownRefusal f = record { number = f .number; place = f .place; link = f .link }
+
+abbrev pub shownVerdict : paper.Verdict → Verdict
+shownVerdict passed = verdicts.Passed
+shownVerdict (refused f) = verdicts.Refused (shownRefusal f)
+
+-- the first of two verdicts that refuses
+abbrev pub firstOf : Verdict → Verdict → Verdict
+firstOf verdicts.Passed v = v
+firstOf (verdicts.Refused f) v = verdicts.Refused f
+
+abbrev pub shownRead : asked.Read → Read
+shownRead (request r) = answers.Granted (shownRequest r)
+shownRead (unread f) = answers.Refused (shownRefusal f)
+
+-- 7: malformed, 8: illegal
+abbrev pub faultCheck : Fault → ℕ → Word → Check
+faultCheck faults.Malformed = malformed
+faultCheck faults.Illegal = illegal

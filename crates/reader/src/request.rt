@@ -1,0 +1,464 @@
+// The request that a line is, or the number that refuses it.
+use crate::declaration::Declaration;
+use crate::declaration::Digit;
+use crate::declaration::Level;
+use crate::declaration::Lifetime;
+use crate::declaration::declared_at;
+use crate::declaration::taken_by_cpy;
+use crate::declaration::taken_by_crd;
+use crate::declaration::taken_by_dpr;
+use crate::declaration::taken_by_dup;
+use crate::declaration::taken_by_wrs;
+use words::line::Next;
+use words::line::count_words;
+use words::line::is_legal_line;
+use words::line::name;
+use words::line::next_name;
+use words::line::next_word;
+use words::line::word_at;
+use words::name::count_links;
+use words::name::first_wrong;
+use words::name::has_legal_base;
+use words::name::is_alone;
+use words::name::is_legal_base;
+use words::name::is_link_name;
+use words::name::is_well_formed;
+ghost use mathlib.Core.Path.{_≡_};
+ghost use mathlib.Core.List.{[], _∷_};
+ghost use Prim.Native.Nat.{_-_};
+ghost use lib.ListN.{length};
+ghost use Rattle.paper.specs.Line.{Word, words};
+ghost use Rattle.paper.specs.Check.{verdict};
+ghost use Rattle.paper.specs.Request.{each, between, unlinked, misbased, miscounted, misnamed, linkAlone, readCrd, readWrs, readRds, readLst, readCpy, readDup, readChn, readDpr, readDel, readFunction, read};
+ghost use Rattle.words.specs.Place.{namesFrom};
+ghost use Rattle.reader.specs.Asked.{faultCheck, firstOf, shownVerdict, shownRead};
+
+// The nine functions, and LST of a lone point. Names stand by the places where they start in the line; the names of DEL are
+// the words from the first on.
+pub enum Request {
+    Crd {
+        name: usize,
+        level: Level,
+        digit: Digit,
+    },
+    Wrs {
+        lifetime: u8,
+        level: Level,
+        digit: Digit,
+        name: usize,
+    },
+    Rds {
+        name: usize,
+    },
+    Cpy {
+        old: usize,
+        new: usize,
+        lifetime: Lifetime,
+        level: Level,
+        digit: Digit,
+    },
+    Dup {
+        old: usize,
+        new: usize,
+        digit: Digit,
+    },
+    Chn {
+        old: usize,
+        link: usize,
+    },
+    Del {
+        first: usize,
+        count: usize,
+    },
+    Dpr {
+        name: usize,
+        code: u8,
+    },
+    Lst {
+        name: usize,
+    },
+    LstBase,
+}
+
+// The reply number, the argument from 1 or 0, and the link of its chain from 1 or 0.
+pub struct Refusal {
+    pub number: u8,
+    pub place: usize,
+    pub link: usize,
+}
+
+pub enum Read {
+    Granted(Request),
+    Refused(Refusal),
+}
+
+enum Verdict {
+    Passed,
+    Refused(Refusal),
+}
+
+impl Verdict {
+    // This verdict if it refuses, else the other.
+    fn then(self, other: Verdict) -> Verdict
+        ensures { λ r. ⌜ r ≡ firstOf self other ⌝ }
+    {
+        let Verdict::Passed = self else {
+            return self;
+        };
+        other
+    }
+}
+
+// What a name gets: 7 or 8.
+enum Fault {
+    Malformed,
+    Illegal,
+}
+
+fn refused(number: u8, place: usize, link: usize) -> Verdict
+    ensures { λ r. ⌜ r ≡ Verdict.Refused (record { number = number; place = place; link = link }) ⌝ }
+{
+    Verdict::Refused(Refusal {
+        number: number,
+        place: place,
+        link: link,
+    })
+}
+
+// 9, for the declaration at this place.
+fn unfit_at(place: usize) -> Read
+    ensures { λ r. ⌜ r ≡ Read.Refused (record { number = 9; place = place; link = 0 }) ⌝ }
+{
+    Read::Refused(Refusal {
+        number: 9,
+        place: place,
+        link: 0,
+    })
+}
+
+// How many arguments the line has.
+fn arguments(line: &[u8]) -> usize
+    ensures { λ r. ⌜ r ≡ length (words (now (line .entry))) - 1 ⌝ }
+{
+    let n = count_words(line);
+    if n == 0 {
+        return 0;
+    }
+    n - 1
+}
+
+// 6 where the line has not from least to most arguments.
+fn check_count(line: &[u8], least: usize, most: usize) -> Verdict
+    ensures { λ r. ⌜ r ≡ shownVerdict (verdict (miscounted least most (now (line .entry)) ∷ [])) ⌝ }
+{
+    let n = arguments(line);
+    if n < least {
+        return refused(6, 0, 0);
+    }
+    if most < n {
+        return refused(6, 0, 0);
+    }
+    Verdict::Passed
+}
+
+// 7 or 8 for the name at p, the argument at this place.
+fn check_name(line: &[u8], p: usize, fault: Fault, place: usize) -> Verdict
+    ensures { λ r. ⌜ r ≡ shownVerdict (verdict (faultCheck fault place (record { start = p; names = namesFrom (now (line .entry)) p }) ∷ [])) ⌝ }
+{
+    match fault {
+        Fault::Malformed => {
+            if is_well_formed(line, p) {
+                return Verdict::Passed;
+            }
+            refused(7, place, first_wrong(line, p))
+        }
+        Fault::Illegal => {
+            if has_legal_base(line, p) {
+                return Verdict::Passed;
+            }
+            refused(8, place, 1)
+        }
+    }
+}
+
+// 7 or 8 for the first of the words from number a up to number b that gets it.
+fn check_each(line: &[u8], fault: Fault, a: usize, b: usize) -> Verdict
+    ensures { λ r. ⌜ r ≡ shownVerdict (verdict (each (faultCheck fault) a (between a b (now (line .entry))))) ⌝ }
+{
+    let mut p = word_at(line, a);
+    let mut k = a;
+    while k < b {
+        if line.len() <= p {
+            return Verdict::Passed;
+        }
+        let found = check_name(line, p, fault, k);
+        let Verdict::Passed = found else {
+            return found;
+        };
+        p = next_word(line, p);
+        k += 1;
+    }
+    Verdict::Passed
+}
+
+// 7, then 8, for the words from number a up to number b.
+fn check_names(line: &[u8], a: usize, b: usize) -> Verdict
+    ensures { λ r. ⌜ r ≡ shownVerdict (verdict (misnamed a b (now (line .entry)))) ⌝ }
+{
+    check_each(line, Fault::Malformed, a, b).then(check_each(line, Fault::Illegal, a, b))
+}
+
+// The count of arguments, then the names.
+fn check_form(line: &[u8], least: usize, most: usize, a: usize, b: usize) -> Verdict
+    ensures { λ r. ⌜ r ≡ shownVerdict (verdict (miscounted least most (now (line .entry)) ∷ misnamed a b (now (line .entry)))) ⌝ }
+{
+    check_count(line, least, most).then(check_names(line, a, b))
+}
+
+// CRD name [decl]
+fn read_crd(line: &[u8]) -> Read
+    ensures { λ r. ⌜ r ≡ shownRead (readCrd (now (line .entry))) ⌝ }
+{
+    if let Verdict::Refused(refusal) = check_form(line, 1, 2, 1, 2) {
+        return Read::Refused(refusal);
+    }
+    let Declaration::Right(parts) = taken_by_crd(declared_at(line, 2)) else {
+        return unfit_at(2);
+    };
+    let level = parts.level;
+    let digit = parts.digit;
+    Read::Granted(Request::Crd {
+        name: word_at(line, 1),
+        level: level,
+        digit: digit,
+    })
+}
+
+// WRS decl name
+fn read_wrs(line: &[u8]) -> Read
+    ensures { λ r. ⌜ r ≡ shownRead (readWrs (now (line .entry))) ⌝ }
+{
+    if let Verdict::Refused(refusal) = check_form(line, 2, 2, 2, 3) {
+        return Read::Refused(refusal);
+    }
+    let Declaration::Right(parts) = taken_by_wrs(declared_at(line, 1)) else {
+        return unfit_at(1);
+    };
+    let lifetime = parts.lifetime;
+    let level = parts.level;
+    let digit = parts.digit;
+    Read::Granted(Request::Wrs {
+        lifetime: lifetime.or_else(1),
+        level: level,
+        digit: digit,
+        name: word_at(line, 2),
+    })
+}
+
+// RDS name
+fn read_rds(line: &[u8]) -> Read
+    ensures { λ r. ⌜ r ≡ shownRead (readRds (now (line .entry))) ⌝ }
+{
+    if let Verdict::Refused(refusal) = check_form(line, 1, 1, 1, 2) {
+        return Read::Refused(refusal);
+    }
+    Read::Granted(Request::Rds {
+        name: word_at(line, 1),
+    })
+}
+
+// LST name, or LST of a lone point
+fn read_lst(line: &[u8]) -> Read
+    ensures { λ r. ⌜ r ≡ shownRead (readLst (now (line .entry))) ⌝ }
+{
+    let p = word_at(line, 1);
+    if is_alone(line, p, b".") {
+        if let Verdict::Refused(refusal) = check_count(line, 1, 1) {
+            return Read::Refused(refusal);
+        }
+        return Read::Granted(Request::LstBase);
+    }
+    if let Verdict::Refused(refusal) = check_form(line, 1, 1, 1, 2) {
+        return Read::Refused(refusal);
+    }
+    Read::Granted(Request::Lst { name: p })
+}
+
+// CPY old new [decl]
+fn read_cpy(line: &[u8]) -> Read
+    ensures { λ r. ⌜ r ≡ shownRead (readCpy (now (line .entry))) ⌝ }
+{
+    if let Verdict::Refused(refusal) = check_form(line, 2, 3, 1, 3) {
+        return Read::Refused(refusal);
+    }
+    let Declaration::Right(parts) = taken_by_cpy(declared_at(line, 3)) else {
+        return unfit_at(3);
+    };
+    let lifetime = parts.lifetime;
+    let level = parts.level;
+    let digit = parts.digit;
+    Read::Granted(Request::Cpy {
+        old: word_at(line, 1),
+        new: word_at(line, 2),
+        lifetime: lifetime,
+        level: level,
+        digit: digit,
+    })
+}
+
+// DUP old new [decl]
+fn read_dup(line: &[u8]) -> Read
+    ensures { λ r. ⌜ r ≡ shownRead (readDup (now (line .entry))) ⌝ }
+{
+    if let Verdict::Refused(refusal) = check_form(line, 2, 3, 1, 3) {
+        return Read::Refused(refusal);
+    }
+    let Declaration::Right(parts) = taken_by_dup(declared_at(line, 3)) else {
+        return unfit_at(3);
+    };
+    let digit = parts.digit;
+    Read::Granted(Request::Dup {
+        old: word_at(line, 1),
+        new: word_at(line, 2),
+        digit: digit,
+    })
+}
+
+// Whether the word at p is one link name, and no dash.
+fn is_link_alone(line: &[u8], p: usize) -> bool
+    ensures { λ r. ⌜ r ≡ linkAlone (namesFrom (now (line .entry)) p) ⌝ }
+{
+    let Next::Nothing = next_name(line, p) else {
+        return false;
+    };
+    if !is_link_name(name(line, p)) {
+        return false;
+    }
+    !is_alone(line, p, b"-")
+}
+
+// 7 where CHN's link is not one link name.
+fn check_link(line: &[u8], p: usize) -> Verdict
+    ensures { λ r. ⌜ r ≡ shownVerdict (verdict (unlinked 2 (record { start = p; names = namesFrom (now (line .entry)) p }) ∷ [])) ⌝ }
+{
+    if is_link_alone(line, p) {
+        return Verdict::Passed;
+    }
+    refused(7, 2, 0)
+}
+
+// 8 where old is a base file and CHN's link is no legal base name.
+fn check_base(line: &[u8], old: usize, link: usize) -> Verdict
+    ensures { λ r. ⌜ r ≡ shownVerdict (verdict (misbased 2 (record { start = old; names = namesFrom (now (line .entry)) old }) (record { start = link; names = namesFrom (now (line .entry)) link }) ∷ [])) ⌝ }
+{
+    if count_links(line, old) != 1 {
+        return Verdict::Passed;
+    }
+    if is_legal_base(name(line, link)) {
+        return Verdict::Passed;
+    }
+    refused(8, 2, 0)
+}
+
+// CHN old link
+fn read_chn(line: &[u8]) -> Read
+    ensures { λ r. ⌜ r ≡ shownRead (readChn (now (line .entry))) ⌝ }
+{
+    let old = word_at(line, 1);
+    let link = word_at(line, 2);
+    let form = check_count(line, 2, 2)
+        .then(check_name(line, old, Fault::Malformed, 1))
+        .then(check_link(line, link))
+        .then(check_name(line, old, Fault::Illegal, 1))
+        .then(check_base(line, old, link));
+    if let Verdict::Refused(refusal) = form {
+        return Read::Refused(refusal);
+    }
+    Read::Granted(Request::Chn {
+        old: old,
+        link: link,
+    })
+}
+
+// DPR name decl
+fn read_dpr(line: &[u8]) -> Read
+    ensures { λ r. ⌜ r ≡ shownRead (readDpr (now (line .entry))) ⌝ }
+{
+    if let Verdict::Refused(refusal) = check_form(line, 2, 2, 1, 2) {
+        return Read::Refused(refusal);
+    }
+    let Declaration::Right(parts) = taken_by_dpr(declared_at(line, 2)) else {
+        return unfit_at(2);
+    };
+    let digit = parts.digit;
+    Read::Granted(Request::Dpr {
+        name: word_at(line, 1),
+        code: digit.or_else(0),
+    })
+}
+
+// DEL, 1 to 8 names
+fn read_del(line: &[u8]) -> Read
+    ensures { λ r. ⌜ r ≡ shownRead (readDel (now (line .entry))) ⌝ }
+{
+    if let Verdict::Refused(refusal) = check_form(line, 1, 8, 1, count_words(line)) {
+        return Read::Refused(refusal);
+    }
+    Read::Granted(Request::Del {
+        first: word_at(line, 1),
+        count: arguments(line),
+    })
+}
+
+// The first word is the function.
+fn read_function(line: &[u8]) -> Read
+    ensures { λ r. ⌜ r ≡ shownRead (readFunction (now (line .entry))) ⌝ }
+{
+    let p = word_at(line, 0);
+    if is_alone(line, p, b"CRD") {
+        return read_crd(line);
+    }
+    if is_alone(line, p, b"WRS") {
+        return read_wrs(line);
+    }
+    if is_alone(line, p, b"RDS") {
+        return read_rds(line);
+    }
+    if is_alone(line, p, b"CPY") {
+        return read_cpy(line);
+    }
+    if is_alone(line, p, b"DUP") {
+        return read_dup(line);
+    }
+    if is_alone(line, p, b"CHN") {
+        return read_chn(line);
+    }
+    if is_alone(line, p, b"DEL") {
+        return read_del(line);
+    }
+    if is_alone(line, p, b"DPR") {
+        return read_dpr(line);
+    }
+    if is_alone(line, p, b"LST") {
+        return read_lst(line);
+    }
+    Read::Refused(Refusal {
+        number: 5,
+        place: 0,
+        link: 0,
+    })
+}
+
+// The request that the line is, or the number from 4 to 9 that refuses it.
+pub fn read_line(line: &[u8]) -> Read
+    ensures { λ r. ⌜ r ≡ shownRead (read (now (line .entry))) ⌝ }
+{
+    if is_legal_line(line) {
+        return read_function(line);
+    }
+    Read::Refused(Refusal {
+        number: 4,
+        place: 0,
+        link: 0,
+    })
+}

@@ -1,0 +1,151 @@
+// Reads request lines from standard input and prints, a line for each, what the reader makes of it: the reply number and the
+// place; or 0, the function, and the numbers of the request in the order of its fields, a dash for a part that is not given.
+use libc::STDIN_FILENO;
+use libc::STDOUT_FILENO;
+use reader::declaration::Digit;
+use reader::declaration::Level;
+use reader::declaration::Lifetime;
+use reader::request::Read;
+use reader::request::Request;
+ghost use Prim.Native.Nat.{_≤_};
+ghost use lib.ListN.{length};
+
+fn put(s: &[u8]) {
+    io::write_all(STDOUT_FILENO, s);
+}
+
+fn put_place(p: usize) {
+    put(b" ");
+    io::print_decimal(STDOUT_FILENO, p as u64);
+}
+
+fn put_number(n: u8) {
+    put(b" ");
+    io::print_decimal(STDOUT_FILENO, n as u64);
+}
+
+fn put_lifetime(part: Lifetime) {
+    let Lifetime::Given(n) = part else {
+        put(b" -");
+        return;
+    };
+    put_number(n);
+}
+
+fn put_level(part: Level) {
+    let Level::Given(n) = part else {
+        put(b" -");
+        return;
+    };
+    put_number(n);
+}
+
+fn put_digit(part: Digit) {
+    let Digit::Given(n) = part else {
+        put(b" -");
+        return;
+    };
+    put_number(n);
+}
+
+fn put_parts(level: Level, digit: Digit) {
+    put_level(level);
+    put_digit(digit);
+}
+
+fn put_one(function: &[u8], name: usize) {
+    put(function);
+    put_place(name);
+}
+
+fn put_two(function: &[u8], one: usize, other: usize) {
+    put_one(function, one);
+    put_place(other);
+}
+
+fn put_crd(name: usize, level: Level, digit: Digit) {
+    put_one(b"0 CRD", name);
+    put_parts(level, digit);
+}
+
+fn put_request(request: Request) {
+    match request {
+        Request::Crd { name, level, digit } => put_crd(name, level, digit),
+        Request::Wrs {
+            lifetime,
+            level,
+            digit,
+            name,
+        } => {
+            put(b"0 WRS");
+            put_number(lifetime);
+            put_parts(level, digit);
+            put_place(name);
+        }
+        Request::Rds { name } => put_one(b"0 RDS", name),
+        Request::Cpy {
+            old,
+            new,
+            lifetime,
+            level,
+            digit,
+        } => {
+            put_two(b"0 CPY", old, new);
+            put_lifetime(lifetime);
+            put_parts(level, digit);
+        }
+        Request::Dup { old, new, digit } => {
+            put_two(b"0 DUP", old, new);
+            put_digit(digit);
+        }
+        Request::Chn { old, link } => put_two(b"0 CHN", old, link),
+        Request::Del { first, count } => put_two(b"0 DEL", first, count),
+        Request::Dpr { name, code } => {
+            put_one(b"0 DPR", name);
+            put_number(code);
+        }
+        Request::Lst { name } => put_one(b"0 LST", name),
+        Request::LstBase => put(b"0 LST ."),
+    }
+}
+
+fn put_read(read: Read) {
+    match read {
+        Read::Granted(request) => put_request(request),
+        Read::Refused(refusal) => {
+            io::print_decimal(STDOUT_FILENO, refusal.number as u64);
+            put_place(refusal.place);
+        }
+    }
+    put(b"\n");
+}
+
+// The first place from `at` on with byte 10, or the end.
+fn line_end(text: &[u8], at: usize) -> usize
+    requires { ⌜ at ≤ length (now text) ⌝ }
+    ensures { λ r. ⌜ (at ≤ r) × (r ≤ length (now (text .entry))) ⌝ }
+{
+    let mut i = at;
+    while i < text.len() {
+        if text[i] == b'\n' {
+            return i;
+        }
+        i += 1;
+    }
+    i
+}
+
+fn put_lines(text: &[u8]) {
+    let mut at = 0;
+    while at < text.len() {
+        let e = line_end(text, at);
+        put_read(reader::request::read_line(&text[at..e]));
+        at = e + 1;
+    }
+}
+
+fn main() {
+    let mut buf = io::buffer();
+    let n = io::read_full(STDIN_FILENO, &mut buf);
+    put_lines(&buf[..n]);
+}

@@ -1,0 +1,5 @@
+pub mod Stretches
+pub mod Shares
+pub mod Order
+pub mod Copies
+pub mod Builds

@@ -1,0 +1,37 @@
+-- A record past the last has no byte in the table, so that a store there changes nothing;
+-- elsewhere the bytes are copied to its place.
+use mathlib.Core.Path.{sym}
+use Prim.Native.Nat.{_*_}
+use native.Mathlib.Omega.{arith}
+use borrow.Author.Needs.{needs}
+use Rattle.paper.specs.Table.{lay}
+use Rattle.records.proofs.Copies.{sets-out}
+use Rattle.records.proofs.store.store.Statement.{statement}
+use Rattle.records.proofs.store.store.Tie as tie
+
+returns : tie.Need-returns
+unfolding lay
+returns c =
+    let c2 = c .before .before in
+    sym (sets-out (c2 .args .t3) (c2 .args .table .now) (c2 .args .room .0 * 32) (omega arith))
+
+mul-copy-in : tie.Need-mul-copy-in
+mul-copy-in c = search needs
+
+slice-aggregate-copy-in : tie.Need-slice-aggregate-copy-in
+slice-aggregate-copy-in c = search needs
+
+copy-in-requires : tie.Need-copy-in-requires
+copy-in-requires c κs = search needs
+
+same-length : tie.Need-same-length
+same-length c = search needs
+
+returns-2 : tie.Need-returns-2
+unfolding lay
+returns-2 c = c .before .before .copy-in .ensures
+
+pub store-spec : {M : Type 1} → statement M
+store-spec =
+    tie.close
+    (tie.spec returns mul-copy-in slice-aggregate-copy-in copy-in-requires same-length returns-2)

@@ -1,0 +1,102 @@
+// A record of a lent table as a stretch of it, and the numbers in a stretch of bytes.
+ghost use mathlib.Core.Path.{_≡_};
+ghost use lib.ListN.{take, drop};
+ghost use Rattle.paper.specs.Record.{byte, two, three};
+ghost use Rattle.paper.specs.Table.{rec};
+
+// A record's number, or a count of records.
+pub struct Room(pub usize);
+
+// A count of bytes.
+pub struct Bytes(pub usize);
+
+impl Room {
+    // The bytes of a record.
+    pub const SIZE: usize = 32;
+}
+
+// At most `most` bytes of s, from a place on.
+pub fn part(s: &[u8], from: usize, most: usize) -> &[u8]
+    ensures { λ r. ⌜ now r ≡ take most (drop from (now (s .entry))) ⌝ }
+{
+    let n = s.len();
+    if n <= from {
+        return &s[n..];
+    }
+    if n - from <= most {
+        return &s[from..];
+    }
+    let end = from + most;
+    &s[from..end]
+}
+
+// A record, as the stretch of the table that it is; past the end it has no byte.
+pub fn record_at(table: &[u8], room: Room) -> &[u8]
+    ensures { λ r. ⌜ now r ≡ rec (now (table .entry)) (room .0) ⌝ }
+{
+    let n = table.len();
+    let i = room.0;
+    if n / Room::SIZE < i {
+        return &table[n..];
+    }
+    part(table, i * Room::SIZE, Room::SIZE)
+}
+
+// The byte at a place; past the end, 0.
+pub fn byte_at(s: &[u8], place: usize) -> u8
+    ensures { λ r. ⌜ r ≡ byte (now (s .entry)) place ⌝ }
+{
+    if place < s.len() { s[place] } else { 0 }
+}
+
+// The two-byte number at a place, low byte first.
+pub fn two_at(s: &[u8], place: usize) -> u16
+    ensures { λ r. ⌜ r ≡ two (now (s .entry)) place ⌝ }
+{
+    if s.len() <= place {
+        return 0;
+    }
+    let low = byte_at(s, place) as u16;
+    let high = byte_at(s, place + 1) as u16;
+    low + high * 256
+}
+
+// The three-byte number at a place, low byte first.
+pub fn three_at(s: &[u8], place: usize) -> u32
+    ensures { λ r. ⌜ r ≡ three (now (s .entry)) place ⌝ }
+{
+    if s.len() <= place {
+        return 0;
+    }
+    let low = byte_at(s, place) as u32;
+    let rest = two_at(s, place + 1) as u32;
+    low + rest * 256
+}
+
+// The byte at a place of a record.
+pub fn byte_of(table: &[u8], room: Room, place: usize) -> u8
+    ensures { λ r. ⌜ r ≡ byte (rec (now (table .entry)) (room .0)) place ⌝ }
+{
+    byte_at(record_at(table, room), place)
+}
+
+// The two-byte number at a place of a record.
+pub fn two_of(table: &[u8], room: Room, place: usize) -> u16
+    ensures { λ r. ⌜ r ≡ two (rec (now (table .entry)) (room .0)) place ⌝ }
+{
+    two_at(record_at(table, room), place)
+}
+
+// The three-byte number at a place of a record.
+pub fn three_of(table: &[u8], room: Room, place: usize) -> u32
+    ensures { λ r. ⌜ r ≡ three (rec (now (table .entry)) (room .0)) place ⌝ }
+{
+    three_at(record_at(table, room), place)
+}
+
+// The kind of a record: 0 free, 1 heading, 2 entry, 3 text.
+pub fn kind_of(table: &[u8], room: Room) -> u8
+    ensures { λ r. ⌜ r ≡ byte (rec (now (table .entry)) (room .0)) 0 ⌝ }
+{
+    byte_of(table, room, 0)
+}

@@ -1,0 +1,118 @@
+// Headings: "1 type (0 directory, 1 simple); 2 level (0 U, 1 P, 2 A, 3 S); 3 code 0..7; 4 lifetime (1 M, 2 L); 10-11 text length".
+use crate::bytes::Bytes;
+use crate::bytes::Room;
+use crate::bytes::byte_of;
+use crate::bytes::kind_of;
+use crate::bytes::two_of;
+use crate::code::Code;
+use crate::store::whole;
+ghost use mathlib.Core.Path.{_≡_};
+ghost use mathlib.Core.Bool.{_&&_};
+ghost use Prim.Native.Nat.{_<_};
+ghost use lib.Dec.{eqb};
+ghost use Rattle.paper.specs.Record.{isKind, headingType, level, headingCode, lifetime, textLength, directory, simple, headingRecord, padded};
+ghost use Rattle.paper.specs.Table.{rec};
+ghost use Rattle.paper.specs.Effect.{recoded};
+
+pub struct Heading {
+    pub ty: u8,
+    pub level: u8,
+    pub code: Code,
+    pub lifetime: u8,
+    pub length: Bytes,
+}
+
+impl Heading {
+    pub const KIND: u8 = 1;
+
+    pub const DIRECTORY: u8 = 0;
+
+    pub const SIMPLE: u8 = 1;
+
+    pub const TYPE: usize = 1;
+
+    pub const LEVEL: usize = 2;
+
+    pub const CODE: usize = 3;
+
+    pub const LIFETIME: usize = 4;
+
+    pub const LENGTH: usize = 10;
+
+    // The record of this heading.
+    pub fn laid(self) -> [u8; 32]
+        ensures { λ r. ⌜ r ≡ headingRecord (self .ty) (self .level) (self .code .0) (self .lifetime) (self .length .0) ⌝ }
+    {
+        let n = self.length.0;
+        let mut r = [0u8; 32];
+        r[0] = Heading::KIND;
+        r[Heading::TYPE] = self.ty;
+        r[Heading::LEVEL] = self.level;
+        r[Heading::CODE] = self.code.0;
+        r[Heading::LIFETIME] = self.lifetime;
+        r[Heading::LENGTH] = (n % 256) as u8;
+        r[Heading::LENGTH + 1] = (n / 256 % 256) as u8;
+        r
+    }
+}
+
+pub fn type_of(table: &[u8], room: Room) -> u8
+    ensures { λ r. ⌜ r ≡ headingType (rec (now (table .entry)) (room .0)) ⌝ }
+{
+    byte_of(table, room, Heading::TYPE)
+}
+
+pub fn level_of(table: &[u8], room: Room) -> u8
+    ensures { λ r. ⌜ r ≡ level (rec (now (table .entry)) (room .0)) ⌝ }
+{
+    byte_of(table, room, Heading::LEVEL)
+}
+
+pub fn heading_code(table: &[u8], room: Room) -> Code
+    ensures { λ r. ⌜ r .0 ≡ headingCode (rec (now (table .entry)) (room .0)) ⌝ }
+{
+    Code(byte_of(table, room, Heading::CODE))
+}
+
+pub fn lifetime_of(table: &[u8], room: Room) -> u8
+    ensures { λ r. ⌜ r ≡ lifetime (rec (now (table .entry)) (room .0)) ⌝ }
+{
+    byte_of(table, room, Heading::LIFETIME)
+}
+
+pub fn text_length(table: &[u8], room: Room) -> Bytes
+    ensures { λ r. ⌜ (r .0 ≡ textLength (rec (now (table .entry)) (room .0))) × (r .0 < 65536) ⌝ }
+{
+    Bytes(two_of(table, room, Heading::LENGTH) as usize)
+}
+
+// Whether a record is a heading of a type.
+fn is_type(table: &[u8], room: Room, ty: u8) -> bool
+    ensures { λ r. ⌜ r ≡ (isKind 1 (rec (now (table .entry)) (room .0)) && eqb (headingType (rec (now (table .entry)) (room .0))) ty) ⌝ }
+{
+    if kind_of(table, room) == Heading::KIND {
+        return type_of(table, room) == ty;
+    }
+    false
+}
+
+pub fn is_directory(table: &[u8], room: Room) -> bool
+    ensures { λ r. ⌜ r ≡ directory (rec (now (table .entry)) (room .0)) ⌝ }
+{
+    is_type(table, room, Heading::DIRECTORY)
+}
+
+pub fn is_simple(table: &[u8], room: Room) -> bool
+    ensures { λ r. ⌜ r ≡ simple (rec (now (table .entry)) (room .0)) ⌝ }
+{
+    is_type(table, room, Heading::SIMPLE)
+}
+
+// A heading's record with another code.
+pub fn recoded(table: &[u8], room: Room, code: Code) -> [u8; 32]
+    ensures { λ r. ⌜ r ≡ recoded (padded 32 (rec (now (table .entry)) (room .0))) (code .0) ⌝ }
+{
+    let mut r = whole(table, room);
+    r[Heading::CODE] = code.0;
+    r
+}

@@ -1,0 +1,113 @@
+// Text: "1 bytes held, 1..24; 2-3 heading; 4-5 position; 8-31 the bytes, zero after those held".
+use crate::block::block_at;
+use crate::bytes::Bytes;
+use crate::bytes::Room;
+use crate::bytes::byte_of;
+use crate::bytes::part;
+use crate::bytes::record_at;
+use crate::bytes::two_of;
+use crate::store::copy_in;
+ghost use mathlib.Core.Path.{_≡_};
+ghost use Prim.Native.Nat.{_<_};
+ghost use lib.ListN.{take};
+ghost use lib.Seq.{sets};
+ghost use Rattle.paper.specs.Record.{bytesHeld, headingOf, position, held, textAt, textRecord};
+ghost use Rattle.paper.specs.Table.{rec};
+ghost use Rattle.paper.specs.Block.{block};
+
+pub struct Text {
+    pub heading: Room,
+    pub position: Room,
+}
+
+impl Text {
+    pub const KIND: u8 = 3;
+
+    pub const HELD: usize = 1;
+
+    pub const HEADING: usize = 2;
+
+    pub const POSITION: usize = 4;
+
+    pub const BYTES: usize = 8;
+
+    pub const MOST_HELD: usize = 24;
+
+    // The record of this text, with at most 24 bytes.
+    pub fn laid(self, bytes: &[u8]) -> [u8; 32]
+        ensures { λ r. ⌜ r ≡ textRecord (self .heading .0) (self .position .0) (take 24 (now (bytes .entry))) ⌝ }
+    {
+        let h = self.heading.0;
+        let p = self.position.0;
+        let held = part(bytes, 0, Text::MOST_HELD);
+        let mut r = [0u8; 32];
+        r[0] = Text::KIND;
+        r[Text::HELD] = held.len() as u8;
+        r[Text::HEADING] = (h % 256) as u8;
+        r[Text::HEADING + 1] = (h / 256 % 256) as u8;
+        r[Text::POSITION] = (p % 256) as u8;
+        r[Text::POSITION + 1] = (p / 256 % 256) as u8;
+        copy_in(&mut r, Text::BYTES, held);
+        r
+    }
+
+    // The record of this text, with its block of a lent text.
+    pub fn of_text(self, text: &[u8]) -> [u8; 32]
+        ensures { λ r. ⌜ r ≡ textRecord (self .heading .0) (self .position .0) (block (now (text .entry)) (self .position .0)) ⌝ }
+    {
+        let p = self.position;
+        self.laid(block_at(text, p))
+    }
+
+    // The record of this text, with what another text record holds.
+    pub fn of_held(self, table: &[u8], room: Room) -> [u8; 32]
+        ensures { λ r. ⌜ r ≡ textRecord (self .heading .0) (self .position .0) (held (rec (now (table .entry)) (room .0))) ⌝ }
+    {
+        self.laid(held_at(table, room))
+    }
+}
+
+pub fn bytes_held(table: &[u8], room: Room) -> Bytes
+    ensures { λ r. ⌜ (r .0 ≡ bytesHeld (rec (now (table .entry)) (room .0))) × (r .0 < 256) ⌝ }
+{
+    Bytes(byte_of(table, room, Text::HELD) as usize)
+}
+
+pub fn heading_of(table: &[u8], room: Room) -> Room
+    ensures { λ r. ⌜ (r .0 ≡ headingOf (rec (now (table .entry)) (room .0))) × (r .0 < 65536) ⌝ }
+{
+    Room(two_of(table, room, Text::HEADING) as usize)
+}
+
+pub fn position_of(table: &[u8], room: Room) -> Room
+    ensures { λ r. ⌜ (r .0 ≡ position (rec (now (table .entry)) (room .0))) × (r .0 < 65536) ⌝ }
+{
+    Room(two_of(table, room, Text::POSITION) as usize)
+}
+
+// The bytes that a text record holds, as the stretch of the table that they are.
+pub fn held_at(table: &[u8], room: Room) -> &[u8]
+    ensures { λ r. ⌜ now r ≡ held (rec (now (table .entry)) (room .0)) ⌝ }
+{
+    let most = bytes_held(table, room).0;
+    part(record_at(table, room), Text::BYTES, most)
+}
+
+// What a text record holds, copied into a reply from a place on.
+pub fn copy_held(reply: &mut [u8], at: usize, table: &[u8], room: Room)
+    ensures { λ _. ⌜ now (reply .exit) ≡ sets (now (reply .entry)) at (held (rec (now (table .entry)) (room .0))) ⌝ }
+{
+    copy_in(reply, at, held_at(table, room));
+}
+
+// Whether a record is the text of a heading at a position.
+pub fn is_text(table: &[u8], room: Room, heading: Room, position: Room) -> bool
+    ensures { λ r. ⌜ r ≡ textAt (heading .0) (position .0) (rec (now (table .entry)) (room .0)) ⌝ }
+{
+    if byte_of(table, room, 0) == Text::KIND {
+        if heading_of(table, room).0 == heading.0 {
+            return position_of(table, room).0 == position.0;
+        }
+    }
+    false
+}

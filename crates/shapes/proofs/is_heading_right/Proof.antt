@@ -1,0 +1,93 @@
+-- Each part that fails refutes the test; the last is what is left of it.
+-- The numbers and bytes read are the record's.
+use mathlib.Core.Bool.{true≢false}
+use mathlib.Core.Path.{sym, _∙_}
+use native.Mathlib.Omega.{arith}
+use borrow.Author.Tests.{not-true, not-false}
+use borrow.Author.Needs.{needs}
+use Rattle.paper.specs.Table.{rec}
+use Rattle.judge_laws.proofs.Shapes.{Heading, heading-not, heading-left}
+use Rattle.shapes.proofs.is_heading_right.Statement.{statement}
+use Rattle.shapes.proofs.is_heading_right.Tie as tie
+
+byte-of-requires : tie.Need-byte-of-requires
+byte-of-requires c κs = search needs
+
+returns : tie.Need-returns
+returns c =
+    let r = rec (c .before .before .before .args .t .now) (c .before .before .before .args .i) in
+    sym (heading-not r (λ (h : Heading r). let z : ⊥ = omega arith in z))
+
+byte-of-requires-2 : tie.Need-byte-of-requires-2
+byte-of-requires-2 c κs = search needs
+
+returns-2 : tie.Need-returns-2
+returns-2 c =
+    let r = rec (c .before .before .before .before .before .args .t .now) (c .before .before .before .before .before .args .i) in
+    sym (heading-not r (λ (h : Heading r). let z : ⊥ = omega arith in z))
+
+byte-of-requires-3 : tie.Need-byte-of-requires-3
+byte-of-requires-3 c κs = search needs
+
+returns-3 : tie.Need-returns-3
+returns-3 c =
+    let r = rec (c .before .before .before .before .before .before .before .args .t .now) (c .before .before .before .before .before .before .before .args .i) in
+    sym (heading-not r (λ (h : Heading r). let z : ⊥ = omega arith in z))
+
+byte-of-requires-4 : tie.Need-byte-of-requires-4
+byte-of-requires-4 c κs = search needs
+
+returns-4 : tie.Need-returns-4
+returns-4 c =
+    let r = rec (c .before .before .before .before .before .before .before .before .before .args .t .now) (c .before .before .before .before .before .before .before .before .before .args .i) in
+    sym (heading-not r (λ (h : Heading r). let z : ⊥ = omega arith in z))
+
+returns-5 : tie.Need-returns-5
+returns-5 c =
+    let r = rec (c .before .before .before .before .before .before .before .before .before .before .args .t .now) (c .before .before .before .before .before .before .before .before .before .before .args .i) in
+    sym (heading-not r (λ (h : Heading r). let z : ⊥ = omega arith in z))
+
+are-zeros-requires : tie.Need-are-zeros-requires
+are-zeros-requires c κs = search needs
+
+returns-6 : tie.Need-returns-6
+returns-6 c =
+    let r = rec (c .before .before .before .before .before .before .before .before .before .before .before .before .args .t .now) (c .before .before .before .before .before .before .before .before .before .before .before .before .args .i) in
+    sym (heading-not r (λ (h : Heading r). true≢false (sym (h .gap) ∙ sym (c .before .are-zeros .ensures) ∙ not-true _ (c .if6 .taken))))
+
+are-zeros-requires-2 : tie.Need-are-zeros-requires-2
+are-zeros-requires-2 c κs = search needs
+
+returns-7 : tie.Need-returns-7
+returns-7 c =
+    let r = rec (c .before .before .before .before .before .before .before .before .before .before .before .before .before .before .args .t .now) (c .before .before .before .before .before .before .before .before .before .before .before .before .before .before .args .i) in
+    sym (heading-not r (λ (h : Heading r). true≢false (sym (h .rest) ∙ sym (c .before .are-zeros2 .ensures) ∙ not-true _ (c .if7 .taken))))
+
+is-plain-requires : tie.Need-is-plain-requires
+is-plain-requires c κs = search needs
+
+returns-8 : tie.Need-returns-8
+returns-8 c =
+    let r = rec (c .before .before .before .before .before .before .before .before .before .before .before .before .before .before .before .args .t .now) (c .before .before .before .before .before .before .before .before .before .before .before .before .before .before .before .args .i) in
+    c .is-plain .ensures
+    ∙ sym (heading-left r (omega arith) (omega arith) (omega arith) (omega arith) (omega arith) (sym (c .before .before .before .before .are-zeros .ensures) ∙ not-false _ (c .before .before .before .if6 .left)) (sym (c .before .before .are-zeros2 .ensures) ∙ not-false _ (c .before .if7 .left)))
+
+pub is-heading-right-spec : {M : Type 1} → statement M
+is-heading-right-spec =
+    tie.close
+    (tie.spec
+    byte-of-requires
+    returns
+    byte-of-requires-2
+    returns-2
+    byte-of-requires-3
+    returns-3
+    byte-of-requires-4
+    returns-4
+    returns-5
+    are-zeros-requires
+    returns-6
+    are-zeros-requires-2
+    returns-7
+    is-plain-requires
+    returns-8)

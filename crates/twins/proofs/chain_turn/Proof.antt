@@ -1,0 +1,102 @@
+-- An entry without a twin is put in front of its bucket, and the chains are those of one entry more.
+-- A twin refutes the test, and a refusing turn owes no chains.
+use mathlib.Core.Bool.{true, false, true≢false}
+use mathlib.Core.Path.{_≡_, sym, ap, _∙_}
+use native.Mathlib.Omega.{arith}
+use borrow.Author.Tests.{eq-eqb, ne-eqb}
+use borrow.Author.Needs.{needs}
+use Rattle.judge_laws.specs.Chains.{lastIn}
+use Rattle.judge_laws.specs.Twins.{twinTo, hashOf}
+use Rattle.paper.specs.Record.{isKind}
+use Rattle.paper.specs.Scan.{anyBelow}
+use Rattle.paper.specs.Table.{rec}
+use Rattle.judge_laws.proofs.Chains.{chains-other, chains-entry}
+use Rattle.judge_laws.proofs.Twins.{hash-below}
+use Rattle.twins.proofs.chain_turn.Statement.{statement}
+use Rattle.twins.proofs.chain_turn.Tie as tie
+
+byte-of-requires : tie.Need-byte-of-requires
+byte-of-requires c κs = search needs
+
+returns : tie.Need-returns
+returns c =
+    let a = c .before .before .before in
+    let t = a .args .t .now in
+    let k : isKind 2 (rec t (a .args .i)) ≡ false = rw (← c .before .byte-of .ensures .0) (ne-eqb _ _ (c .if1 .taken)) in
+    (rw k, λ f. chains-other hashOf t (a .args .head .now) (a .args .next .now) (a .args .i) (a .pre .2) k)
+
+hash-of-requires : tie.Need-hash-of-requires
+hash-of-requires c κs = search needs
+
+mul-first : tie.Need-mul-first
+mul-first c = search needs
+
+element-copy-out-first : tie.Need-element-copy-out-first
+element-copy-out-first c = search needs
+
+wide16-requires : tie.Need-wide16-requires
+wide16-requires c κs = search needs
+
+twin-before-requires : tie.Need-twin-before-requires
+twin-before-requires c κs =
+    let a = c .before .before .before .before .before .before .before in
+    let t = a .args .t .now in (
+      omega arith,
+      omega arith,
+      c .wide16 .ensures .0 ∙ a .pre .2 .heads (c .before .before .before .hash-of .result) (omega arith) ∙ ap (λ b. lastIn hashOf t b (a .args .i)) (c .before .before .before .hash-of .ensures .0),
+      a .pre .2 .nexts,
+    )
+
+returns-2 : tie.Need-returns-2
+returns-2 c =
+    let a = c .before .before .before .before .before .before .before .before .before in
+    let t = a .args .t .now in
+    let k : isKind 2 (rec t (a .args .i)) ≡ true = rw (← c .before .before .before .before .before .before .before .byte-of .ensures .0) (eq-eqb _ _ (c .before .before .before .before .before .before .if1 .left)) in
+    let e : anyBelow (twinTo t (a .args .i)) (a .args .i) ≡ true = sym (c .before .twin-before .ensures) ∙ c .if2 .taken in
+    (rw (k, e), λ f. absurd (true≢false (sym f)))
+
+mul-next : tie.Need-mul-next
+mul-next c = search needs
+
+element-write-next : tie.Need-element-write-next
+element-write-next c = search needs
+
+add-head : tie.Need-add-head
+add-head c = search needs
+
+cast-head : tie.Need-cast-head
+cast-head c = search needs
+
+mul-head : tie.Need-mul-head
+mul-head c = search needs
+
+element-write-head : tie.Need-element-write-head
+element-write-head c = search needs
+
+returns-3 : tie.Need-returns-3
+returns-3 c =
+    let a = c .before .before .before .before .before .before .before .before .before in
+    let t = a .args .t .now in
+    let k : isKind 2 (rec t (a .args .i)) ≡ true = rw (← c .before .before .before .before .before .before .before .byte-of .ensures .0) (eq-eqb _ _ (c .before .before .before .before .before .before .if1 .left)) in
+    let e : anyBelow (twinTo t (a .args .i)) (a .args .i) ≡ false = sym (c .before .twin-before .ensures) ∙ c .if2 .left in
+    (rw (k, e), λ f. rw (c .before .before .before .before .before .hash-of .ensures .0) (chains-entry hashOf t (a .args .head .now) (a .args .next .now) (a .args .i) (a .pre .2) (hash-below (rec t (a .args .i))) (omega arith) k))
+
+pub chain-turn-spec : {M : Type 1} → statement M
+chain-turn-spec =
+    tie.close
+    (tie.spec
+    byte-of-requires
+    returns
+    hash-of-requires
+    mul-first
+    element-copy-out-first
+    wide16-requires
+    twin-before-requires
+    returns-2
+    mul-next
+    element-write-next
+    add-head
+    cast-head
+    mul-head
+    element-write-head
+    returns-3)

@@ -1,0 +1,148 @@
+// Has any directory or base list a name twice? Entries are chained by a hash of their place and name.
+ghost use mathlib.Core.Path.{_≡_};
+ghost use mathlib.Core.Bool.{_&&_, true};
+ghost use Prim.Native.Nat.{_+_, _<_, _≤_};
+ghost use lib.ListN.{length};
+ghost use Rattle.paper.specs.Scan.{anyBelow};
+ghost use Rattle.paper.specs.Record.{byte, two, three, isKind};
+ghost use Rattle.paper.specs.Table.{sized, rooms, rec};
+ghost use Rattle.judge_laws.specs.Chains.{lastIn, Linked, Chains};
+ghost use Rattle.judge_laws.specs.Twins.{hashOf, twin, twinTo, single, noTwins};
+use fields::Entry;
+use fields::Record;
+
+fn wide(x: u8) -> usize
+    ensures { λ r. ⌜ (r ≡ x) × (r < 256) ⌝ }
+{
+    x as usize
+}
+
+fn wide16(x: u16) -> usize
+    ensures { λ r. ⌜ (r ≡ x) × (r < 65536) ⌝ }
+{
+    x as usize
+}
+
+// The byte at place j of record i.
+fn byte_of(t: &[u8], i: usize, j: usize) -> usize
+    requires { ⌜ (i < rooms (now t)) × (j < 32) ⌝ }
+    ensures { λ r. ⌜ (r ≡ byte (rec (now (t .entry)) i) j) × (r < 256) ⌝ }
+{
+    wide(t[i * Record::BYTES + j])
+}
+
+// The two-byte number at place j of record i, low byte first.
+fn two_of(t: &[u8], i: usize, j: usize) -> usize
+    requires { ⌜ (i < rooms (now t)) × (j < 31) ⌝ }
+    ensures { λ r. ⌜ (r ≡ two (rec (now (t .entry)) i) j) × (r < 65536) ⌝ }
+{
+    byte_of(t, i, j) + byte_of(t, i, j + 1) * 256
+}
+
+// The three-byte number at place j of record i, low byte first.
+fn three_of(t: &[u8], i: usize, j: usize) -> usize
+    requires { ⌜ (i < rooms (now t)) × (j < 30) ⌝ }
+    ensures { λ r. ⌜ (r ≡ three (rec (now (t .entry)) i) j) × (r < 16777216) ⌝ }
+{
+    byte_of(t, i, j) + byte_of(t, i, j + 1) * 256 + byte_of(t, i, j + 2) * 65536
+}
+
+// The bucket of entry i.
+fn hash_of(t: &[u8], i: usize) -> usize
+    requires { ⌜ i < rooms (now t) ⌝ }
+    ensures { λ r. ⌜ (r ≡ hashOf (rec (now (t .entry)) i)) × (r < 2048) ⌝ }
+{
+    let a = two_of(t, i, Entry::HOLDER) * 237074338683 + three_of(t, i, Entry::USER) * 159217510859;
+    let b = a
+        + byte_of(t, i, Entry::NAME_LENGTH) * 225825020121
+        + two_of(t, i, Entry::NAME) * 158087937263;
+    let c = b
+        + two_of(t, i, Entry::NAME + 2) * 167501999773
+        + two_of(t, i, Entry::NAME + 4) * 273637391247;
+    let d = c
+        + two_of(t, i, Entry::NAME + 6) * 266225641653
+        + two_of(t, i, Entry::NAME + 8) * 260119046801;
+    d / 16777216 % 2048
+}
+
+// Whether entry k stands where entry i does and bears its name.
+fn are_twins(t: &[u8], i: usize, k: usize) -> bool
+    requires { ⌜ (i < rooms (now t)) × (k < rooms (now t)) × (isKind 2 (rec (now t) k) ≡ true) ⌝ }
+    ensures { λ r. ⌜ r ≡ twin (rec (now (t .entry)) i) (rec (now (t .entry)) k) ⌝ }
+{
+    if two_of(t, i, Entry::HOLDER) != two_of(t, k, Entry::HOLDER) {
+        return false;
+    }
+    if three_of(t, i, Entry::USER) != three_of(t, k, Entry::USER) {
+        return false;
+    }
+    let mut j: usize = 0;
+    while j < 11 {
+        if byte_of(t, i, Entry::NAME_LENGTH + j) != byte_of(t, k, Entry::NAME_LENGTH + j) {
+            return false;
+        }
+        j += 1;
+    }
+    true
+}
+
+// Whether entry i has a twin before it: a walk through its bucket, from one more than the last entry there.
+fn twin_before(t: &[u8], next: &[u16; 2048], i: usize, first: usize) -> bool
+    requires { ⌜ (i < rooms (now t)) × (length (now t) ≤ 65536) × (first ≡ lastIn hashOf (now t) (hashOf (rec (now t) i)) i) × Linked hashOf (now t) (now next) i ⌝ }
+    ensures { λ r. ⌜ r ≡ anyBelow (twinTo (now (t .entry)) i) i ⌝ }
+{
+    let mut c = first;
+    while 0 < c {
+        if are_twins(t, i, c - 1) {
+            return true;
+        }
+        c = wide16(next[c - 1]);
+    }
+    false
+}
+
+// Whether record i, if it is an entry, has no twin before it; if so it is put into its chain.
+fn chain_turn(t: &[u8], head: &mut [u16; 2048], next: &mut [u16; 2048], i: usize) -> bool
+    requires { ⌜ (i < rooms (now t)) × (length (now t) ≤ 65536) × Chains hashOf (now t) (now head) (now next) i ⌝ }
+    ensures { λ r. ⌜ (r ≡ single (now (t .entry)) i) × (r ≡ true → Chains hashOf (now (t .entry)) (now (head .exit)) (now (next .exit)) (i + 1)) ⌝ }
+{
+    if byte_of(t, i, Record::KIND) != Entry::KIND {
+        return true;
+    }
+    let h = hash_of(t, i);
+    let first = head[h];
+    if twin_before(t, next, i, wide16(first)) {
+        return false;
+    }
+    next[i] = first;
+    head[h] = (i + 1) as u16;
+    true
+}
+
+// Whether no entry has a twin before it.
+fn chain_all(t: &[u8], head: &mut [u16; 2048], next: &mut [u16; 2048]) -> bool
+    requires { ⌜ (length (now t) ≤ 65536) × Chains hashOf (now t) (now head) (now next) 0 ⌝ }
+    ensures { λ r. ⌜ r ≡ noTwins (now (t .entry)) ⌝ }
+{
+    let n = t.len() / Record::BYTES;
+    let mut i: usize = 0;
+    while i < n {
+        if !chain_turn(t, head, next, i) {
+            return false;
+        }
+        i += 1;
+    }
+    true
+}
+
+// Whether the table is sized and no entry has a twin.
+pub fn none_are_twins(t: &[u8]) -> bool
+    ensures { λ r. ⌜ r ≡ (sized (now (t .entry)) && noTwins (now (t .entry))) ⌝ }
+{
+    if !fields::is_sized(t) {
+        return false;
+    }
+    let mut head = [0u16; 2048];
+    let mut next = [0u16; 2048];
+    chain_all(t, &mut head, &mut next)
+}

@@ -1,0 +1,99 @@
+-- What is left to walk is the whole walk: a word's name is followed where another is joined to it. The link's number stays below
+-- what was passed of the line, in which every joining colon stands, and the measure is what is left of it.
+use mathlib.Core.Path.{_≡_, refl, sym, _∙_}
+use Prim.Native.Nat.{_+_, _-_, _≤_}
+use native.Mathlib.Omega.{arith}
+use lib.ListN.{length}
+use borrow.Author.Needs.{needs}
+use Rattle.paper.specs.Walk.{toDirectory}
+use Rattle.words.specs.Place.{namesFrom}
+use Rattle.words.proofs.Names.{next-there, next-none, names-more}
+use Rattle.walk.specs.Shown.{meant}
+use Rattle.walk.proofs.Chains.{next-on, walk-one, walk-off, walk-on}
+use Rattle.walk.proofs.chain.follow_names.Statement.{statement}
+use Rattle.walk.proofs.chain.follow_names.Tie as tie
+
+abbrev Inv-loop : tie.InvT-loop
+Inv-loop table line p link state₀ k₀ i₀ state k i =
+    (toDirectory table k (meant state) (namesFrom line i) ≡ toDirectory table link (meant state₀) (namesFrom line p)) × (k ≤ i + 2)
+
+abbrev μ-loop : tie.MeasureT-loop
+μ-loop table line p link state₀ k₀ i₀ state k i = length line - i
+
+loop-holds : tie.Need-loop-holds Inv-loop μ-loop
+loop-holds c = (refl, omega arith)
+
+next-name-requires : tie.Need-next-name-requires Inv-loop μ-loop
+next-name-requires c κs = tt
+
+enum-known-q : tie.Need-enum-known-q Inv-loop μ-loop
+enum-known-q c = search needs
+
+enum-told : tie.Need-enum-told Inv-loop μ-loop
+enum-told c = search needs
+
+returns : tie.Need-returns Inv-loop μ-loop
+returns c =
+    let a = c .before .before .before .before .before .before .args in
+    let l = c .before .before .before .loop in
+    let j = next-none (a .line .now) (l .i) (sym (c .before .before .next-name .ensures) ∙ c .enum-told .given .1) in
+    rw (← l .inv .0) (walk-one (a .table .now) (l .k) (l .state) (a .line .now) (l .i) j)
+
+follow-name-requires : tie.Need-follow-name-requires Inv-loop μ-loop
+follow-name-requires c κs = tt
+
+enum-known-walked : tie.Need-enum-known-walked Inv-loop μ-loop
+enum-known-walked c = search needs
+
+enum-told-2 : tie.Need-enum-told-2 Inv-loop μ-loop
+enum-told-2 c = search needs
+
+returns-2 : tie.Need-returns-2 Inv-loop μ-loop
+returns-2 c =
+    let a = c .before .before .before .before .before .before .before .before .before .before .args in
+    let l = c .before .before .before .before .before .before .before .loop in
+    let n = next-there (a .line .now) (l .i) _ (sym (c .before .before .before .before .before .before .next-name .ensures) ∙ c .before .before .before .before .q .given .1) in
+    let w = c .before .before .follow-name in
+    rw (← l .inv .0, names-more (a .line .now) (l .i) (n .0)) (walk-off (a .table .now) (l .k) (l .state) (a .line .now) _ _ (w .result) (w .ensures) _ _ (c .enum-told2 .given .1))
+
+add-k : tie.Need-add-k Inv-loop μ-loop
+add-k c =
+    let line = c .before .before .before .before .before .before .before .before .before .before .before .args .line .now in
+    let n = next-on line (c .before .before .before .before .before .before .before .before .loop .i) _ (sym (c .before .before .before .before .before .before .before .next-name .ensures) ∙ c .before .before .before .before .before .q .given .1) in
+    record { fits = omega arith }
+
+loop-less : tie.Need-loop-less Inv-loop μ-loop
+loop-less c =
+    let line = c .before .before .before .before .before .before .before .before .before .before .before .args .line .now in
+    let n = next-on line (c .before .before .before .before .before .before .before .before .loop .i) _ (sym (c .before .before .before .before .before .before .before .next-name .ensures) ∙ c .before .before .before .before .before .q .given .1) in
+    omega arith
+
+loop-again : tie.Need-loop-again Inv-loop μ-loop
+loop-again c =
+    let a = c .before .before .before .before .before .before .before .before .before .before .before .args in
+    let l = c .before .before .before .before .before .before .before .before .loop in
+    let e = sym (c .before .before .before .before .before .before .before .next-name .ensures) ∙ c .before .before .before .before .before .q .given .1 in
+    let n = next-there (a .line .now) (l .i) _ e in
+    let w = c .before .before .before .follow-name in
+    let s = c .before .walked .given in
+    let turn = walk-on (a .table .now) (l .k) (l .state) (a .line .now) _ _ (w .result) (w .ensures) (s .0 .0) (s .1) in
+    (rw (n .1) (turn ∙ (rw (← names-more (a .line .now) (l .i) (n .0)) (l .inv .0))), omega (arith, next-on (a .line .now) (l .i) _ e))
+
+pub follow-names-spec : {M : Type 1} → statement M
+follow-names-spec =
+    tie.close
+    (tie.spec
+    Inv-loop
+    μ-loop
+    loop-holds
+    next-name-requires
+    enum-known-q
+    enum-told
+    returns
+    follow-name-requires
+    enum-known-walked
+    enum-told-2
+    returns-2
+    add-k
+    loop-less
+    loop-again)

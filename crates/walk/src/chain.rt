@@ -1,0 +1,93 @@
+// The walk of a chain out of the lent line.
+use crate::state::State;
+use crate::state::Step;
+use words::line::Next;
+use words::line::name;
+use words::line::next_name;
+use words::name::count_links;
+use words::name::is_pointed;
+ghost use mathlib.Core.Path.{_≡_};
+ghost use Prim.Native.Nat.{_≤_};
+ghost use Rattle.paper.specs.Name.{chain};
+ghost use Rattle.paper.specs.Walk.{follow, linked, reached, toDirectory, lastName, toLast};
+ghost use Rattle.words.specs.Place.{cut, namesFrom};
+ghost use Rattle.walk.specs.Shown.{meant, stepMeant, walkedShown};
+
+// Where a walk came to, or its number with the link that it stopped at, from 1.
+pub enum Walked {
+    Reached(State),
+    Stopped { number: u8, link: usize },
+}
+
+// What a link leads to.
+fn at_link(step: Step, link: usize) -> Walked
+    ensures { λ r. ⌜ r ≡ walkedShown (linked link (stepMeant step) reached) ⌝ }
+{
+    match step {
+        Step::On(state) => Walked::Reached(state),
+        Step::Off(number) => Walked::Stopped { number, link },
+    }
+}
+
+// The name at p is followed.
+fn follow_name(table: &[u8], line: &[u8], p: usize, state: State, link: usize) -> Walked
+    ensures { λ r. ⌜ r ≡ walkedShown (linked link (follow (now (table .entry)) (meant state) (cut (now (line .entry)) p)) reached) ⌝ }
+{
+    at_link(state.follow(table, name(line, p)), link)
+}
+
+// Every name of the word at p but the last is followed, the first as this link.
+fn follow_names(table: &[u8], line: &[u8], p: usize, start: State, link: usize) -> Walked
+    requires { ⌜ link ≤ 2 ⌝ }
+    ensures { λ r. ⌜ r ≡ walkedShown (toDirectory (now (table .entry)) link (meant start) (namesFrom (now (line .entry)) p)) ⌝ }
+{
+    let mut state = start;
+    let mut k = link;
+    let mut i = p;
+    loop {
+        let Next::At(q) = next_name(line, i) else {
+            return Walked::Reached(state);
+        };
+        let walked = follow_name(table, line, i, state, k);
+        let Walked::Reached(next) = walked else {
+            return walked;
+        };
+        state = next;
+        k += 1;
+        i = q;
+    }
+}
+
+// "a new name only to its directory": every name of the chain at p but the last.
+pub fn to_directory(table: &[u8], line: &[u8], p: usize, start: State) -> Walked
+    ensures { λ r. ⌜ r ≡ walkedShown (toDirectory (now (table .entry)) 1 (meant start) (chain (namesFrom (now (line .entry)) p))) ⌝ }
+{
+    if is_pointed(name(line, p)) {
+        return follow_names(table, line, p, start, 1);
+    }
+    let walked = at_link(start.follow(table, b".W"), 1);
+    let Walked::Reached(state) = walked else {
+        return walked;
+    };
+    follow_names(table, line, p, state, 2)
+}
+
+// The last name of the chain at p.
+pub fn last_name(line: &[u8], p: usize) -> &[u8]
+    ensures { λ r. ⌜ now r ≡ lastName (chain (namesFrom (now (line .entry)) p)) ⌝ }
+{
+    let mut i = p;
+    loop {
+        let Next::At(q) = next_name(line, i) else {
+            return name(line, i);
+        };
+        i = q;
+    }
+}
+
+// From the directory d to the last name of the chain at p.
+pub fn to_last(table: &[u8], line: &[u8], p: usize, d: State) -> Walked
+    ensures { λ r. ⌜ r ≡ walkedShown (toLast (now (table .entry)) (meant d) (chain (namesFrom (now (line .entry)) p))) ⌝ }
+{
+    at_link(d.look(table, last_name(line, p)), count_links(line, p))
+}

@@ -1,0 +1,5 @@
+pub mod Tests
+pub mod Reaches
+pub mod Pieces
+pub mod Words
+pub mod Names

@@ -1,0 +1,11 @@
+//! The proved judge for Rust, and tables to judge.
+pub mod tables;
+
+extern "C" {
+    fn filebox_judge(table: *const u8, length: usize) -> u8;
+}
+
+/// Document 01's number for the table: 1 if it is not sized, 2 if it is not sound, and else 0.
+pub fn judge(table: &[u8]) -> u8 {
+    unsafe { filebox_judge(table.as_ptr(), table.len()) }
+}
