@@ -15,7 +15,7 @@ use Rattle.judge_laws.specs.Tally.{lastBelow}
 use Rattle.paper.specs.Record.{isKind}
 use Rattle.paper.specs.Table.{rec}
 use Rattle.judge_laws.proofs.Lasts.{last-more, last-most, last-here, last-last}
-use Rattle.judge_laws.proofs.Scans.{and-left, and-right}
+use Rattle.laws.proofs.Tests.{and-left, and-right}
 
 -- what stands first in a bucket
 pub last-entry : (f : List ℕ → ℕ) (t : List ℕ) (b n c : ℕ) → c ≡ lastIn f t b n → (c ≤ n) × (0 < c → (isKind 2 (rec t (c - 1)) ≡ true) × (f (rec t (c - 1)) ≡ b))

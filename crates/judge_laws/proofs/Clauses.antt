@@ -17,9 +17,10 @@ use Rattle.paper.specs.Scan.{allBelow}
 use Rattle.paper.specs.Sound.{implies, every, freeAsAbove, headingAsAbove, entryAsAbove, textAsAbove, asAbove, isBase, holdersThere, headingsThere, usersRight, namesPadded, directoriesPlain, namesLegal}
 use Rattle.paper.specs.Table.{rooms, rec}
 use Rattle.judge_laws.proofs.Every.{every-true, every-here}
-use Rattle.judge_laws.proofs.Scans.{and-left, and-right, and-both}
+use Rattle.laws.proofs.Scans.{all-true, all-here}
+use Rattle.laws.proofs.Tests.{and-left, and-right, and-both, false-by}
+use Rattle.judge_laws.proofs.Tests.{joined, joined-first, joined-part}
 use Rattle.judge_laws.proofs.Shapes.{zeros-at, Entered, entry-view, base-holder, base-user, base-legal, base-place, entry-made}
-use Rattle.judge_laws.proofs.Tests.{all-true, all-here, false-by, joined, joined-first, joined-part}
 
 module _ (t : List ℕ) (i : ℕ) where
   pub right-heading : byte (rec t i) 0 ≡ 1 → rightAt t i ≡ headingRight (rec t i)

@@ -20,11 +20,10 @@ use Rattle.paper.specs.Scan.{countBelow}
 use Rattle.paper.specs.Sound.{implies, noneCrowded}
 use Rattle.paper.specs.Table.{rooms, rec}
 use Rattle.judge_laws.proofs.Chains.{Walk, walk-start, walk-end, walk-found, walk-on}
-use Rattle.judge_laws.proofs.Counts.{count-cong, count-more, count-up}
+use Rattle.laws.proofs.Counts.{count-cong, count-more, count-up}
+use Rattle.laws.proofs.Tests.{truth, and-left, and-right, and-both, implies-use, false-by}
 use Rattle.judge_laws.proofs.Every.{every-here, every-false}
 use Rattle.judge_laws.proofs.Lasts.{last-most, last-past, last-here, count-last}
-use Rattle.judge_laws.proofs.Scans.{truth, and-left, and-right, and-both}
-use Rattle.judge_laws.proofs.Tests.{implies-use, false-by}
 
 pub bucket-below : (r : List ℕ) → placeOf r < 2048
 unfolding placeOf

@@ -7,7 +7,8 @@ use Prim.Native.Nat.{ℕ, _<_}
 use Rattle.paper.specs.Record.{isKind}
 use Rattle.paper.specs.Sound.{implies, every}
 use Rattle.paper.specs.Table.{rooms, rec}
-use Rattle.judge_laws.proofs.Tests.{all-true, all-here, implies-use, implies-by, all-false}
+use Rattle.laws.proofs.Scans.{all-true, all-here, all-false}
+use Rattle.laws.proofs.Tests.{implies-use, implies-by}
 
 pub every-true : (k : ℕ) (test : ℕ → List ℕ → Bool) (t : List ℕ) (i : ℕ) → i < rooms t → every k test t ≡ true → isKind k (rec t i) ≡ true
     → test i (rec t i) ≡ true

@@ -9,8 +9,8 @@ use native.Mathlib.Numerals.{add-one}
 use native.Mathlib.Decide.{ℕ-discrete}
 use Rattle.judge_laws.specs.Tally.{lastBelow}
 use Rattle.paper.specs.Scan.{anyBelow, countBelow}
-use Rattle.judge_laws.proofs.Scans.{truth, any-true, any-here}
-use Rattle.judge_laws.proofs.Tests.{false-by}
+use Rattle.laws.proofs.Scans.{any-true, any-here}
+use Rattle.laws.proofs.Tests.{truth, false-by}
 
 pub last-more : (p : ℕ → Bool) (n : ℕ) → lastBelow p (n + 1) ≡ cond (p n) (n + 1) (lastBelow p n)
 unfolding lastBelow

@@ -1,8 +1,6 @@
-pub mod Scans
 pub mod Tests
 pub mod Records
 pub mod Every
-pub mod Counts
 pub mod Sums
 pub mod Slots
 pub mod Text

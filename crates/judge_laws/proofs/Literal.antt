@@ -22,10 +22,11 @@ use Rattle.judge_laws.proofs.Clauses.{Clauses, above-view}
 use Rattle.judge_laws.proofs.Crowds.{beside-same}
 use Rattle.judge_laws.proofs.Every.{every-true}
 use Rattle.judge_laws.proofs.Names.{same-eq, same-refl, name-length, name-at}
-use Rattle.judge_laws.proofs.Records.{length-rec}
-use Rattle.judge_laws.proofs.Scans.{truth, any-cong}
+use Rattle.laws.proofs.Lay.{length-rec}
+use Rattle.laws.proofs.Scans.{any-cong, all-true, all-here, all-cong}
+use Rattle.laws.proofs.Tests.{truth, same-truth}
+use Rattle.judge_laws.proofs.Tests.{joined, joined-part}
 use Rattle.judge_laws.proofs.Shapes.{zeros-at}
-use Rattle.judge_laws.proofs.Tests.{all-true, all-here, joined, joined-part, all-cong, both-ways}
 
 -- an entry's record, its name short and padded
 pub record Padded (r : List ℕ) : Type 0 where
@@ -78,7 +79,7 @@ module _ (a b : List ℕ) (p : Padded a) (q : Padded b) where
       at (suc j) l = let o : 9 + suc j ≡ 10 + j = omega arith in rw o (in-name j (omega arith))
 
   pub name-literal : sameBytes a b ≡ same (nameOf a) (nameOf b)
-  name-literal = both-ways (sameBytes a b) _ bytes-name name-bytes
+  name-literal = same-truth (sameBytes a b) _ bytes-name name-bytes
 
 -- twins are what the paper forbids
 module _ (t : List ℕ) (h : Clauses t) where

@@ -12,8 +12,8 @@ use borrow.Author.Tests.{eqb-true, eq-eqb, ne-eqb, leb-true, le-leb}
 use Rattle.judge_laws.specs.Shapes.{area}
 use Rattle.paper.specs.Name.{same, all, inName, linkName, pointed, inBase, legalBase}
 use Rattle.paper.specs.Record.{byte, nameLength, nameOf}
-use Rattle.judge_laws.proofs.Scans.{and-left, and-right, and-both, and-no-right}
-use Rattle.judge_laws.proofs.Tests.{false-by, joined, joined-first, joined-part}
+use Rattle.laws.proofs.Tests.{and-left, and-right, and-both, and-no-right, false-by}
+use Rattle.judge_laws.proofs.Tests.{joined, joined-first, joined-part}
 
 -- tests over a list are tests at each place
 pub all-at : (p : ℕ → Bool) (m : List ℕ) → all p m ≡ true → (j : ℕ) → j < length m → p (getD m j 0) ≡ true

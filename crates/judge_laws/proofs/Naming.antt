@@ -17,8 +17,8 @@ use Rattle.paper.specs.Record.{isKind, headingNamed, names}
 use Rattle.paper.specs.Scan.{anyBelow}
 use Rattle.paper.specs.Sound.{allNamed}
 use Rattle.paper.specs.Table.{rooms, rec}
-use Rattle.judge_laws.proofs.Scans.{truth, and-left, and-right, any-more}
-use Rattle.judge_laws.proofs.Tests.{all-here, all-false}
+use Rattle.laws.proofs.Scans.{any-more, all-here, all-false}
+use Rattle.laws.proofs.Tests.{truth, and-left, and-right}
 
 pub named-none : (t mark : List ℕ) → length t ≤ 65536 → ((s : ℕ) → s < 2048 → getD mark s 0 ≡ 0) → NamedBelow t mark 0
 unfolding anyBelow

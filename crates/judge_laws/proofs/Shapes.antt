@@ -15,9 +15,10 @@ use Rattle.paper.specs.Number.{numberAt}
 use Rattle.paper.specs.Record.{byte, isKind, headingType, level, headingCode, lifetime, textLength, directory, entryCode, holderOf, headingNamed, userOf, nameLength, nameOf, bytesHeld, zeros}
 use Rattle.paper.specs.Sound.{implies, textAsAbove, isBase}
 use Rattle.paper.specs.Table.{rec}
-use Rattle.judge_laws.proofs.Records.{number-zeros}
-use Rattle.judge_laws.proofs.Scans.{truth, and-left, and-right, and-both, and-past}
-use Rattle.judge_laws.proofs.Tests.{all-true, all-here, implies-use, implies-by, false-by, joined, joined-first, joined-part}
+use Rattle.laws.proofs.Numbers.{number-zeros}
+use Rattle.laws.proofs.Scans.{all-true, all-here}
+use Rattle.laws.proofs.Tests.{truth, and-left, and-right, and-both, implies-use, implies-by, false-by}
+use Rattle.judge_laws.proofs.Tests.{and-past, joined, joined-first, joined-part}
 
 -- what `zeros` says
 pub zeros-at : (j n : ℕ) (r : List ℕ) → zeros j n r ≡ true → (m : ℕ) → m < n → byte r (j + m) ≡ 0

@@ -10,8 +10,8 @@ use lib.Dec.{eqb}
 use borrow.Author.Tests.{eq-eqb, ne-eqb}
 use Rattle.judge_laws.specs.Tally.{sumBelow}
 use Rattle.paper.specs.Scan.{countBelow}
-use Rattle.judge_laws.proofs.Counts.{count-cong}
-use Rattle.judge_laws.proofs.Scans.{truth}
+use Rattle.laws.proofs.Counts.{count-cong}
+use Rattle.laws.proofs.Tests.{truth}
 use Rattle.judge_laws.proofs.Sums.{sum-mono, sum-ones, pigeonhole, count-by}
 
 -- a slot is one place of one thing

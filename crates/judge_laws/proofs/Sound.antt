@@ -11,8 +11,8 @@ use Rattle.paper.specs.Record.{padded}
 use Rattle.paper.specs.Sound.{asAbove, holdersThere, headingsThere, usersRight, namesPadded, noneTwice, allNamed, noneCrowded, directoriesPlain, textsWhole, noOtherText, namesLegal, sound}
 use Rattle.judge_laws.proofs.Clauses.{shaped-view, shaped-made}
 use Rattle.judge_laws.proofs.Literal.{twins-literal}
-use Rattle.judge_laws.proofs.Scans.{and-left, and-right, and-both}
-use Rattle.judge_laws.proofs.Tests.{false-by, joined, joined-first, joined-part, both-ways}
+use Rattle.laws.proofs.Tests.{and-left, and-right, and-both, false-by, same-truth}
+use Rattle.judge_laws.proofs.Tests.{joined, joined-first, joined-part}
 
 -- the clauses of soundness
 pub record Sound (t : List ℕ) : Type 0 where
@@ -70,7 +70,7 @@ module _ (t : List ℕ) where
   -- the crowds are what is left
   pub sound-left : shaped t ≡ true → allNamed t ≡ true → (textsWhole t && noOtherText t) ≡ true → noTwins t ≡ true → sound t ≡ noneCrowded t
   sound-left s n x w =
-      both-ways (sound t) (noneCrowded t) (λ e. sound-view t e .crowded)
+      same-truth (sound t) (noneCrowded t) (λ e. sound-view t e .crowded)
       (λ c. sound-made t (record {
         records = s;
         twice = sym (twins-literal t (shaped-view t s)) ∙ w;

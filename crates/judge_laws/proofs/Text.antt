@@ -16,11 +16,11 @@ use Rattle.paper.specs.Scan.{allBelow, countBelow}
 use Rattle.paper.specs.Sound.{implies, once, textsWhole, inPlace, noOtherText}
 use Rattle.paper.specs.Table.{rooms, rec}
 use Rattle.judge_laws.proofs.Every.{every-true, every-here}
-use Rattle.judge_laws.proofs.Records.{Whole, rec-past}
-use Rattle.judge_laws.proofs.Scans.{truth, and-left, and-right, and-both}
+use Rattle.laws.proofs.Lay.{Whole, rec-past}
+use Rattle.laws.proofs.Scans.{all-true, all-here}
+use Rattle.laws.proofs.Tests.{truth, and-left, and-right, and-both, implies-use, implies-by, false-by}
 use Rattle.judge_laws.proofs.Slots.{places-slots, places-total, total-places}
 use Rattle.judge_laws.proofs.Sums.{sum-mono}
-use Rattle.judge_laws.proofs.Tests.{all-true, all-here, implies-use, implies-by, false-by}
 
 -- a simple-file heading is a record of the table
 pub simple-below : (t : List ℕ) (h : ℕ) → Whole t → simple (rec t h) ≡ true → h < rooms t

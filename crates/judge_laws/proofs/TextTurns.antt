@@ -19,10 +19,9 @@ use Rattle.paper.specs.Scan.{countBelow}
 use Rattle.paper.specs.Sound.{inPlace}
 use Rattle.paper.specs.Table.{rooms, rec}
 use Rattle.paper.specs.Walk.{start}
-use Rattle.judge_laws.proofs.Counts.{count-more, count-up, count-most}
-use Rattle.judge_laws.proofs.Scans.{truth, and-left, and-right}
+use Rattle.laws.proofs.Counts.{count-more, count-up, count-most}
+use Rattle.laws.proofs.Tests.{truth, and-left, and-right, implies-use, false-by}
 use Rattle.judge_laws.proofs.Sums.{sum-more, sum-up}
-use Rattle.judge_laws.proofs.Tests.{implies-use, false-by}
 use Rattle.judge_laws.proofs.Text.{place-below, slot-here, sound-fits, sound-once}
 
 -- whether a text record is in place, by what its heading asks for

@@ -16,9 +16,9 @@ use Rattle.paper.specs.Scan.{anyBelow}
 use Rattle.paper.specs.Table.{rooms, rec}
 use Rattle.judge_laws.proofs.Chains.{Walk, walk-start, walk-end, walk-found, walk-on}
 use Rattle.judge_laws.proofs.Lasts.{any-none, any-some}
-use Rattle.judge_laws.proofs.Records.{two-bytes}
-use Rattle.judge_laws.proofs.Scans.{and-left, and-right, and-both}
-use Rattle.judge_laws.proofs.Tests.{all-true, all-here, false-by, all-false}
+use Rattle.laws.proofs.Numbers.{number-two}
+use Rattle.laws.proofs.Scans.{all-true, all-here, all-false}
+use Rattle.laws.proofs.Tests.{and-left, and-right, and-both, false-by}
 
 pub hash-below : (r : List ℕ) → hashOf r < 2048
 unfolding hashOf
@@ -58,7 +58,7 @@ hash-alike a b s =
     rw (s .place, s .user, ← (s .bytes 0 (omega arith)), w 1 (omega arith), w 3 (omega arith), w 5 (omega arith), w 7 (omega arith), w 9 (omega arith))
   where
     w : (j : ℕ) → j < 10 → two b (9 + j) ≡ two a (9 + j)
-    w j l = let q : 9 + j + 1 ≡ 9 + (j + 1) = omega arith in two-bytes b (9 + j) ∙ rw (q, ← (s .bytes j (omega arith)), ← (s .bytes (j + 1) (omega arith)), ← q) (sym (two-bytes a (9 + j)))
+    w j l = let q : 9 + j + 1 ≡ 9 + (j + 1) = omega arith in number-two b (9 + j) ∙ rw (q, ← (s .bytes j (omega arith)), ← (s .bytes (j + 1) (omega arith)), ← q) (sym (number-two a (9 + j)))
 
 twin-bucket : (t : List ℕ) (i j : ℕ) → twinTo t i j ≡ true → inBucket hashOf t (hashOf (rec t i)) j ≡ true
 twin-bucket t i j e =

@@ -8,7 +8,7 @@ use lib.ListN.{length}
 use borrow.Author.Tests.{eq-eqb, ne-eqb}
 use Rattle.paper.specs.Declaration as paper
 use Rattle.paper.specs.Declaration.{Part, given, notGiven, Declared, right, wrong, partsOf, fits, width, byteAt, typeLetter, lifetimeLetter, levelLetter, digit, codeAt, levelAt, pointAt, lifetimeAt, declaration}
-use Rattle.words.proofs.Tests.{clash}
+use Rattle.laws.proofs.Tests.{clash}
 use Rattle.reader.specs.Given.{shownKind, shownLifetime, shownLevel, shownDigit, shownParts, shownDeclared, kindPart, lifetimePart, levelPart, digitPart, paperParts, taken}
 use Rattle.reader.specs.declared.declaration.Kind.{Kind}
 use Rattle.reader.specs.declared.declaration.Kind.the-variants as kind

@@ -14,7 +14,7 @@ use Rattle.paper.specs.Line.{words, word}
 use Rattle.paper.specs.Check.{Check, refused, verdict}
 use Rattle.paper.specs.Request.{counted, miscounted}
 use Rattle.words.specs.Place.{namesFrom}
-use Rattle.words.proofs.Tests.{clash}
+use Rattle.laws.proofs.Tests.{clash}
 use Rattle.words.proofs.Words.{word-names}
 use Rattle.reader.specs.Asked.{firstStart, firstOf, shownVerdict}
 use Rattle.reader.specs.declared.request.Verdict.{Verdict}

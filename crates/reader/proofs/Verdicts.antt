@@ -15,7 +15,7 @@ use Rattle.paper.specs.Check.{Check, passed, refused, verdict}
 use Rattle.paper.specs.Request as asked
 use Rattle.paper.specs.Request.{readAs, unfit, each, between}
 use Rattle.words.specs.Place.{namesFrom}
-use Rattle.words.proofs.Tests.{clash}
+use Rattle.laws.proofs.Tests.{clash}
 use Rattle.words.proofs.Words.{word-here}
 use Rattle.reader.specs.Given.{shownParts, shownDeclared, taken}
 use Rattle.reader.specs.Asked.{shownRefusal, firstOf, shownVerdict, shownRequest, shownRead}

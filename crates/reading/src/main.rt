@@ -1,5 +1,6 @@
 // Reads request lines from standard input and prints, a line for each, what the reader makes of it: the reply number and the
-// place; or 0, the function, and the numbers of the request in the order of its fields, a dash for a part that is not given.
+// place; or 0, the function, and the numbers of the request in the order of its fields, a dash for a part that is not given;
+// for CRD and WRS also the first five bytes of the heading that is laid for such a file.
 use libc::STDIN_FILENO;
 use libc::STDOUT_FILENO;
 use reader::declaration::Digit;
@@ -7,6 +8,9 @@ use reader::declaration::Level;
 use reader::declaration::Lifetime;
 use reader::request::Read;
 use reader::request::Request;
+use records::bytes::Bytes;
+use records::code::Code;
+use records::heading::Heading;
 ghost use Prim.Native.Nat.{_≤_};
 ghost use lib.ListN.{length};
 
@@ -53,6 +57,23 @@ fn put_parts(level: Level, digit: Digit) {
     put_digit(digit);
 }
 
+// The first five bytes of a heading: kind, type, level, code and lifetime.
+fn put_heading(ty: u8, lifetime: u8, level: Level, digit: Digit) {
+    let heading = Heading {
+        ty: ty,
+        level: level.or_else(0),
+        code: Code(digit.or_else(0)),
+        lifetime: lifetime,
+        length: Bytes(0),
+    };
+    let laid = heading.laid();
+    put_number(laid[0]);
+    put_number(laid[Heading::TYPE]);
+    put_number(laid[Heading::LEVEL]);
+    put_number(laid[Heading::CODE]);
+    put_number(laid[Heading::LIFETIME]);
+}
+
 fn put_one(function: &[u8], name: usize) {
     put(function);
     put_place(name);
@@ -66,6 +87,15 @@ fn put_two(function: &[u8], one: usize, other: usize) {
 fn put_crd(name: usize, level: Level, digit: Digit) {
     put_one(b"0 CRD", name);
     put_parts(level, digit);
+    put_heading(Heading::DIRECTORY, 1, level, digit);
+}
+
+fn put_wrs(lifetime: u8, level: Level, digit: Digit, name: usize) {
+    put(b"0 WRS");
+    put_number(lifetime);
+    put_parts(level, digit);
+    put_place(name);
+    put_heading(Heading::SIMPLE, lifetime, level, digit);
 }
 
 fn put_request(request: Request) {
@@ -76,12 +106,7 @@ fn put_request(request: Request) {
             level,
             digit,
             name,
-        } => {
-            put(b"0 WRS");
-            put_number(lifetime);
-            put_parts(level, digit);
-            put_place(name);
-        }
+        } => put_wrs(lifetime, level, digit, name),
         Request::Rds { name } => put_one(b"0 RDS", name),
         Request::Cpy {
             old,

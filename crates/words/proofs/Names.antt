@@ -16,7 +16,8 @@ use Rattle.paper.specs.Request.{firstWrong, firstLink}
 use Rattle.words.specs.Place.{isPlain, nameEnd, gapEnd, joined, nextName, cut, namesFrom, namePlace}
 use Rattle.words.specs.Shown.{nextAt}
 use Rattle.words.specs.declared.line.Next.the-variants.{At, Nothing}
-use Rattle.words.proofs.Tests.{truth, downward, clash}
+use Rattle.laws.proofs.Tests.{truth, clash}
+use Rattle.words.proofs.Tests.{downward}
 use Rattle.words.proofs.Reaches.{reach-le}
 use Rattle.words.proofs.Pieces.{names-step, words-over, colon-inside}
 use Rattle.words.proofs.Words.{next-later, word-names}

@@ -13,7 +13,8 @@ use lib.Seq.{drop-cons}
 use borrow.Author.Tests.{eqb-true}
 use Rattle.paper.specs.Line.{Spot, placed, isBlank, isColon, blankSpot, colonSpot, skipped, atColon, close, closed, grow, split, bytesIn, namesIn, solid}
 use Rattle.words.specs.Place.{reach, isPlain, nameEnd, gapEnd, joined, nextName, cut, closedFrom, pieces, head, tail, namesFrom, restFrom, wordsFrom}
-use Rattle.words.proofs.Tests.{truth, side, places}
+use Rattle.laws.proofs.Tests.{truth}
+use Rattle.words.proofs.Tests.{side, places}
 use Rattle.words.proofs.Reaches.{reach-end, reach-stop, reach-go, reach-le}
 
 -- a byte is at most one of blank, colon and plain, and at least one

@@ -12,7 +12,8 @@ use lib.Seq.{drop-cons}
 use lib.Dec.{eqb, eqb·zero-suc, eqb·suc-suc}
 use Rattle.paper.specs.Name.{all}
 use Rattle.words.specs.Place.{lead, reach}
-use Rattle.words.proofs.Tests.{truth, side, places}
+use Rattle.laws.proofs.Tests.{truth}
+use Rattle.words.proofs.Tests.{side, places}
 
 module _ (test : ℕ → Bool) (line : List ℕ) where
   pub reach-end : (p : ℕ) → length line ≤ p → reach test line p ≡ p

@@ -1,5 +1,5 @@
--- A test is true or false, a number is below a bound or not; and a claim on every place of a line holds because it holds past
--- the end and passes from the places after one to that one.
+-- A number is below a bound or not; and a claim on every place of a line holds because it holds past the end and passes from
+-- the places after one to that one.
 use mathlib.Core.Bool.{Bool, true, false}
 use mathlib.Core.Logic.{_⊎_, inl, inr}
 use mathlib.Core.Path.{_≡_, refl}
@@ -7,10 +7,7 @@ use Prim.Native.Nat.{ℕ, zero, suc, _+_, _≤_, _<_}
 use native.Mathlib.Omega.{arith}
 use lib.Dec.{ltb}
 use borrow.Author.Tests.{ltb-true, ltb-false}
-
-pub truth : (b : Bool) → (b ≡ true) ⊎ (b ≡ false)
-truth true = inl refl
-truth false = inr refl
+use Rattle.laws.proofs.Tests.{truth}
 
 pub side : (p n : ℕ) → (p < n) ⊎ (n ≤ p)
 side p n = go (truth (ltb p n))
@@ -34,7 +31,3 @@ downward P n over step p = go n p (omega arith)
 -- from what holds at the next place
 pub places : (P : ℕ → Type 0) (n : ℕ) → ((p : ℕ) → n ≤ p → P p) → ((p : ℕ) → p < n → P (suc p) → P p) → (p : ℕ) → P p
 places P n over step = downward P n over (λ p l r. step p l (r (suc p) (omega arith)))
-
--- numbers that cannot be equal
-pub clash : {A : Type 0} → _≡_ {A = ℕ} 0 1 → A
-clash z = let y : ⊥ = omega arith in absurd y

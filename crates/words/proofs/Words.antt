@@ -9,7 +9,8 @@ use native.Mathlib.Omega.{arith}
 use lib.ListN.{length, getD}
 use Rattle.paper.specs.Line.{Spot, isBlank, isColon, grow, namesIn, Word, solid, words, word}
 use Rattle.words.specs.Place.{reach, isPlain, nameEnd, gapEnd, joined, nextName, closedFrom, pieces, head, tail, namesFrom, restFrom, wordsFrom, startOf, nextWord}
-use Rattle.words.proofs.Tests.{truth, side, downward}
+use Rattle.laws.proofs.Tests.{truth}
+use Rattle.words.proofs.Tests.{side, downward}
 use Rattle.words.proofs.Reaches.{reach-stop, reach-le, reach-more, reach-inside, reach-stopped, reach-again}
 use Rattle.words.proofs.Pieces.{spot, plain-or, pieces-plain, pieces-colon, words-skip, words-over, rest-step}
 

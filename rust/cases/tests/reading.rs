@@ -40,6 +40,12 @@ fn guarded(guard: Guard) -> String {
     format!("{} {}", level(guard.level), shown(guard.digit))
 }
 
+/// The first five bytes of a heading: kind, type, level, code and lifetime.
+fn heading(kind: u8, lifetime: u8, guard: Guard) -> String {
+    let level = level(guard.level.or(Some(Level::U)));
+    format!("1 {kind} {level} {} {lifetime}", guard.digit.unwrap_or(0))
+}
+
 fn made_of(line: &[u8]) -> String {
     let request = match beside::read(line, 0) {
         Err(refusal) => return format!("{} {}", refusal.number, refusal.place),
@@ -47,13 +53,26 @@ fn made_of(line: &[u8]) -> String {
     };
     let at = |chain: &Chain| start(line, chain);
     match &request {
-        Request::Crd { name, guard } => format!("0 CRD {} {}", at(name), guarded(*guard)),
+        Request::Crd { name, guard } => {
+            format!(
+                "0 CRD {} {} {}",
+                at(name),
+                guarded(*guard),
+                heading(0, 1, *guard)
+            )
+        }
         Request::Wrs {
             lifetime: life,
             guard,
             name,
         } => {
-            format!("0 WRS {} {} {}", lifetime(*life), guarded(*guard), at(name))
+            let life = lifetime(*life);
+            format!(
+                "0 WRS {life} {} {} {}",
+                guarded(*guard),
+                at(name),
+                heading(1, life, *guard)
+            )
         }
         Request::Rds { name } => format!("0 RDS {}", at(name)),
         Request::Cpy {

@@ -2,7 +2,7 @@
 -- Bytes are below 256, so the sum fits.
 use native.Mathlib.Omega.{arith}
 use borrow.Author.Needs.{needs}
-use Rattle.judge_laws.proofs.Records.{three-bytes}
+use Rattle.laws.proofs.Numbers.{number-three}
 use Rattle.crowds.proofs.three_of.Statement.{statement}
 use Rattle.crowds.proofs.three_of.Tie as tie
 
@@ -34,7 +34,7 @@ add-result-2 : tie.Need-add-result-2
 add-result-2 c = search needs
 
 returns : tie.Need-returns
-returns c = (rw (three-bytes, ← c .byte-of3 .ensures .0, ← c .before .byte-of2 .ensures .0, ← c .before .before .byte-of .ensures .0), omega arith)
+returns c = (rw (number-three, ← c .byte-of3 .ensures .0, ← c .before .byte-of2 .ensures .0, ← c .before .before .byte-of .ensures .0), omega arith)
 
 pub three-of-spec : {M : Type 1} → statement M
 three-of-spec =

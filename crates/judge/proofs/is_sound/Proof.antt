@@ -8,7 +8,7 @@ use Rattle.judge_laws.specs.Shapes.{shaped}
 use Rattle.judge_laws.specs.Twins.{noTwins}
 use Rattle.paper.specs.Sound.{allNamed, noneCrowded, textsWhole, noOtherText}
 use Rattle.paper.specs.Table.{sized}
-use Rattle.judge_laws.proofs.Scans.{and-gives}
+use Rattle.judge_laws.proofs.Tests.{and-gives}
 use Rattle.judge_laws.proofs.Sound.{sound-not-shaped, sound-not-named, sound-not-text, sound-not-twins, sound-left}
 use Rattle.judge.proofs.is_sound.Statement.{statement}
 use Rattle.judge.proofs.is_sound.Tie as tie

@@ -2,7 +2,7 @@
 -- It fits because it is a byte.
 use mathlib.Core.Path.{sym, _∙_}
 use native.Mathlib.Omega.{arith}
-use Rattle.judge_laws.proofs.Records.{byte-rec}
+use Rattle.laws.proofs.Lay.{byte-rec}
 use Rattle.marks.proofs.byte_of.Statement.{statement}
 use Rattle.marks.proofs.byte_of.Tie as tie
 

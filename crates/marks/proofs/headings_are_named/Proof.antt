@@ -6,8 +6,9 @@ use borrow.Author.Tests.{not-true, not-false}
 use borrow.Author.Needs.{needs}
 use Rattle.paper.specs.Sound.{allNamed}
 use Rattle.paper.specs.Table.{sized}
+use Rattle.laws.proofs.Tests.{and-no-left}
 use Rattle.judge_laws.proofs.Records.{sized-whole}
-use Rattle.judge_laws.proofs.Scans.{and-no-left, and-past}
+use Rattle.judge_laws.proofs.Tests.{and-past}
 use Rattle.marks.proofs.headings_are_named.Statement.{statement}
 use Rattle.marks.proofs.headings_are_named.Tie as tie
 

@@ -8,7 +8,7 @@ use Rattle.judge_laws.specs.Places.{weight}
 use Rattle.paper.specs.Block.{blocks, share}
 use Rattle.paper.specs.Record.{textLength, position}
 use Rattle.paper.specs.Table.{rec}
-use Rattle.judge_laws.proofs.Records.{rec-past}
+use Rattle.laws.proofs.Lay.{rec-past}
 use Rattle.judge_laws.proofs.TextTurns.{out-of-place, weighs, in-its-place}
 use Rattle.marks.proofs.in_place.Statement.{statement}
 use Rattle.marks.proofs.in_place.Tie as tie

@@ -2,7 +2,7 @@
 -- Bytes are below 256, so the sum fits.
 use native.Mathlib.Omega.{arith}
 use borrow.Author.Needs.{needs}
-use Rattle.judge_laws.proofs.Records.{two-bytes}
+use Rattle.laws.proofs.Numbers.{number-two}
 use Rattle.marks.proofs.two_of.Statement.{statement}
 use Rattle.marks.proofs.two_of.Tie as tie
 
@@ -22,7 +22,7 @@ add-result : tie.Need-add-result
 add-result c = search needs
 
 returns : tie.Need-returns
-returns c = (rw (two-bytes, ← c .byte-of2 .ensures .0, ← c .before .byte-of .ensures .0), omega arith)
+returns c = (rw (number-two, ← c .byte-of2 .ensures .0, ← c .before .byte-of .ensures .0), omega arith)
 
 pub two-of-spec : {M : Type 1} → statement M
 two-of-spec =

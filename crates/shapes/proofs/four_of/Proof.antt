@@ -1,7 +1,7 @@
 -- A number of four bytes is two numbers of two, the low one first.
 -- Both are below 65,536, so the sum fits.
 use borrow.Author.Needs.{needs}
-use Rattle.judge_laws.proofs.Records.{four-twos}
+use Rattle.laws.proofs.Numbers.{number-four}
 use Rattle.shapes.proofs.four_of.Statement.{statement}
 use Rattle.shapes.proofs.four_of.Tie as tie
 
@@ -21,7 +21,7 @@ add-result : tie.Need-add-result
 add-result c = search needs
 
 returns : tie.Need-returns
-returns c = rw (four-twos, ← c .two-of2 .ensures .0, ← c .before .two-of .ensures .0)
+returns c = rw (number-four, ← c .two-of2 .ensures .0, ← c .before .two-of .ensures .0)
 
 pub four-of-spec : {M : Type 1} → statement M
 four-of-spec =

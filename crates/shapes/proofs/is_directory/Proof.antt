@@ -3,7 +3,7 @@
 use native.Mathlib.Omega.{arith}
 use borrow.Author.Tests.{ne-eqb}
 use borrow.Author.Needs.{needs}
-use Rattle.judge_laws.proofs.Records.{rec-past}
+use Rattle.laws.proofs.Lay.{rec-past}
 use Rattle.shapes.proofs.is_directory.Statement.{statement}
 use Rattle.shapes.proofs.is_directory.Tie as tie
 

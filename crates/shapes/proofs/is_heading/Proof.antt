@@ -2,7 +2,7 @@
 -- So a number past the end names no heading.
 use native.Mathlib.Omega.{arith}
 use borrow.Author.Needs.{needs}
-use Rattle.judge_laws.proofs.Records.{rec-past}
+use Rattle.laws.proofs.Lay.{rec-past}
 use Rattle.shapes.proofs.is_heading.Statement.{statement}
 use Rattle.shapes.proofs.is_heading.Tie as tie
 

@@ -5,7 +5,7 @@ use native.Mathlib.Omega.{arith}
 use borrow.Author.Needs.{needs}
 use Rattle.paper.specs.Table.{rec}
 use Rattle.judge_laws.proofs.Names.{base-plain, base-one, base-two, base-long}
-use Rattle.judge_laws.proofs.Records.{length-rec}
+use Rattle.laws.proofs.Lay.{length-rec}
 use Rattle.shapes.proofs.is_legal_base.Statement.{statement}
 use Rattle.shapes.proofs.is_legal_base.Tie as tie
 

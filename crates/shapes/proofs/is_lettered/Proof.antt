@@ -10,7 +10,7 @@ use Rattle.paper.specs.Name.{inBase}
 use Rattle.paper.specs.Record.{byte}
 use Rattle.paper.specs.Table.{rec}
 use Rattle.judge_laws.proofs.Names.{base-all, base-not}
-use Rattle.judge_laws.proofs.Records.{length-rec}
+use Rattle.laws.proofs.Lay.{length-rec}
 use Rattle.shapes.proofs.is_lettered.Statement.{statement}
 use Rattle.shapes.proofs.is_lettered.Tie as tie
 

@@ -10,7 +10,7 @@ use Rattle.paper.specs.Name.{inName}
 use Rattle.paper.specs.Record.{byte}
 use Rattle.paper.specs.Table.{rec}
 use Rattle.judge_laws.proofs.Names.{link-made, link-none, link-not}
-use Rattle.judge_laws.proofs.Records.{length-rec}
+use Rattle.laws.proofs.Lay.{length-rec}
 use Rattle.shapes.proofs.is_link.Statement.{statement}
 use Rattle.shapes.proofs.is_link.Tie as tie
 

@@ -3,7 +3,7 @@
 use mathlib.Core.Path.{sym}
 use native.Mathlib.Omega.{arith}
 use borrow.Author.Needs.{needs}
-use Rattle.judge_laws.proofs.Records.{byte-rec}
+use Rattle.laws.proofs.Lay.{byte-rec}
 use Rattle.shapes.proofs.raw_of.Statement.{statement}
 use Rattle.shapes.proofs.raw_of.Tie as tie
 

@@ -1,0 +1,71 @@
+// Stages of stores. Each makes exactly as many of its stores as are still allowed, and answers how many are allowed after it.
+use crate::rooms::room_at;
+use records::block::blocks;
+use records::bytes::Bytes;
+use records::bytes::Room;
+use records::store::store;
+use records::text::Text;
+ghost use mathlib.Core.List.{[], _∷_};
+ghost use mathlib.Core.Path.{_≡_};
+ghost use Prim.Native.Nat.{_<_};
+ghost use lib.ListN.{getD, length};
+ghost use Rattle.paper.specs.Block.{blocks};
+ghost use Rattle.paper.specs.Store.{puts};
+ghost use Rattle.effects.specs.Stage.{Made, textStore, textStores, clearStores};
+
+// One record laid.
+pub fn put(table: &mut [u8], room: Room, bytes: [u8; 32], left: usize) -> usize
+    ensures { λ r. ⌜ Made (now (table .entry)) (now (table .exit)) left r (puts (room .0) bytes ∷ []) ⌝ }
+{
+    if left == 0 {
+        return 0;
+    }
+    store(table, room, bytes);
+    left - 1
+}
+
+// The text of a new file at a position, where its heading's record and those of its text are listed in `rooms`.
+fn put_text(table: &mut [u8], rooms: &[u16; 1002], text: &[u8], p: usize, left: usize) -> usize
+    requires { ⌜ p < blocks (length (now text)) ⌝ }
+    ensures { λ r. ⌜ Made (now (table .entry)) (now (table .exit)) left r (textStore (now (rooms .entry)) (now (text .entry)) p ∷ []) ⌝ }
+{
+    let heading = room_at(rooms, 0);
+    let bytes = Text {
+        heading,
+        position: Room(p),
+    }.of_text(text);
+    put(table, room_at(rooms, p + 1), bytes, left)
+}
+
+// The text of a new file by position.
+pub fn put_texts(table: &mut [u8], rooms: &[u16; 1002], text: &[u8], left: usize) -> usize
+    ensures { λ r. ⌜ Made (now (table .entry)) (now (table .exit)) left r (textStores (now (rooms .entry)) (now (text .entry))) ⌝ }
+{
+    let n = blocks(Bytes(text.len())).0;
+    let mut rest = left;
+    let mut p: usize = 0;
+    while p < n {
+        rest = put_text(table, rooms, text, p, rest);
+        p += 1;
+    }
+    rest
+}
+
+// A file cleared: its heading, then so many text records by position, which are listed in `rooms`.
+pub fn clear_file(
+    table: &mut [u8],
+    heading: Room,
+    rooms: &[u16; 1000],
+    count: usize,
+    left: usize,
+) -> usize
+    ensures { λ r. ⌜ Made (now (table .entry)) (now (table .exit)) left r (clearStores (heading .0) (now (rooms .entry)) count) ⌝ }
+{
+    let mut rest = put(table, heading, [0u8; 32], left);
+    let mut p: usize = 0;
+    while p < count {
+        rest = put(table, room_at(rooms, p), [0u8; 32], rest);
+        p += 1;
+    }
+    rest
+}

@@ -1,0 +1,5 @@
+pub mod Sizes
+pub mod Picks
+pub mod Written
+pub mod Sorted
+pub mod Promised
