@@ -1,5 +1,6 @@
 pub mod Tests
 pub mod Records
+pub mod Mask
 pub mod Every
 pub mod Sums
 pub mod Slots

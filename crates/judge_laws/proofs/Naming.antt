@@ -8,25 +8,26 @@ use Prim.Native.Nat.{ℕ, _+_, _≤_, _<_}
 use native.Mathlib.Omega.{arith}
 use native.Mathlib.Decide.{ℕ-discrete}
 use lib.ListN.{length, getD, set, length-set}
-use lib.Seq.{getD-set-same, getD-set-other}
+use lib.Seq.{getD-set-same, getD-set-other, ext-getD}
 use lib.Dec.{eqb}
 use borrow.Author.Tests.{eq-eqb, ne-eqb, ltb-true, ltb-false}
-use Rattle.judge_laws.specs.Naming.{namesOne, NamedBelow, headed}
+use Rattle.judge_laws.specs.Naming.{namesOne, NamedBelow, namedMarks, headed}
 use Rattle.paper.specs.Entry.{named}
 use Rattle.paper.specs.Record.{isKind, headingNamed, names}
 use Rattle.paper.specs.Scan.{anyBelow}
 use Rattle.paper.specs.Sound.{allNamed}
 use Rattle.paper.specs.Table.{rooms, rec}
+use Rattle.laws.proofs.Lists.{length-each, getD-each}
 use Rattle.laws.proofs.Scans.{any-more, all-here, all-false}
 use Rattle.laws.proofs.Tests.{truth, and-left, and-right}
 
-pub named-none : (t mark : List ℕ) → length t ≤ 65536 → ((s : ℕ) → s < 2048 → getD mark s 0 ≡ 0) → NamedBelow t mark 0
+pub named-none : (t mark : List ℕ) → ((s : ℕ) → s < 2048 → getD mark s 0 ≡ 0) → NamedBelow t mark 0
 unfolding anyBelow
-named-none t mark b z h l = z h (omega arith)
+named-none t mark z h l = z h l
 
 module _ (t mark : List ℕ) (i : ℕ) (m : NamedBelow t mark i) where
-  marks : length mark ≡ 2048 → length t ≤ 65536 → namesOne t i ≡ true → NamedBelow t (set mark (headingNamed (rec t i)) 1) (i + 1)
-  marks z b e h l =
+  marks : length mark ≡ 2048 → namesOne t i ≡ true → NamedBelow t (set mark (headingNamed (rec t i)) 1) (i + 1)
+  marks z e h l =
       rw any-more
       (by-cases (ℕ-discrete h (headingNamed (rec t i)))
       (λ (q : h ≡ headingNamed (rec t i)). rw (q, k, eq-eqb (headingNamed (rec t i)) (headingNamed (rec t i)) refl) (getD-set-same mark (headingNamed (rec t i)) 1 0 (omega (arith, r))))
@@ -35,7 +36,7 @@ module _ (t mark : List ℕ) (i : ℕ) (m : NamedBelow t mark i) where
       k : isKind 2 (rec t i) ≡ true
       k = and-left (isKind 2 (rec t i)) _ e
 
-      r : headingNamed (rec t i) < rooms t
+      r : headingNamed (rec t i) < 2048
       r = ltb-true _ _ (and-right (isKind 2 (rec t i)) _ e)
 
   none : namesOne t i ≡ false → NamedBelow t mark (i + 1)
@@ -43,27 +44,42 @@ module _ (t mark : List ℕ) (i : ℕ) (m : NamedBelow t mark i) where
     where
       other : (isKind 2 (rec t i) ≡ true) ⊎ (isKind 2 (rec t i) ≡ false) → names h (rec t i) ≡ false
       other (inl k) =
-          let f : rooms t ≤ headingNamed (rec t i) = ltb-false _ _ (rw k at e) in
+          let f : 2048 ≤ headingNamed (rec t i) = ltb-false _ _ (rw k at e) in
           rw (k, ne-eqb (headingNamed (rec t i)) h (λ (x : headingNamed (rec t i) ≡ h). omega arith))
       other (inr k) = rw k
 
-  pub name-turned : (mark′ : List ℕ) → length mark ≡ 2048 → length t ≤ 65536
+  pub name-turned : (mark′ : List ℕ) → length mark ≡ 2048
       → mark′ ≡ cond (namesOne t i) (set mark (headingNamed (rec t i)) 1) mark → NamedBelow t mark′ (i + 1) × (length mark′ ≡ 2048)
-  name-turned mark′ z b q = go (truth (namesOne t i))
+  name-turned mark′ z q = go (truth (namesOne t i))
     where
       go : (namesOne t i ≡ true) ⊎ (namesOne t i ≡ false) → NamedBelow t mark′ (i + 1) × (length mark′ ≡ 2048)
-      go (inl e) = let r : mark′ ≡ set mark (headingNamed (rec t i)) 1 = q ∙ rw e in (rw r (marks z b e), rw (r, length-set) z)
+      go (inl e) = let r : mark′ ≡ set mark (headingNamed (rec t i)) 1 = q ∙ rw e in (rw r (marks z e), rw (r, length-set) z)
       go (inr e) = let r : mark′ ≡ mark = q ∙ rw e in (rw r (none e), rw r z)
 
 module _ (t mark : List ℕ) (m : NamedBelow t mark (rooms t)) where
   -- the mark tells
-  pub mark-tells : (i : ℕ) → i < rooms t → not (eqb (getD mark i 0) 0) ≡ named t i
+  pub mark-tells : (i : ℕ) → i < 2048 → not (eqb (getD mark i 0) 0) ≡ named t i
   unfolding named
   mark-tells i l = rw (m i l) (go (anyBelow (λ j. names i (rec t j)) (rooms t)))
     where
       go : (b : Bool) → not (eqb (cond b 1 0) 0) ≡ b
       go true = refl
       go false = refl
+
+  pub marks-all : length mark ≡ 2048 → mark ≡ namedMarks t
+  unfolding namedMarks named
+  marks-all z =
+      ext-getD 0 mark _ (z ∙ sym (length-each _ 2048))
+      (λ h l. let b : h < 2048 = omega arith in m h b ∙ sym (getD-each (λ j. cond (anyBelow (λ k. names j (rec t k)) (rooms t)) 1 0) 2048 h 0 b))
+
+-- a mark among all of them tells
+pub marks-tell : (t mark : List ℕ) (h : ℕ) → mark ≡ namedMarks t → h < 2048 → not (eqb (getD mark h 0) 0) ≡ named t h
+unfolding namedMarks
+marks-tell t mark h e l = rw (e, getD-each {A = ℕ} (λ j. cond (named t j) 1 0) 2048 h 0 l) (go (named t h))
+  where
+    go : (b : Bool) → not (eqb (cond b 1 0) 0) ≡ b
+    go true = refl
+    go false = refl
 
 pub all-headed : (t : List ℕ) → ((i : ℕ) → i < rooms t → headed t i ≡ true) → allNamed t ≡ true
 unfolding allNamed

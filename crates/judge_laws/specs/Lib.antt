@@ -5,3 +5,4 @@ pub mod Chains
 pub mod Crowds
 pub mod Twins
 pub mod Shapes
+pub mod Mask

@@ -1,6 +1,6 @@
 -- On a sound table what is written is what document 01 lists: no two entries of one list bear one name, so they are picked in order,
 -- and every entry's code is a digit.
-use mathlib.Core.Bool.{Bool, true, _&&_}
+use mathlib.Core.Bool.{Bool, true, _&&_, cond}
 use mathlib.Core.List.{List, [], _∷_, _++_}
 use mathlib.Core.Logic.{_≢_, by-cases}
 use mathlib.Core.Path.{_≡_, refl, sym, ap₂, _∙_}
@@ -11,7 +11,7 @@ use native.Mathlib.Decide.{ℕ-discrete, decLt}
 use lib.ListN.{length, drop}
 use lib.Seq.{sets, sets-eq}
 use lib.Dec.{leb}
-use borrow.Author.Tests.{eq-eqb, leb-true, not-true}
+use borrow.Author.Tests.{eq-eqb, leb-true, le-leb, not-true}
 use Rattle.paper.specs.Scan.{allBelow}
 use Rattle.paper.specs.Record.{byte, isKind, nameOf, entryCode}
 use Rattle.paper.specs.Table.{rooms, rec}
@@ -115,8 +115,8 @@ sound-listed w t e =
 pub sets-front : (s reply : List ℕ) → length s ≤ length reply → sets reply 0 s ≡ s ++ drop (length s) reply
 sets-front s reply l = sets-eq s reply 0 (omega arith) ∙ rw zero-add
 
--- the reply after `write_lines`, where the lines fit
-pub reply-after : (w : Listed) (t reply : List ℕ) → sound t ≡ true → length (lines t (listed t (isListed w))) ≤ length reply
-    → sets reply 0 (linesShown t (picked t (isListed w)))
+-- the reply after `write_lines`, where the table has room in the list and the lines fit
+pub reply-after : (w : Listed) (t reply : List ℕ) → rooms t ≤ 2048 → sound t ≡ true → length (lines t (listed t (isListed w))) ≤ length reply
+    → cond (leb (rooms t) 2048) (sets reply 0 (linesShown t (picked t (isListed w)))) reply
     ≡ lines t (listed t (isListed w)) ++ drop (length (lines t (listed t (isListed w)))) reply
-reply-after w t reply e l = rw (sound-listed w t e) (sets-front (lines t (listed t (isListed w))) reply l)
+reply-after w t reply m e l = rw (le-leb (rooms t) 2048 m, sound-listed w t e) (sets-front (lines t (listed t (isListed w))) reply l)

@@ -10,14 +10,14 @@ use lib.ListN.{length, set, take, length-set}
 use lib.Seq.{sets}
 use Rattle.paper.specs.Scan as paper
 use Rattle.paper.specs.Record.{nameOf}
-use Rattle.paper.specs.Table.{rec}
+use Rattle.paper.specs.Table.{rooms, rec}
 use Rattle.paper.specs.Listing.{line}
 use Rattle.records.specs.declared.bytes.Room.{Room}
 use Rattle.scans.specs.Shown.{foundShown}
 use Rattle.scans.specs.declared.Found.the-variants.{At, Nowhere}
 use Rattle.listing.specs.Shown.{foundPaper}
-use Rattle.listing.specs.Picked.{nextPicked, picks, lineShown, linesShown}
-use Rattle.listing.proofs.Picks.{paper-shown}
+use Rattle.listing.specs.Picked.{passing, nextIn, nextPicked, andThen, picksBy, picked, lineShown, linesShown}
+use Rattle.listing.proofs.Picks.{paper-shown, least-passing}
 use Rattle.listing.proofs.Sizes.{length-line, name-short}
 
 pub sets-append : (xs ys l : List ℕ) (i : ℕ) → sets l i (xs ++ ys) ≡ sets (sets l i xs) (i + length xs) ys
@@ -59,17 +59,17 @@ wrote t l m n o e at f s p q a b c =
 
 -- ---- one turn
 
-pub picks-none : (t : List ℕ) (test : List ℕ → Bool) (k : ℕ) (last : paper.Found) → nextPicked t test last ≡ paper.nowhere
-    → picks t test k last ≡ []
-unfolding picks
-picks-none t test zero last e = refl
-picks-none t test (suc k) last e = rw e
+module _ (next : paper.Found → paper.Found) where
+  pub picks-none : (k : ℕ) (last : paper.Found) → next last ≡ paper.nowhere → picksBy next k last ≡ []
+  unfolding picksBy
+  picks-none zero last e = refl
+  picks-none (suc k) last e = rw e
 
-pub picks-one : (t : List ℕ) (test : List ℕ → Bool) (k : ℕ) (last : paper.Found) (i : ℕ) → 0 < k → nextPicked t test last ≡ paper.at i
-    → picks t test k last ≡ i ∷ picks t test (k - 1) (paper.at i)
-unfolding picks
-picks-one t test zero last i l e = let z : ⊥ = omega arith in absurd z
-picks-one t test (suc k) last i l e = let q : suc k - 1 ≡ k = omega arith in rw (e, q)
+  picks-one : (k : ℕ) (last : paper.Found) (i : ℕ) → 0 < k → next last ≡ paper.at i
+      → picksBy next k last ≡ i ∷ picksBy next (k - 1) (paper.at i)
+  unfolding picksBy
+  picks-one zero last i l e = let z : ⊥ = omega arith in absurd z
+  picks-one (suc k) last i l e = let q : suc k - 1 ≡ k = omega arith in rw (e, q)
 
 found-at : (f : paper.Found) (e : Room) → At e ≡ foundShown f → f ≡ paper.at (e .0)
 found-at f e q = sym (paper-shown f) ∙ ap foundPaper (sym q)
@@ -77,23 +77,42 @@ found-at f e q = sym (paper-shown f) ∙ ap foundPaper (sym q)
 found-nowhere : (f : paper.Found) → Nowhere ≡ foundShown f → f ≡ paper.nowhere
 found-nowhere f q = sym (paper-shown f) ∙ ap foundPaper (sym q)
 
-module _ (t : List ℕ) (test : List ℕ → Bool) (l : List ℕ) (at k : ℕ) (last : paper.Found) (x : List ℕ)
-    (inv : sets l at (linesShown t (picks t test k last)) ≡ x) where
+module _ (t : List ℕ) (next : paper.Found → paper.Found) (l : List ℕ) (at k : ℕ) (last : paper.Found) (x : List ℕ)
+    (inv : sets l at (linesShown t (picksBy next k last)) ≡ x) where
   -- nothing is left to pick
-  pub done-none : Nowhere ≡ foundShown (nextPicked t test last) → l ≡ x
+  pub done-none : Nowhere ≡ foundShown (next last) → l ≡ x
   unfolding linesShown
-  done-none q = rw (picks-none t test k last (found-nowhere (nextPicked t test last) q)) at inv
+  done-none q = rw (picks-none next k last (found-nowhere (next last) q)) at inv
 
   -- as many are picked as there are records
   pub done-all : k ≡ 0 → l ≡ x
-  unfolding linesShown picks
+  unfolding linesShown picksBy
   done-all q = rw q at inv
 
   -- one line more
-  pub turn : (e : Room) (m : List ℕ) (next : ℕ) → 0 < k → At e ≡ foundShown (nextPicked t test last) → m ≡ sets l at (lineShown t (e .0))
-      → next ≡ at + length (lineShown t (e .0)) → sets m next (linesShown t (picks t test (k - 1) (paper.at (e .0)))) ≡ x
+  pub turn : (e : Room) (m : List ℕ) (end : ℕ) → 0 < k → At e ≡ foundShown (next last) → m ≡ sets l at (lineShown t (e .0))
+      → end ≡ at + length (lineShown t (e .0)) → sets m end (linesShown t (picksBy next (k - 1) (paper.at (e .0)))) ≡ x
   unfolding linesShown
-  turn e m next p q a b =
+  turn e m end p q a b =
       rw (a, b)
-      (sym (sets-append (lineShown t (e .0)) (linesShown t (picks t test (k - 1) (paper.at (e .0)))) l at)
-      ∙ rw (picks-one t test k last (e .0) p (found-at (nextPicked t test last) e q)) at inv)
+      (sym (sets-append (lineShown t (e .0)) (linesShown t (picksBy next (k - 1) (paper.at (e .0)))) l at)
+      ∙ rw (picks-one next k last (e .0) p (found-at (next last) e q)) at inv)
+
+-- ---- the records that pass
+
+-- picked by one rule or by another that gives the same
+picks-same : (f g : paper.Found → paper.Found) → ((last : paper.Found) → f last ≡ g last) → (k : ℕ) (last : paper.Found)
+    → picksBy f k last ≡ picksBy g k last
+unfolding picksBy
+picks-same f g h zero last = refl
+picks-same f g h (suc k) last = rw (h last) (go (g last) (picks-same f g h k))
+  where
+    go : (x : paper.Found) → ((y : paper.Found) → picksBy f k y ≡ picksBy g k y) → andThen (picksBy f k) x ≡ andThen (picksBy g k) x
+    go (paper.at e) r = ap (λ (l : List ℕ). e ∷ l) (r (paper.at e))
+    go paper.nowhere r = refl
+
+-- those picked of the records that pass are those picked of the table
+pub picks-passing : (t : List ℕ) (test : List ℕ → Bool) (found : List ℕ) → found ≡ passing t test (rooms t)
+    → picksBy (nextIn t found) (rooms t) paper.nowhere ≡ picked t test
+picks-passing t test found e =
+    rw e (picks-same (nextIn t (passing t test (rooms t))) (nextPicked t test) (λ last. least-passing t test last (rooms t)) (rooms t) paper.nowhere)

@@ -3,10 +3,11 @@ ghost use mathlib.Core.Path.{_≡_};
 ghost use mathlib.Core.Bool.{_&&_, cond, true, false};
 ghost use Prim.Native.Nat.{ℕ, _<_, _≤_, _%_};
 ghost use lib.ListN.{length, getD, set};
-ghost use Rattle.paper.specs.Record.{byte, two, isKind, headingNamed};
+ghost use Rattle.paper.specs.Record.{byte, two, isKind, simple, headingNamed};
 ghost use Rattle.paper.specs.Table.{sized, rooms, rec};
 ghost use Rattle.paper.specs.Sound.{inPlace, textsWhole, noOtherText, allNamed};
-ghost use Rattle.judge_laws.specs.Naming.{NamedBelow, namesOne, headed};
+ghost use Rattle.judge_laws.specs.Mask.{without};
+ghost use Rattle.judge_laws.specs.Naming.{NamedBelow, namesOne, namedMarks, headed};
 ghost use Rattle.judge_laws.specs.Places.{weight, shortAt, textSound, slotOf, Laid, fresh};
 use fields::Entry;
 use fields::Heading;
@@ -41,47 +42,68 @@ fn two_of(t: &[u8], i: usize, j: usize) -> usize
     byte_of(t, i, j) + byte_of(t, i, j + 1) * 256
 }
 
-// How many text records record i asks for.
-fn weight_of(t: &[u8], i: usize) -> usize
-    requires { ⌜ i < rooms (now t) ⌝ }
-    ensures { λ r. ⌜ (r ≡ weight (rec (now (t .entry)) i)) × (r < 2732) ⌝ }
+// Whether record i is a simple file's heading that stays.
+fn is_simple(t: &[u8], gone: &[u8; 2048], i: usize) -> bool
+    requires { ⌜ (i < rooms (now t)) × (length (now t) % 32 ≡ 0) × (length (now t) ≤ 65536) ⌝ }
+    ensures { λ r. ⌜ r ≡ simple (rec (without (now (gone .entry)) (now (t .entry))) i) ⌝ }
 {
-    if byte_of(t, i, Record::KIND) == Heading::KIND {
-        if byte_of(t, i, Heading::TYPE) == Heading::SIMPLE {
-            return (two_of(t, i, Heading::LENGTH) + 23) / 24;
-        }
+    if byte_of(t, i, Record::KIND) != Heading::KIND {
+        return false;
+    }
+    if byte_of(t, i, Heading::TYPE) != Heading::SIMPLE {
+        return false;
+    }
+    gone[i] == 0
+}
+
+// Whether record i is text that stays.
+fn is_text(t: &[u8], gone: &[u8; 2048], i: usize) -> bool
+    requires { ⌜ (i < rooms (now t)) × (length (now t) % 32 ≡ 0) × (length (now t) ≤ 65536) ⌝ }
+    ensures { λ r. ⌜ r ≡ isKind 3 (rec (without (now (gone .entry)) (now (t .entry))) i) ⌝ }
+{
+    if byte_of(t, i, Record::KIND) != Text::KIND {
+        return false;
+    }
+    gone[i] == 0
+}
+
+// How many text records record i asks for.
+fn weight_of(t: &[u8], gone: &[u8; 2048], i: usize) -> usize
+    requires { ⌜ (i < rooms (now t)) × (length (now t) % 32 ≡ 0) × (length (now t) ≤ 65536) ⌝ }
+    ensures { λ r. ⌜ (r ≡ weight (rec (without (now (gone .entry)) (now (t .entry))) i)) × (r < 2732) ⌝ }
+{
+    if is_simple(t, gone, i) {
+        return (two_of(t, i, Heading::LENGTH) + 23) / 24;
     }
     0
 }
 
 // Whether record i, if it is a simple file's heading, has a fit length.
-fn is_short(t: &[u8], i: usize) -> bool
-    requires { ⌜ i < rooms (now t) ⌝ }
-    ensures { λ r. ⌜ r ≡ shortAt (now (t .entry)) i ⌝ }
+fn is_short(t: &[u8], gone: &[u8; 2048], i: usize) -> bool
+    requires { ⌜ (i < rooms (now t)) × (length (now t) % 32 ≡ 0) × (length (now t) ≤ 65536) ⌝ }
+    ensures { λ r. ⌜ r ≡ shortAt (without (now (gone .entry)) (now (t .entry))) i ⌝ }
 {
-    if byte_of(t, i, Record::KIND) == Heading::KIND {
-        if byte_of(t, i, Heading::TYPE) == Heading::SIMPLE {
-            return two_of(t, i, Heading::LENGTH) <= Heading::LONGEST;
-        }
+    if is_simple(t, gone, i) {
+        return two_of(t, i, Heading::LENGTH) <= Heading::LONGEST;
     }
     true
 }
 
 // 1 if record i is text.
-fn text_of(t: &[u8], i: usize) -> usize
-    requires { ⌜ i < rooms (now t) ⌝ }
-    ensures { λ r. ⌜ (r ≡ cond (isKind 3 (rec (now (t .entry)) i)) 1 0) × (r ≤ 1) ⌝ }
+fn text_of(t: &[u8], gone: &[u8; 2048], i: usize) -> usize
+    requires { ⌜ (i < rooms (now t)) × (length (now t) % 32 ≡ 0) × (length (now t) ≤ 65536) ⌝ }
+    ensures { λ r. ⌜ (r ≡ cond (isKind 3 (rec (without (now (gone .entry)) (now (t .entry))) i)) 1 0) × (r ≤ 1) ⌝ }
 {
-    if byte_of(t, i, Record::KIND) == Text::KIND {
+    if is_text(t, gone, i) {
         return 1;
     }
     0
 }
 
 // Whether no file is too long and there is as much text as the headings ask for; if so, each record's first slot is laid down.
-fn lay_out(t: &[u8], start: &mut [u16; 2048]) -> bool
+fn lay_out(t: &[u8], gone: &[u8; 2048], start: &mut [u16; 2048]) -> bool
     requires { ⌜ (length (now t) % 32 ≡ 0) × (length (now t) ≤ 65536) × (length (now start) ≡ 2048) ⌝ }
-    ensures { λ r. ⌜ (r ≡ false → textSound (now (t .entry)) ≡ false) × (r ≡ true → Laid (now (t .entry)) (now (start .exit))) ⌝ }
+    ensures { λ r. ⌜ (r ≡ false → textSound (without (now (gone .entry)) (now (t .entry))) ≡ false) × (r ≡ true → Laid (without (now (gone .entry)) (now (t .entry))) (now (start .exit))) ⌝ }
 {
     let n = t.len() / Record::BYTES;
     let mut sum: usize = 0;
@@ -89,28 +111,28 @@ fn lay_out(t: &[u8], start: &mut [u16; 2048]) -> bool
     let mut i: usize = 0;
     while i < n {
         start[i] = sum as u16;
-        if !is_short(t, i) {
+        if !is_short(t, gone, i) {
             return false;
         }
-        sum += weight_of(t, i);
+        sum += weight_of(t, gone, i);
         if n < sum {
             return false;
         }
-        count += text_of(t, i);
+        count += text_of(t, gone, i);
         i += 1;
     }
     count == sum
 }
 
 // Whether text record i is in place in the file of heading h.
-fn in_place(t: &[u8], h: usize, i: usize) -> bool
-    requires { ⌜ (i < rooms (now t)) × (length (now t) % 32 ≡ 0) ⌝ }
-    ensures { λ r. ⌜ r ≡ inPlace (rec (now (t .entry)) h) (rec (now (t .entry)) i) ⌝ }
+fn in_place(t: &[u8], gone: &[u8; 2048], h: usize, i: usize) -> bool
+    requires { ⌜ (i < rooms (now t)) × (length (now t) % 32 ≡ 0) × (length (now t) ≤ 65536) ⌝ }
+    ensures { λ r. ⌜ r ≡ inPlace (rec (without (now (gone .entry)) (now (t .entry))) h) (rec (now (t .entry)) i) ⌝ }
 {
     if t.len() / Record::BYTES <= h {
         return false;
     }
-    let blocks = weight_of(t, h);
+    let blocks = weight_of(t, gone, h);
     let p = two_of(t, i, Text::POSITION);
     if blocks <= p {
         return false;
@@ -123,15 +145,21 @@ fn in_place(t: &[u8], h: usize, i: usize) -> bool
 }
 
 // Record i, if it is text, takes its slot: whether it is in place and the slot was free.
-fn mark_turn(t: &[u8], start: &[u16; 2048], mark: &mut [u8; 2048], i: usize) -> bool
-    requires { ⌜ (i < rooms (now t)) × Laid (now t) (now start) ⌝ }
-    ensures { λ r. ⌜ (r ≡ fresh (now (t .entry)) (now (mark .entry)) i) × (now (mark .exit) ≡ cond (fresh (now (t .entry)) (now (mark .entry)) i && isKind 3 (rec (now (t .entry)) i)) (set (now (mark .entry)) (slotOf (now (t .entry)) i) 1) (now (mark .entry))) ⌝ }
+fn mark_turn(
+    t: &[u8],
+    gone: &[u8; 2048],
+    start: &[u16; 2048],
+    mark: &mut [u8; 2048],
+    i: usize,
+) -> bool
+    requires { ⌜ (i < rooms (now t)) × Laid (without (now gone) (now t)) (now start) ⌝ }
+    ensures { λ r. ⌜ (r ≡ fresh (without (now (gone .entry)) (now (t .entry))) (now (mark .entry)) i) × (now (mark .exit) ≡ cond (fresh (without (now (gone .entry)) (now (t .entry))) (now (mark .entry)) i && isKind 3 (rec (without (now (gone .entry)) (now (t .entry))) i)) (set (now (mark .entry)) (slotOf (without (now (gone .entry)) (now (t .entry))) i) 1) (now (mark .entry))) ⌝ }
 {
-    if byte_of(t, i, Record::KIND) != Text::KIND {
+    if !is_text(t, gone, i) {
         return true;
     }
     let h = two_of(t, i, Text::HEADING);
-    if !in_place(t, h, i) {
+    if !in_place(t, gone, h, i) {
         return false;
     }
     let s = wide16(start[h]) + two_of(t, i, Text::POSITION);
@@ -143,14 +171,14 @@ fn mark_turn(t: &[u8], start: &[u16; 2048], mark: &mut [u8; 2048], i: usize) -> 
 }
 
 // Whether each text record is in place in a slot of its own.
-fn mark_all(t: &[u8], start: &[u16; 2048], mark: &mut [u8; 2048]) -> bool
-    requires { ⌜ Laid (now t) (now start) × (length (now mark) ≡ 2048) × ((s : ℕ) → s < 2048 → getD (now mark) s 0 ≡ 0) ⌝ }
-    ensures { λ r. ⌜ r ≡ textSound (now (t .entry)) ⌝ }
+fn mark_all(t: &[u8], gone: &[u8; 2048], start: &[u16; 2048], mark: &mut [u8; 2048]) -> bool
+    requires { ⌜ Laid (without (now gone) (now t)) (now start) × (length (now mark) ≡ 2048) × ((s : ℕ) → s < 2048 → getD (now mark) s 0 ≡ 0) ⌝ }
+    ensures { λ r. ⌜ r ≡ textSound (without (now (gone .entry)) (now (t .entry))) ⌝ }
 {
     let n = t.len() / Record::BYTES;
     let mut i: usize = 0;
     while i < n {
-        if !mark_turn(t, start, mark, i) {
+        if !mark_turn(t, gone, start, mark, i) {
             return false;
         }
         i += 1;
@@ -158,29 +186,30 @@ fn mark_all(t: &[u8], start: &[u16; 2048], mark: &mut [u8; 2048]) -> bool
     true
 }
 
-// Whether the table is sized and its text is sound: each simple file has its text whole, and there is no other.
-pub fn text_is_sound(t: &[u8]) -> bool
-    ensures { λ r. ⌜ r ≡ (sized (now (t .entry)) && (textsWhole (now (t .entry)) && noOtherText (now (t .entry)))) ⌝ }
+// Whether the table is sized and, without the records that go, its text is sound: each simple file has its text whole, and there
+// is no other.
+pub fn text_is_sound(t: &[u8], gone: &[u8; 2048]) -> bool
+    ensures { λ r. ⌜ r ≡ (sized (now (t .entry)) && (textsWhole (without (now (gone .entry)) (now (t .entry))) && noOtherText (without (now (gone .entry)) (now (t .entry))))) ⌝ }
 {
     if !fields::is_sized(t) {
         return false;
     }
     let mut start = [0u16; 2048];
     let mut mark = [0u8; 2048];
-    if !lay_out(t, &mut start) {
+    if !lay_out(t, gone, &mut start) {
         return false;
     }
-    mark_all(t, &start, &mut mark)
+    mark_all(t, gone, &start, &mut mark)
 }
 
-// If record i is an entry that names a record of the table, that record is marked.
+// If record i is an entry that names a record a table may have, that record is marked.
 fn name_turn(t: &[u8], mark: &mut [u8; 2048], i: usize)
-    requires { ⌜ (i < rooms (now t)) × (length (now t) ≤ 65536) ⌝ }
+    requires { ⌜ i < rooms (now t) ⌝ }
     ensures { λ _. ⌜ now (mark .exit) ≡ cond (namesOne (now (t .entry)) i) (set (now (mark .entry)) (headingNamed (rec (now (t .entry)) i)) 1) (now (mark .entry)) ⌝ }
 {
     if byte_of(t, i, Record::KIND) == Entry::KIND {
         let h = two_of(t, i, Entry::NAMED);
-        if h < t.len() / Record::BYTES {
+        if h < Record::MOST {
             mark[h] = 1;
         }
     }
@@ -188,8 +217,8 @@ fn name_turn(t: &[u8], mark: &mut [u8; 2048], i: usize)
 
 // Every record that an entry names is marked.
 fn mark_named(t: &[u8], mark: &mut [u8; 2048])
-    requires { ⌜ (length (now t) ≤ 65536) × (length (now mark) ≡ 2048) × ((s : ℕ) → s < 2048 → getD (now mark) s 0 ≡ 0) ⌝ }
-    ensures { λ _. ⌜ NamedBelow (now (t .entry)) (now (mark .exit)) (rooms (now (t .entry))) ⌝ }
+    requires { ⌜ (length (now mark) ≡ 2048) × ((s : ℕ) → s < 2048 → getD (now mark) s 0 ≡ 0) ⌝ }
+    ensures { λ _. ⌜ NamedBelow (now (t .entry)) (now (mark .exit)) (rooms (now (t .entry))) × (length (now (mark .exit)) ≡ 2048) ⌝ }
 {
     let n = t.len() / Record::BYTES;
     let mut i: usize = 0;
@@ -199,26 +228,38 @@ fn mark_named(t: &[u8], mark: &mut [u8; 2048])
     }
 }
 
-// Whether record i, if it is a heading, is marked.
-fn heading_marked(t: &[u8], mark: &[u8; 2048], i: usize) -> bool
-    requires { ⌜ (i < rooms (now t)) × (length (now t) ≤ 65536) × NamedBelow (now t) (now mark) (rooms (now t)) ⌝ }
-    ensures { λ r. ⌜ r ≡ headed (now (t .entry)) i ⌝ }
+// The records that an entry names: 1 for each, and else 0.
+pub fn named_records(t: &[u8]) -> [u8; 2048]
+    ensures { λ r. ⌜ r ≡ namedMarks (now (t .entry)) ⌝ }
+{
+    let mut mark = [0u8; 2048];
+    mark_named(t, &mut mark);
+    mark
+}
+
+// Whether record i, if it is a heading that stays, is marked.
+fn heading_marked(t: &[u8], gone: &[u8; 2048], mark: &[u8; 2048], i: usize) -> bool
+    requires { ⌜ (i < rooms (now t)) × (length (now t) % 32 ≡ 0) × (length (now t) ≤ 65536) × NamedBelow (now t) (now mark) (rooms (now t)) ⌝ }
+    ensures { λ r. ⌜ r ≡ headed (without (now (gone .entry)) (now (t .entry))) i ⌝ }
 {
     if byte_of(t, i, Record::KIND) != Heading::KIND {
+        return true;
+    }
+    if gone[i] != 0 {
         return true;
     }
     mark[i] != 0
 }
 
-// Whether every heading is marked.
-fn all_marked(t: &[u8], mark: &[u8; 2048]) -> bool
-    requires { ⌜ (length (now t) ≤ 65536) × NamedBelow (now t) (now mark) (rooms (now t)) ⌝ }
-    ensures { λ r. ⌜ r ≡ allNamed (now (t .entry)) ⌝ }
+// Whether every heading that stays is marked.
+fn all_marked(t: &[u8], gone: &[u8; 2048], mark: &[u8; 2048]) -> bool
+    requires { ⌜ (length (now t) % 32 ≡ 0) × (length (now t) ≤ 65536) × NamedBelow (now t) (now mark) (rooms (now t)) ⌝ }
+    ensures { λ r. ⌜ r ≡ allNamed (without (now (gone .entry)) (now (t .entry))) ⌝ }
 {
     let n = t.len() / Record::BYTES;
     let mut i: usize = 0;
     while i < n {
-        if !heading_marked(t, mark, i) {
+        if !heading_marked(t, gone, mark, i) {
             return false;
         }
         i += 1;
@@ -226,14 +267,14 @@ fn all_marked(t: &[u8], mark: &[u8; 2048]) -> bool
     true
 }
 
-// Whether the table is sized and every heading is named by an entry.
-pub fn headings_are_named(t: &[u8]) -> bool
-    ensures { λ r. ⌜ r ≡ (sized (now (t .entry)) && allNamed (now (t .entry))) ⌝ }
+// Whether the table is sized and, without the records that go, every heading is named by an entry.
+pub fn headings_are_named(t: &[u8], gone: &[u8; 2048]) -> bool
+    ensures { λ r. ⌜ r ≡ (sized (now (t .entry)) && allNamed (without (now (gone .entry)) (now (t .entry)))) ⌝ }
 {
     if !fields::is_sized(t) {
         return false;
     }
     let mut mark = [0u8; 2048];
     mark_named(t, &mut mark);
-    all_marked(t, &mark)
+    all_marked(t, gone, &mark)
 }

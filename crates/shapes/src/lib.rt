@@ -8,6 +8,7 @@ ghost use Rattle.paper.specs.Record.{byte, two, three, isKind, directory, zeros
 ghost use Rattle.paper.specs.Name.{inName, inBase, all, linkName, legalBase};
 ghost use Rattle.paper.specs.Table.{sized, rooms, rec};
 ghost use Rattle.paper.specs.Sound.{textAsAbove};
+ghost use Rattle.judge_laws.specs.Mask.{without};
 ghost use Rattle.judge_laws.specs.Shapes.{plainTest, area, headingRight, baseRight, entryRight, rightAt, shaped};
 use fields::Entry;
 use fields::Heading;
@@ -171,21 +172,10 @@ fn is_legal_base(t: &[u8], i: usize, n: usize) -> bool
     is_lettered(t, i, n)
 }
 
-// Whether record h is a heading.
-fn is_heading(t: &[u8], h: usize) -> bool
-    requires { ⌜ length (now t) % 32 ≡ 0 ⌝ }
-    ensures { λ r. ⌜ r ≡ isKind 1 (rec (now (t .entry)) h) ⌝ }
-{
-    if t.len() / Record::BYTES <= h {
-        return false;
-    }
-    byte_of(t, h, Record::KIND) == Heading::KIND
-}
-
-// Whether record h is a directory's heading.
-fn is_directory(t: &[u8], h: usize) -> bool
-    requires { ⌜ length (now t) % 32 ≡ 0 ⌝ }
-    ensures { λ r. ⌜ r ≡ directory (rec (now (t .entry)) h) ⌝ }
+// Whether record h is a heading that stays.
+fn is_heading(t: &[u8], gone: &[u8; 2048], h: usize) -> bool
+    requires { ⌜ (length (now t) % 32 ≡ 0) × (length (now t) ≤ 65536) ⌝ }
+    ensures { λ r. ⌜ r ≡ isKind 1 (rec (without (now (gone .entry)) (now (t .entry))) h) ⌝ }
 {
     if t.len() / Record::BYTES <= h {
         return false;
@@ -193,7 +183,24 @@ fn is_directory(t: &[u8], h: usize) -> bool
     if byte_of(t, h, Record::KIND) != Heading::KIND {
         return false;
     }
-    byte_of(t, h, Heading::TYPE) == Heading::DIRECTORY
+    gone[h] == 0
+}
+
+// Whether record h is a directory's heading that stays.
+fn is_directory(t: &[u8], gone: &[u8; 2048], h: usize) -> bool
+    requires { ⌜ (length (now t) % 32 ≡ 0) × (length (now t) ≤ 65536) ⌝ }
+    ensures { λ r. ⌜ r ≡ directory (rec (without (now (gone .entry)) (now (t .entry))) h) ⌝ }
+{
+    if t.len() / Record::BYTES <= h {
+        return false;
+    }
+    if byte_of(t, h, Record::KIND) != Heading::KIND {
+        return false;
+    }
+    if byte_of(t, h, Heading::TYPE) != Heading::DIRECTORY {
+        return false;
+    }
+    gone[h] == 0
 }
 
 // Whether the entry i of a base file, its name n bytes, has a fit user and a legal base name.
@@ -208,9 +215,9 @@ fn is_base_right(t: &[u8], i: usize, n: usize) -> bool
 }
 
 // Whether entry i is right.
-fn is_entry_right(t: &[u8], i: usize) -> bool
-    requires { ⌜ (i < rooms (now t)) × (length (now t) % 32 ≡ 0) ⌝ }
-    ensures { λ r. ⌜ r ≡ entryRight (now (t .entry)) (rec (now (t .entry)) i) ⌝ }
+fn is_entry_right(t: &[u8], gone: &[u8; 2048], i: usize) -> bool
+    requires { ⌜ (i < rooms (now t)) × (length (now t) % 32 ≡ 0) × (length (now t) ≤ 65536) ⌝ }
+    ensures { λ r. ⌜ r ≡ entryRight (without (now (gone .entry)) (now (t .entry))) (rec (now (t .entry)) i) ⌝ }
 {
     if 7 < byte_of(t, i, Entry::CODE) {
         return false;
@@ -225,7 +232,7 @@ fn is_entry_right(t: &[u8], i: usize) -> bool
     if !are_zeros(t, i, Entry::NAME + n, 10 - n) {
         return false;
     }
-    if !is_heading(t, two_of(t, i, Entry::NAMED)) {
+    if !is_heading(t, gone, two_of(t, i, Entry::NAMED)) {
         return false;
     }
     if !is_link(t, i, n) {
@@ -235,7 +242,7 @@ fn is_entry_right(t: &[u8], i: usize) -> bool
     if holder == Entry::BASE {
         return is_base_right(t, i, n);
     }
-    if !is_directory(t, holder) {
+    if !is_directory(t, gone, holder) {
         return false;
     }
     three_of(t, i, Entry::USER) == 0
@@ -303,17 +310,20 @@ fn is_text_right(t: &[u8], i: usize) -> bool
     are_zeros(t, i, Text::BYTES + held, Text::MOST - held)
 }
 
-// Whether record i is right, by its kind.
-fn is_right(t: &[u8], i: usize) -> bool
-    requires { ⌜ (i < rooms (now t)) × (length (now t) % 32 ≡ 0) ⌝ }
-    ensures { λ r. ⌜ r ≡ rightAt (now (t .entry)) i ⌝ }
+// Whether record i is right, by its kind; one that goes will be free.
+fn is_right(t: &[u8], gone: &[u8; 2048], i: usize) -> bool
+    requires { ⌜ (i < rooms (now t)) × (length (now t) % 32 ≡ 0) × (length (now t) ≤ 65536) ⌝ }
+    ensures { λ r. ⌜ r ≡ rightAt (without (now (gone .entry)) (now (t .entry))) i ⌝ }
 {
     let kind = byte_of(t, i, Record::KIND);
+    if kind == Entry::KIND {
+        return is_entry_right(t, gone, i);
+    }
+    if gone[i] != 0 {
+        return true;
+    }
     if kind == Text::KIND {
         return is_text_right(t, i);
-    }
-    if kind == Entry::KIND {
-        return is_entry_right(t, i);
     }
     if kind == Heading::KIND {
         return is_heading_right(t, i);
@@ -322,14 +332,14 @@ fn is_right(t: &[u8], i: usize) -> bool
 }
 
 // Whether every record is right.
-fn are_right(t: &[u8]) -> bool
-    requires { ⌜ length (now t) % 32 ≡ 0 ⌝ }
-    ensures { λ r. ⌜ r ≡ shaped (now (t .entry)) ⌝ }
+fn are_right(t: &[u8], gone: &[u8; 2048]) -> bool
+    requires { ⌜ (length (now t) % 32 ≡ 0) × (length (now t) ≤ 65536) ⌝ }
+    ensures { λ r. ⌜ r ≡ shaped (without (now (gone .entry)) (now (t .entry))) ⌝ }
 {
     let n = t.len() / Record::BYTES;
     let mut i: usize = 0;
     while i < n {
-        if !is_right(t, i) {
+        if !is_right(t, gone, i) {
             return false;
         }
         i += 1;
@@ -337,12 +347,12 @@ fn are_right(t: &[u8]) -> bool
     true
 }
 
-// Whether the table is sized and each record shows what it must.
-pub fn records_are_right(t: &[u8]) -> bool
-    ensures { λ r. ⌜ r ≡ (sized (now (t .entry)) && shaped (now (t .entry))) ⌝ }
+// Whether the table is sized and, without the records that go, each record shows what it must.
+pub fn records_are_right(t: &[u8], gone: &[u8; 2048]) -> bool
+    ensures { λ r. ⌜ r ≡ (sized (now (t .entry)) && shaped (without (now (gone .entry)) (now (t .entry)))) ⌝ }
 {
     if !fields::is_sized(t) {
         return false;
     }
-    are_right(t)
+    are_right(t, gone)
 }

@@ -6,8 +6,7 @@ use mathlib.Core.Logic.{_⊎_, inl, inr}
 use mathlib.Core.Path.{_≡_, refl, sym, ap}
 use Prim.Native.Nat.{ℕ, zero, suc, _+_, _-_, _≤_, _<_}
 use native.Mathlib.Omega.{arith}
-use lib.ListN.{length, getD, drop, drop-of-length-le}
-use lib.Seq.{drop-cons}
+use lib.ListN.{length, getD}
 use lib.Dec.{eqb, leb}
 use borrow.Author.Tests.{ne-eqb}
 use Rattle.paper.specs.Line.{isBlank, word}
@@ -17,6 +16,7 @@ use Rattle.words.specs.Place.{isPlain, nameEnd, gapEnd, joined, nextName
 use Rattle.words.specs.Shown.{nextAt}
 use Rattle.words.specs.declared.line.Next.the-variants.{At, Nothing}
 use Rattle.laws.proofs.Tests.{truth, clash}
+use Rattle.records.proofs.Order.{same-length}
 use Rattle.words.proofs.Tests.{downward}
 use Rattle.words.proofs.Reaches.{reach-le}
 use Rattle.words.proofs.Pieces.{names-step, words-over, colon-inside}
@@ -124,27 +124,7 @@ chain-base line p = go (truth (pointed (cut line p)))
     go (inl e) = rw (chain-pointed line p e, e) (names-first line p)
     go (inr e) = rw (chain-bare line p e, e)
 
--- two names compared
-pub same-length : (s t : List ℕ) → (length s ≡ length t → ⊥) → same s t ≡ false
-unfolding same
-same-length [] [] h = absurd (h refl)
-same-length [] (b ∷ t) h = refl
-same-length (a ∷ s) [] h = refl
-same-length (a ∷ s) (b ∷ t) h = rw (same-length s t (λ e. h (ap suc e))) (go (eqb a b))
-  where
-    go : (x : Bool) → (x && false) ≡ false
-    go true = refl
-    go false = refl
-
-module _ (s t : List ℕ) (i : ℕ) where
-  pub same-end : length s ≤ i → length t ≤ i → same (drop i s) (drop i t) ≡ true
-  unfolding same
-  same-end l m = rw (drop-of-length-le s l, drop-of-length-le t m)
-
-  pub same-more : i < length s → i < length t → same (drop i s) (drop i t) ≡ (eqb (getD s i 0) (getD t i 0) && same (drop (suc i) s) (drop (suc i) t))
-  unfolding same
-  same-more l m = rw (drop-cons s i 0 l, drop-cons t i 0 m)
-
+-- a name of two characters, by its characters
 same-two : (s : List ℕ) (a b : ℕ) → length s ≡ 2 → same s (a ∷ b ∷ []) ≡ (eqb (getD s 0 0) a && eqb (getD s 1 0) b)
 unfolding same
 same-two [] a b e = let z : ⊥ = omega arith in absurd z

@@ -1,7 +1,7 @@
 // Classes of bytes.
 ghost use mathlib.Core.Path.{_≡_};
 ghost use lib.ListN.{getD};
-ghost use Rattle.paper.specs.Name.{inName, inBase, same};
+ghost use Rattle.paper.specs.Name.{inName, inBase};
 ghost use Rattle.paper.specs.Line.{inLine};
 ghost use Rattle.words.specs.Place.{reach, isPlain};
 ghost use Rattle.words.specs.Shown.{test};
@@ -86,21 +86,4 @@ pub fn end_of(class: Class, s: &[u8], p: usize) -> usize
         i += 1;
     }
     i
-}
-
-// Whether two names are the same.
-pub fn is_same(a: &[u8], b: &[u8]) -> bool
-    ensures { λ r. ⌜ r ≡ same (now (a .entry)) (now (b .entry)) ⌝ }
-{
-    if a.len() != b.len() {
-        return false;
-    }
-    let mut i = 0;
-    while i < a.len() {
-        if a[i] != b[i] {
-            return false;
-        }
-        i += 1;
-    }
-    true
 }

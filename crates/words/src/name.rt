@@ -2,10 +2,10 @@
 use crate::class::Class;
 use crate::class::byte;
 use crate::class::end_of;
-use crate::class::is_same;
 use crate::line::Next;
 use crate::line::name;
 use crate::line::next_name;
+use records::name::are_same;
 ghost use mathlib.Core.Path.{_≡_};
 ghost use lib.ListN.{length};
 ghost use Rattle.paper.specs.Name.{linkName, pointed, chain, alone, wellFormed, legalBase, baseName};
@@ -85,7 +85,7 @@ pub fn is_alone(line: &[u8], p: usize, n: &[u8]) -> bool
     let Next::Nothing = next_name(line, p) else {
         return false;
     };
-    is_same(name(line, p), n)
+    are_same(name(line, p), n)
 }
 
 // Whether the word at p is a well-formed chain.

@@ -1,13 +1,15 @@
 -- A pass that fails refutes soundness; where the others pass, the last decides.
--- Twins are names borne twice because the records were found right before.
+-- Twins are names borne twice because the records were found right before; no entry goes, so twins and crowds are the table's.
 use mathlib.Core.Bool.{_&&_}
 use mathlib.Core.Path.{sym, _∙_}
 use borrow.Author.Tests.{not-true, not-false}
 use borrow.Author.Needs.{needs}
+use Rattle.judge_laws.specs.Mask.{without}
 use Rattle.judge_laws.specs.Shapes.{shaped}
 use Rattle.judge_laws.specs.Twins.{noTwins}
 use Rattle.paper.specs.Sound.{allNamed, noneCrowded, textsWhole, noOtherText}
 use Rattle.paper.specs.Table.{sized}
+use Rattle.judge_laws.proofs.Mask.{twins-without, crowded-without}
 use Rattle.judge_laws.proofs.Tests.{and-gives}
 use Rattle.judge_laws.proofs.Sound.{sound-not-shaped, sound-not-named, sound-not-text, sound-not-twins, sound-left}
 use Rattle.judge.proofs.is_sound.Statement.{statement}
@@ -18,46 +20,56 @@ records-are-right-requires c κs = search needs
 
 returns : tie.Need-returns
 returns c =
-    let t = c .before .before .before .args .table .now in
-    sym (sound-not-shaped t (and-gives (sized t) (shaped t) _ (c .before .before .before .pre) (c .before .records-are-right .ensures) ∙ not-true _ (c .if1 .taken)))
+    let a = c .before .before .before .args in
+    let t = a .table .now in
+    let w = without (a .gone .now) t in
+    sym (sound-not-shaped w (and-gives (sized t) (shaped w) _ (c .before .before .before .pre) (c .before .records-are-right .ensures) ∙ not-true _ (c .if1 .taken)))
 
 headings-are-named-requires : tie.Need-headings-are-named-requires
 headings-are-named-requires c κs = search needs
 
 returns-2 : tie.Need-returns-2
 returns-2 c =
-    let t = c .before .before .before .before .before .args .table .now in
-    sym (sound-not-named t (and-gives (sized t) (allNamed t) _ (c .before .before .before .before .before .pre) (c .before .headings-are-named .ensures) ∙ not-true _ (c .if2 .taken)))
+    let a = c .before .before .before .before .before .args in
+    let t = a .table .now in
+    let w = without (a .gone .now) t in
+    sym (sound-not-named w (and-gives (sized t) (allNamed w) _ (c .before .before .before .before .before .pre) (c .before .headings-are-named .ensures) ∙ not-true _ (c .if2 .taken)))
 
 text-is-sound-requires : tie.Need-text-is-sound-requires
 text-is-sound-requires c κs = search needs
 
 returns-3 : tie.Need-returns-3
 returns-3 c =
-    let t = c .before .before .before .before .before .before .before .args .table .now in
-    sym (sound-not-text t (and-gives (sized t) (textsWhole t && noOtherText t) _ (c .before .before .before .before .before .before .before .pre) (c .before .text-is-sound .ensures) ∙ not-true _ (c .if3 .taken)))
+    let a = c .before .before .before .before .before .before .before .args in
+    let t = a .table .now in
+    let w = without (a .gone .now) t in
+    sym (sound-not-text w (and-gives (sized t) (textsWhole w && noOtherText w) _ (c .before .before .before .before .before .before .before .pre) (c .before .text-is-sound .ensures) ∙ not-true _ (c .if3 .taken)))
 
 none-are-twins-requires : tie.Need-none-are-twins-requires
 none-are-twins-requires c κs = search needs
 
 returns-4 : tie.Need-returns-4
 returns-4 c =
-    let t = c .before .before .before .before .before .before .before .before .before .args .table .now in
+    let a = c .before .before .before .before .before .before .before .before .before .args in
+    let t = a .table .now in
+    let w = without (a .gone .now) t in
     let p = c .before .before .before .before .before .before .before .before .before .pre in
-    sym (sound-not-twins t (and-gives (sized t) (shaped t) _ p (c .before .before .before .before .before .before .before .records-are-right .ensures) ∙ not-false _ (c .before .before .before .before .before .before .if1 .left)) (and-gives (sized t) (noTwins t) _ p (c .before .none-are-twins .ensures) ∙ not-true _ (c .if4 .taken)))
+    sym (sound-not-twins w (and-gives (sized t) (shaped w) _ p (c .before .before .before .before .before .before .before .records-are-right .ensures) ∙ not-false _ (c .before .before .before .before .before .before .if1 .left)) (twins-without (a .gone .now) t ∙ and-gives (sized t) (noTwins t) _ p (c .before .none-are-twins .ensures) ∙ not-true _ (c .if4 .taken)))
 
 none-are-crowded-requires : tie.Need-none-are-crowded-requires
 none-are-crowded-requires c κs = search needs
 
 returns-5 : tie.Need-returns-5
 returns-5 c =
-    let t = c .before .before .before .before .before .before .before .before .before .before .args .table .now in
+    let a = c .before .before .before .before .before .before .before .before .before .before .args in
+    let t = a .table .now in
+    let w = without (a .gone .now) t in
     let p = c .before .before .before .before .before .before .before .before .before .before .pre in
-    sym (sound-left t (and-gives (sized t) (shaped t) _ p (c .before .before .before .before .before .before .before .before .records-are-right .ensures) ∙ not-false _ (c .before .before .before .before .before .before .before .if1 .left))
-    (and-gives (sized t) (allNamed t) _ p (c .before .before .before .before .before .before .headings-are-named .ensures) ∙ not-false _ (c .before .before .before .before .before .if2 .left))
-    (and-gives (sized t) (textsWhole t && noOtherText t) _ p (c .before .before .before .before .text-is-sound .ensures) ∙ not-false _ (c .before .before .before .if3 .left))
-    (and-gives (sized t) (noTwins t) _ p (c .before .before .none-are-twins .ensures) ∙ not-false _ (c .before .if4 .left))
-    ∙ and-gives (sized t) (noneCrowded t) _ p (c .none-are-crowded .ensures))
+    sym (sound-left w (and-gives (sized t) (shaped w) _ p (c .before .before .before .before .before .before .before .before .records-are-right .ensures) ∙ not-false _ (c .before .before .before .before .before .before .before .if1 .left))
+    (and-gives (sized t) (allNamed w) _ p (c .before .before .before .before .before .before .headings-are-named .ensures) ∙ not-false _ (c .before .before .before .before .before .if2 .left))
+    (and-gives (sized t) (textsWhole w && noOtherText w) _ p (c .before .before .before .before .text-is-sound .ensures) ∙ not-false _ (c .before .before .before .if3 .left))
+    (twins-without (a .gone .now) t ∙ and-gives (sized t) (noTwins t) _ p (c .before .before .none-are-twins .ensures) ∙ not-false _ (c .before .if4 .left))
+    ∙ crowded-without (a .gone .now) t ∙ and-gives (sized t) (noneCrowded t) _ p (c .none-are-crowded .ensures))
 
 pub is-sound-spec : {M : Type 1} → statement M
 is-sound-spec =

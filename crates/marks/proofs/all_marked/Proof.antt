@@ -6,28 +6,31 @@ use Prim.Native.Nat.{ℕ, _-_, _≤_, _<_}
 use native.Mathlib.Omega.{arith}
 use borrow.Author.Tests.{not-true, not-false}
 use borrow.Author.Count.{below-more, below-none}
+use Rattle.judge_laws.specs.Mask.{without}
 use Rattle.judge_laws.specs.Naming.{headed}
 use Rattle.paper.specs.Table.{rooms}
+use Rattle.judge_laws.proofs.Mask.{rooms-without}
 use Rattle.judge_laws.proofs.Naming.{all-headed, one-bare}
 use Rattle.marks.proofs.all_marked.Statement.{statement}
 use Rattle.marks.proofs.all_marked.Tie as tie
 
 abbrev Inv-loop : tie.InvT-loop
-Inv-loop t mark n i₀ i = ((j : ℕ) → j < i → headed t j ≡ true) × (i ≤ n) × (n ≡ rooms t)
+Inv-loop t gone mark n i₀ i = ((j : ℕ) → j < i → headed (without gone t) j ≡ true) × (i ≤ n) × (n ≡ rooms t)
 
 abbrev μ-loop : tie.MeasureT-loop
-μ-loop t mark n i₀ i = n - i
+μ-loop t gone mark n i₀ i = n - i
 
 loop-holds : tie.Need-loop-holds Inv-loop μ-loop
 loop-holds c = (below-none _, omega arith, refl)
 
 heading-marked-requires : tie.Need-heading-marked-requires Inv-loop μ-loop
-heading-marked-requires c κs = (omega arith, omega arith, c .before .before .before .pre .1)
+heading-marked-requires c κs = (omega arith, omega arith, omega arith, c .before .before .before .pre .2)
 
 returns : tie.Need-returns Inv-loop μ-loop
 returns c =
     let l = c .before .before .before .loop in
-    sym (one-bare (c .before .before .before .before .before .args .t .now) (l .i) (omega arith) (sym (c .before .heading-marked .ensures) ∙ not-true _ (c .if1 .taken)))
+    let a = c .before .before .before .before .before .args in
+    sym (one-bare (without (a .gone .now) (a .t .now)) (l .i) (rw (rooms-without (a .gone .now) (a .t .now)) (omega arith)) (sym (c .before .heading-marked .ensures) ∙ not-true _ (c .if1 .taken)))
 
 add-i : tie.Need-add-i Inv-loop μ-loop
 add-i c = omega arith
@@ -38,11 +41,15 @@ loop-less c = omega arith
 loop-again : tie.Need-loop-again Inv-loop μ-loop
 loop-again c =
     let l = c .before .before .before .loop in
-    let e : headed (c .before .before .before .before .before .args .t .now) (l .i) ≡ true = sym (c .before .heading-marked .ensures) ∙ not-false _ (c .if1 .left) in
+    let a = c .before .before .before .before .before .args in
+    let e : headed (without (a .gone .now) (a .t .now)) (l .i) ≡ true = sym (c .before .heading-marked .ensures) ∙ not-false _ (c .if1 .left) in
     (below-more _ _ (l .inv .0) e, omega arith, refl)
 
 returns-2 : tie.Need-returns-2 Inv-loop μ-loop
-returns-2 c = sym (all-headed (c .before .before .before .args .t .now) (λ j k. c .before .loop .inv .0 j (omega arith)))
+returns-2 c =
+    let a = c .before .before .before .args in
+    let e = rooms-without (a .gone .now) (a .t .now) in
+    sym (all-headed (without (a .gone .now) (a .t .now)) (λ j k. c .before .loop .inv .0 j (omega arith)))
 
 pub all-marked-spec : {M : Type 1} → statement M
 all-marked-spec =

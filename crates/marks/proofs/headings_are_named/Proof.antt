@@ -4,6 +4,7 @@ use mathlib.Core.Path.{refl, sym, _∙_}
 use lib.ListN.{getD-replicate}
 use borrow.Author.Tests.{not-true, not-false}
 use borrow.Author.Needs.{needs}
+use Rattle.judge_laws.specs.Mask.{without}
 use Rattle.paper.specs.Sound.{allNamed}
 use Rattle.paper.specs.Table.{sized}
 use Rattle.laws.proofs.Tests.{and-no-left}
@@ -16,20 +17,19 @@ is-sized-requires : tie.Need-is-sized-requires
 is-sized-requires c κs = search needs
 
 returns : tie.Need-returns
-returns c = sym (and-no-left (sized (c .before .before .before .args .t .now)) (allNamed (c .before .before .before .args .t .now)) (sym (c .before .is-sized .ensures) ∙ not-true _ (c .if1 .taken)))
+returns c = sym (and-no-left (sized (c .before .before .before .args .t .now)) (allNamed (without (c .before .before .before .args .gone .now) (c .before .before .before .args .t .now))) (sym (c .before .is-sized .ensures) ∙ not-true _ (c .if1 .taken)))
 
 mark-named-requires : tie.Need-mark-named-requires
-mark-named-requires c κs =
-    let e = sym (c .before .before .is-sized .ensures) ∙ not-false _ (c .before .if1 .left) in
-    (sized-whole (c .before .before .before .before .args .t .now) e .1, refl, λ s l. getD-replicate 2048 s 0 0 l)
+mark-named-requires c κs = (refl, λ s l. getD-replicate 2048 s 0 0 l)
 
 all-marked-requires : tie.Need-all-marked-requires
 all-marked-requires c κs =
     let e = sym (c .before .before .before .before .is-sized .ensures) ∙ not-false _ (c .before .before .before .if1 .left) in
-    (sized-whole (c .before .before .before .before .before .before .args .t .now) e .1, c .before .mark-named .ensures)
+    let w = sized-whole (c .before .before .before .before .before .before .args .t .now) e in
+    (w .0, w .1, c .before .mark-named .ensures .0)
 
 returns-2 : tie.Need-returns-2
-returns-2 c = c .all-marked .ensures ∙ sym (and-past (sized (c .before .before .before .before .before .before .before .args .t .now)) (allNamed (c .before .before .before .before .before .before .before .args .t .now)) (sym (c .before .before .before .before .before .is-sized .ensures) ∙ not-false _ (c .before .before .before .before .if1 .left)))
+returns-2 c = c .all-marked .ensures ∙ sym (and-past (sized (c .before .before .before .before .before .before .before .args .t .now)) (allNamed (without (c .before .before .before .before .before .before .before .args .gone .now) (c .before .before .before .before .before .before .before .args .t .now))) (sym (c .before .before .before .before .before .is-sized .ensures) ∙ not-false _ (c .before .before .before .before .if1 .left)))
 
 pub headings-are-named-spec : {M : Type 1} → statement M
 headings-are-named-spec =

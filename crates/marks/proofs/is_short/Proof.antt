@@ -1,29 +1,29 @@
 -- The limit is asked of a simple file's heading alone.
--- The tests of kind and type are those of the definition.
-use borrow.Author.Tests.{ne-eqb}
-use borrow.Author.Needs.{needs}
+-- A heading that stays is the table's own, so its length is read there.
+use mathlib.Core.Bool.{true}
+use mathlib.Core.Path.{_≡_, sym, _∙_}
+use native.Mathlib.Omega.{arith}
+use Rattle.paper.specs.Record.{simple}
+use Rattle.paper.specs.Table.{rec}
+use Rattle.judge_laws.specs.Mask.{without}
+use Rattle.judge_laws.proofs.Mask.{simple-kept}
 use Rattle.marks.proofs.is_short.Statement.{statement}
 use Rattle.marks.proofs.is_short.Tie as tie
 
-byte-of-requires : tie.Need-byte-of-requires
-byte-of-requires c κs = search needs
-
-byte-of-requires-2 : tie.Need-byte-of-requires-2
-byte-of-requires-2 c κs = search needs
+is-simple-requires : tie.Need-is-simple-requires
+is-simple-requires c κs = (omega arith, omega arith, omega arith)
 
 two-of-requires : tie.Need-two-of-requires
-two-of-requires c κs = search needs
+two-of-requires c κs = omega arith
 
 returns : tie.Need-returns
-returns c = rw (← c .before .before .before .before .byte-of .ensures .0, c .before .before .before .if1 .taken, ← c .before .before .byte-of2 .ensures .0, c .before .if2 .taken, ← c .two-of .ensures .0)
+returns c =
+    let a = c .before .before .before .before .args in
+    let s : simple (rec (without (a .gone .now) (a .t .now)) (a .i)) ≡ true = sym (c .before .before .is-simple .ensures) ∙ c .before .if1 .taken in
+    rw (s, simple-kept (a .gone .now) (a .t .now) (omega arith) (a .i) s, ← c .two-of .ensures .0)
 
 returns-2 : tie.Need-returns-2
-returns-2 c = rw (← c .before .before .before .byte-of .ensures .0, c .before .before .if1 .taken, ← c .before .byte-of2 .ensures .0, ne-eqb _ _ (c .if2 .left))
-
-returns-3 : tie.Need-returns-3
-returns-3 c = rw (← c .before .byte-of .ensures .0, ne-eqb _ _ (c .if1 .left))
+returns-2 c = rw (← c .before .is-simple .ensures, c .if1 .left)
 
 pub is-short-spec : {M : Type 1} → statement M
-is-short-spec =
-    tie.close
-    (tie.spec byte-of-requires byte-of-requires-2 two-of-requires returns returns-2 returns-3)
+is-short-spec = tie.close (tie.spec is-simple-requires two-of-requires returns returns-2)

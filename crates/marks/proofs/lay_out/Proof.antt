@@ -10,23 +10,27 @@ use lib.ListN.{length, getD, length-set}
 use lib.Seq.{getD-set-same, getD-set-other}
 use borrow.Author.Tests.{eqb-true, eqb-false, not-true, not-false}
 use borrow.Author.Count.{below-more, below-none}
+use Rattle.judge_laws.specs.Mask.{without}
 use Rattle.judge_laws.specs.Places.{shortAt, starts, texts}
 use Rattle.paper.specs.Table.{rooms}
 use Rattle.paper.specs.Walk.{start}
+use Rattle.judge_laws.proofs.Mask.{length-without, rooms-without, whole-without}
 use Rattle.judge_laws.proofs.Text.{sound-not-long, sound-not-apart}
 use Rattle.judge_laws.proofs.TextTurns.{starts-none, texts-none, starts-more, starts-up, texts-more, texts-most}
 use Rattle.marks.proofs.lay_out.Statement.{statement}
 use Rattle.marks.proofs.lay_out.Tie as tie
 
 abbrev Inv-loop : tie.InvT-loop
-Inv-loop t start₀ n sum₀ count₀ i₀ start sum count i = (sum ≡ starts t i) × (count ≡ texts t i) × (sum ≤ n) × (i ≤ n) × (n ≡ rooms t) × (count ≤ i) × (length start ≡ 2048) × ((h : ℕ) → h < i → getD start h 0 ≡ starts t h) × ((h : ℕ) → h < i → shortAt t h ≡ true)
+Inv-loop t gone start₀ n sum₀ count₀ i₀ start sum count i = (sum ≡ starts (without gone t) i) × (count ≡ texts (without gone t) i) × (sum ≤ n) × (i ≤ n) × (n ≡ rooms t) × (count ≤ i) × (length start ≡ 2048) × ((h : ℕ) → h < i → getD start h 0 ≡ starts (without gone t) h) × ((h : ℕ) → h < i → shortAt (without gone t) h ≡ true)
 
 abbrev μ-loop : tie.MeasureT-loop
-μ-loop t start₀ n sum₀ count₀ i₀ start sum count i = n - i
+μ-loop t gone start₀ n sum₀ count₀ i₀ start sum count i = n - i
 
 loop-holds : tie.Need-loop-holds Inv-loop μ-loop
 loop-holds c =
-    let t = c .before .args .t .now in
+    let g = c .before .args in
+    let t = without (g .gone .now) (g .t .now) in
+    let q : rooms t ≡ rooms (g .t .now) = rooms-without (g .gone .now) (g .t .now) in
     (sym (starts-none t), sym (texts-none t), omega arith, omega arith, refl, omega arith, omega arith, below-none _, below-none _)
 
 cast-start : tie.Need-cast-start Inv-loop μ-loop
@@ -39,31 +43,35 @@ element-write-start : tie.Need-element-write-start Inv-loop μ-loop
 element-write-start c = omega arith
 
 is-short-requires : tie.Need-is-short-requires Inv-loop μ-loop
-is-short-requires c κs = omega arith
+is-short-requires c κs = (omega arith, omega arith, omega arith)
 
 returns : tie.Need-returns Inv-loop μ-loop
 returns c =
-    let t = c .before .before .before .before .before .args .t .now in
+    let g = c .before .before .before .before .before .args in
+    let t = without (g .gone .now) (g .t .now) in
+    let q : rooms t ≡ rooms (g .t .now) = rooms-without (g .gone .now) (g .t .now) in
     let i = c .before .before .before .loop .i in
-    (λ f. sound-not-long t (omega arith) i (omega arith) (sym (c .before .is-short .ensures) ∙ not-true _ (c .if1 .taken)), λ f. absurd (true≢false (sym f)))
+    (λ f. sound-not-long t (whole-without (g .gone .now) (g .t .now) (omega arith)) i (omega arith) (sym (c .before .is-short .ensures) ∙ not-true _ (c .if1 .taken)), λ f. absurd (true≢false (sym f)))
 
 weight-of-requires : tie.Need-weight-of-requires Inv-loop μ-loop
-weight-of-requires c κs = omega arith
+weight-of-requires c κs = (omega arith, omega arith, omega arith)
 
 add-sum : tie.Need-add-sum Inv-loop μ-loop
 add-sum c = omega arith
 
 returns-2 : tie.Need-returns-2 Inv-loop μ-loop
 returns-2 c =
-    let t = c .before .before .before .before .before .before .before .args .t .now in
+    let g = c .before .before .before .before .before .before .before .args in
+    let t = without (g .gone .now) (g .t .now) in
+    let q : rooms t ≡ rooms (g .t .now) = rooms-without (g .gone .now) (g .t .now) in
     let i = c .before .before .before .before .before .loop .i in
     let a = starts-more t i in
     let b = starts-up t (i + 1) (rooms t) (omega arith) in
     let d = texts-most t (rooms t) in
-    (λ f. sound-not-apart t (omega arith) (λ (q : texts t (rooms t) ≡ starts t (rooms t)). omega arith), λ f. absurd (true≢false (sym f)))
+    (λ f. sound-not-apart t (whole-without (g .gone .now) (g .t .now) (omega arith)) (λ (e : texts t (rooms t) ≡ starts t (rooms t)). omega (arith, q)), λ f. absurd (true≢false (sym f)))
 
 text-of-requires : tie.Need-text-of-requires Inv-loop μ-loop
-text-of-requires c κs = omega arith
+text-of-requires c κs = (omega arith, omega arith, omega arith)
 
 add-count : tie.Need-add-count Inv-loop μ-loop
 add-count c = omega arith
@@ -77,7 +85,9 @@ loop-less c = omega arith
 loop-again : tie.Need-loop-again Inv-loop μ-loop
 loop-again c =
     let a = c .before .before .before .before .before .before in
-    let t = a .before .before .args .t .now in
+    let g = a .before .before .args in
+    let t = without (g .gone .now) (g .t .now) in
+    let q : rooms t ≡ rooms (g .t .now) = rooms-without (g .gone .now) (g .t .now) in
     let y : shortAt t (a .loop .i) ≡ true = sym (c .before .before .before .before .is-short .ensures) ∙ not-false _ (c .before .before .before .if1 .left) in
     let i = a .loop .i in
     let s = a .loop .start in
@@ -100,16 +110,18 @@ loop-again c =
 
 returns-3 : tie.Need-returns-3 Inv-loop μ-loop
 returns-3 c =
-    let t = c .before .before .before .args .t .now in
+    let g = c .before .before .before .args in
+    let t = without (g .gone .now) (g .t .now) in
+    let q : rooms t ≡ rooms (g .t .now) = rooms-without (g .gone .now) (g .t .now) in
     let l = c .before .loop in
     let e : l .i ≡ rooms t = omega arith in
     let x : l .sum ≡ starts t (rooms t) = rw (← e) (l .inv .0) in
     let y : l .count ≡ texts t (rooms t) = rw (← e) (l .inv .1) in (
-      λ f. sound-not-apart t (omega arith) (λ q. eqb-false (l .count) (l .sum) f (y ∙ q ∙ sym x)),
+      λ f. sound-not-apart t (whole-without (g .gone .now) (g .t .now) (omega arith)) (λ q. eqb-false (l .count) (l .sum) f (y ∙ q ∙ sym x)),
       λ f.
           record {
-            whole = omega arith;
-            small = omega arith;
+            whole = whole-without (g .gone .now) (g .t .now) (omega arith);
+            small = rw (length-without (g .gone .now) (g .t .now)) (omega arith);
             short = λ h k. l .inv .8 h (omega arith);
             enough = sym y ∙ eqb-true (l .count) (l .sum) f ∙ x;
             room = rw (← e) (omega arith);

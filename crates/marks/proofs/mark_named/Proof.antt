@@ -17,7 +17,7 @@ abbrev μ-loop : tie.MeasureT-loop
 μ-loop t mark₀ n i₀ mark i = n - i
 
 loop-holds : tie.Need-loop-holds Inv-loop μ-loop
-loop-holds c = (named-none (c .before .args .t .now) (c .before .args .mark .now) (c .before .pre .0) (c .before .pre .2), omega arith, omega arith, refl)
+loop-holds c = (named-none (c .before .args .t .now) (c .before .args .mark .now) (c .before .pre .1), omega arith, omega arith, refl)
 
 name-turn-requires : tie.Need-name-turn-requires Inv-loop μ-loop
 name-turn-requires c κs = omega arith
@@ -32,13 +32,13 @@ loop-again : tie.Need-loop-again Inv-loop μ-loop
 loop-again c =
     let a = c .before .before .before .before .before in
     let l = c .before .before .before .loop in
-    let z = name-turned (a .args .t .now) (l .mark) (l .i) (l .inv .0) (c .name-turn .last .1 .0) (l .inv .1) (a .pre .0) (c .name-turn .ensures) in
+    let z = name-turned (a .args .t .now) (l .mark) (l .i) (l .inv .0) (c .name-turn .last .1 .0) (l .inv .1) (c .name-turn .ensures) in
     (z .0, z .1, omega arith, refl)
 
 returns : tie.Need-returns Inv-loop μ-loop
 returns c =
     let e : c .before .loop .i ≡ rooms (c .before .before .before .args .t .now) = omega arith in
-    rw e at (c .before .loop .inv .0)
+    (rw e at (c .before .loop .inv .0), c .before .loop .inv .1)
 
 pub mark-named-spec : {M : Type 1} → statement M
 mark-named-spec =

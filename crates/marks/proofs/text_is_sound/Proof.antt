@@ -5,6 +5,7 @@ use mathlib.Core.Path.{refl, sym, _∙_}
 use lib.ListN.{getD-replicate}
 use borrow.Author.Tests.{not-true, not-false}
 use borrow.Author.Needs.{needs}
+use Rattle.judge_laws.specs.Mask.{without}
 use Rattle.judge_laws.specs.Places.{textSound}
 use Rattle.paper.specs.Sound.{textsWhole, noOtherText}
 use Rattle.paper.specs.Table.{sized}
@@ -18,7 +19,7 @@ is-sized-requires : tie.Need-is-sized-requires
 is-sized-requires c κs = search needs
 
 returns : tie.Need-returns
-returns c = sym (and-no-left (sized (c .before .before .before .args .t .now)) (textsWhole (c .before .before .before .args .t .now) && noOtherText (c .before .before .before .args .t .now)) (sym (c .before .is-sized .ensures) ∙ not-true _ (c .if1 .taken)))
+returns c = sym (and-no-left (sized (c .before .before .before .args .t .now)) (textsWhole (without (c .before .before .before .args .gone .now) (c .before .before .before .args .t .now)) && noOtherText (without (c .before .before .before .args .gone .now) (c .before .before .before .args .t .now))) (sym (c .before .is-sized .ensures) ∙ not-true _ (c .if1 .taken)))
 
 lay-out-requires : tie.Need-lay-out-requires
 lay-out-requires c κs =
@@ -28,14 +29,14 @@ lay-out-requires c κs =
 
 returns-2 : tie.Need-returns-2
 unfolding textSound
-returns-2 c = sym (and-past (sized (c .before .before .before .before .before .before .args .t .now)) (textSound (c .before .before .before .before .before .before .args .t .now)) (sym (c .before .before .before .before .is-sized .ensures) ∙ not-false _ (c .before .before .before .if1 .left)) ∙ c .before .lay-out .ensures .0 (not-true _ (c .if2 .taken)))
+returns-2 c = sym (and-past (sized (c .before .before .before .before .before .before .args .t .now)) (textSound (without (c .before .before .before .before .before .before .args .gone .now) (c .before .before .before .before .before .before .args .t .now))) (sym (c .before .before .before .before .is-sized .ensures) ∙ not-false _ (c .before .before .before .if1 .left)) ∙ c .before .lay-out .ensures .0 (not-true _ (c .if2 .taken)))
 
 mark-all-requires : tie.Need-mark-all-requires
 mark-all-requires c κs = (c .before .before .before .lay-out .ensures .1 (not-false _ (c .before .before .if2 .left)), refl, λ s l. getD-replicate 2048 s 0 0 l)
 
 returns-3 : tie.Need-returns-3
 unfolding textSound
-returns-3 c = c .mark-all .ensures ∙ sym (and-past (sized (c .before .before .before .before .before .before .before .before .before .args .t .now)) (textSound (c .before .before .before .before .before .before .before .before .before .args .t .now)) (sym (c .before .before .before .before .before .before .before .is-sized .ensures) ∙ not-false _ (c .before .before .before .before .before .before .if1 .left)))
+returns-3 c = c .mark-all .ensures ∙ sym (and-past (sized (c .before .before .before .before .before .before .before .before .before .args .t .now)) (textSound (without (c .before .before .before .before .before .before .before .before .before .args .gone .now) (c .before .before .before .before .before .before .before .before .before .args .t .now))) (sym (c .before .before .before .before .before .before .before .is-sized .ensures) ∙ not-false _ (c .before .before .before .before .before .before .if1 .left)))
 
 pub text-is-sound-spec : {M : Type 1} → statement M
 text-is-sound-spec =

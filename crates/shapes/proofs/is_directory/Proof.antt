@@ -1,27 +1,51 @@
--- Past the table there is no record; else kind and type are read from it.
+-- Past the table there is no record; else kind and type are read from it, and whether it stays from its mark.
 -- So a number past the end names no directory.
+use mathlib.Core.Path.{sym, _∙_}
 use native.Mathlib.Omega.{arith}
 use borrow.Author.Tests.{ne-eqb}
 use borrow.Author.Needs.{needs}
+use Rattle.judge_laws.proofs.Mask.{directory-without}
 use Rattle.laws.proofs.Lay.{rec-past}
 use Rattle.shapes.proofs.is_directory.Statement.{statement}
 use Rattle.shapes.proofs.is_directory.Tie as tie
 
 returns : tie.Need-returns
-returns c = rw (rec-past (c .before .before .args .t .now) (c .before .before .args .h) (omega arith) (omega arith))
+returns c =
+    let a = c .before .before .args in
+    sym (directory-without (a .gone .now) (a .t .now) (omega arith) (a .h) ∙ rw (rec-past (a .t .now) (a .h) (omega arith) (omega arith)))
 
 byte-of-requires : tie.Need-byte-of-requires
 byte-of-requires c κs = search needs
 
 returns-2 : tie.Need-returns-2
-returns-2 c = rw (← c .before .byte-of .ensures .0, ne-eqb _ _ (c .if2 .taken))
+returns-2 c =
+    let a = c .before .before .before .before .args in
+    sym (directory-without (a .gone .now) (a .t .now) (omega arith) (a .h) ∙ rw (← c .before .byte-of .ensures .0, ne-eqb _ _ (c .if2 .taken)))
 
 byte-of-requires-2 : tie.Need-byte-of-requires-2
 byte-of-requires-2 c κs = search needs
 
 returns-3 : tie.Need-returns-3
-returns-3 c = rw (← c .before .before .byte-of .ensures .0, c .before .if2 .left, ← c .byte-of2 .ensures .0)
+returns-3 c =
+    let a = c .before .before .before .before .before .before .args in
+    sym (directory-without (a .gone .now) (a .t .now) (omega arith) (a .h) ∙ rw (← c .before .before .before .byte-of .ensures .0, c .before .before .if2 .left, ← c .before .byte-of2 .ensures .0, ne-eqb _ _ (c .if3 .taken)))
+
+element-copy-out-result : tie.Need-element-copy-out-result
+element-copy-out-result c = omega arith
+
+returns-4 : tie.Need-returns-4
+returns-4 c =
+    let a = c .before .before .before .before .before .before .before .args in
+    sym (directory-without (a .gone .now) (a .t .now) (omega arith) (a .h) ∙ rw (← c .before .before .before .before .byte-of .ensures .0, c .before .before .before .if2 .left, ← c .before .before .byte-of2 .ensures .0, c .before .if3 .left))
 
 pub is-directory-spec : {M : Type 1} → statement M
 is-directory-spec =
-    tie.close (tie.spec returns byte-of-requires returns-2 byte-of-requires-2 returns-3)
+    tie.close
+    (tie.spec
+    returns
+    byte-of-requires
+    returns-2
+    byte-of-requires-2
+    returns-3
+    element-copy-out-result
+    returns-4)

@@ -9,6 +9,7 @@ use borrow.Author.Needs.{needs}
 use Rattle.paper.specs.Record.{isKind, directory, holderOf, headingNamed, nameLength, zeros}
 use Rattle.paper.specs.Sound.{isBase}
 use Rattle.paper.specs.Table.{rec}
+use Rattle.judge_laws.specs.Mask.{without}
 use Rattle.judge_laws.proofs.Shapes.{Entered, entry-not, entry-left, inside-not, inside-left}
 use Rattle.shapes.proofs.is_entry_right.Statement.{statement}
 use Rattle.shapes.proofs.is_entry_right.Tie as tie
@@ -18,8 +19,9 @@ byte-of-requires c κs = search needs
 
 returns : tie.Need-returns
 returns c =
-    let t = c .before .before .before .args .t .now in
-    let r = rec t (c .before .before .before .args .i) in
+    let a = c .before .before .before .args in
+    let t = without (a .gone .now) (a .t .now) in
+    let r = rec (a .t .now) (a .i) in
     sym (entry-not t r (λ (h : Entered t r). let z : ⊥ = omega arith in z))
 
 byte-of-requires-2 : tie.Need-byte-of-requires-2
@@ -27,8 +29,9 @@ byte-of-requires-2 c κs = search needs
 
 returns-2 : tie.Need-returns-2
 returns-2 c =
-    let t = c .before .before .before .before .before .args .t .now in
-    let r = rec t (c .before .before .before .before .before .args .i) in
+    let a = c .before .before .before .before .before .args in
+    let t = without (a .gone .now) (a .t .now) in
+    let r = rec (a .t .now) (a .i) in
     sym (entry-not t r (λ (h : Entered t r). let z : ⊥ = omega arith in z))
 
 are-zeros-requires : tie.Need-are-zeros-requires
@@ -36,8 +39,9 @@ are-zeros-requires c κs = search needs
 
 returns-3 : tie.Need-returns-3
 returns-3 c =
-    let t = c .before .before .before .before .before .before .before .args .t .now in
-    let r = rec t (c .before .before .before .before .before .before .before .args .i) in
+    let a = c .before .before .before .before .before .before .before .args in
+    let t = without (a .gone .now) (a .t .now) in
+    let r = rec (a .t .now) (a .i) in
     sym (entry-not t r (λ (h : Entered t r). true≢false (sym (h .rest) ∙ sym (c .before .are-zeros .ensures) ∙ not-true _ (c .if3 .taken))))
 
 add-are-zeros : tie.Need-add-are-zeros
@@ -48,8 +52,9 @@ are-zeros-requires-2 c κs = search needs
 
 returns-4 : tie.Need-returns-4
 returns-4 c =
-    let t = c .before .before .before .before .before .before .before .before .before .args .t .now in
-    let r = rec t (c .before .before .before .before .before .before .before .before .before .args .i) in
+    let a = c .before .before .before .before .before .before .before .before .before .args in
+    let t = without (a .gone .now) (a .t .now) in
+    let r = rec (a .t .now) (a .i) in
     let e : zeros (10 + nameLength r) (10 - nameLength r) r ≡ false = rw (← c .before .before .before .before .before .byte-of2 .ensures .0) (sym (c .before .are-zeros2 .ensures) ∙ not-true _ (c .if4 .taken)) in
     sym (entry-not t r (λ (h : Entered t r). true≢false (sym (h .padded) ∙ e)))
 
@@ -61,8 +66,9 @@ is-heading-requires c κs = search needs
 
 returns-5 : tie.Need-returns-5
 returns-5 c =
-    let t = c .before .before .before .before .before .before .before .before .before .before .before .before .args .t .now in
-    let r = rec t (c .before .before .before .before .before .before .before .before .before .before .before .before .args .i) in
+    let a = c .before .before .before .before .before .before .before .before .before .before .before .before .args in
+    let t = without (a .gone .now) (a .t .now) in
+    let r = rec (a .t .now) (a .i) in
     let e : isKind 1 (rec t (headingNamed r)) ≡ false = rw (← c .before .before .two-of .ensures .0) (sym (c .before .is-heading .ensures) ∙ not-true _ (c .if5 .taken)) in
     sym (entry-not t r (λ (h : Entered t r). true≢false (sym (h .named) ∙ e)))
 
@@ -71,8 +77,9 @@ is-link-requires c κs = search needs
 
 returns-6 : tie.Need-returns-6
 returns-6 c =
-    let t = c .before .before .before .before .before .before .before .before .before .before .before .before .before .before .args .t .now in
-    let r = rec t (c .before .before .before .before .before .before .before .before .before .before .before .before .before .before .args .i) in
+    let a = c .before .before .before .before .before .before .before .before .before .before .before .before .before .before .args in
+    let t = without (a .gone .now) (a .t .now) in
+    let r = rec (a .t .now) (a .i) in
     sym (entry-not t r (λ (h : Entered t r). true≢false (sym (h .link) ∙ sym (c .before .is-link .ensures) ∙ not-true _ (c .if6 .taken))))
 
 two-of-requires-2 : tie.Need-two-of-requires-2
@@ -83,8 +90,9 @@ is-base-right-requires c κs = search needs
 
 returns-7 : tie.Need-returns-7
 returns-7 c =
-    let t = c .before .before .before .before .before .before .before .before .before .before .before .before .before .before .before .before .before .args .t .now in
-    let r = rec t (c .before .before .before .before .before .before .before .before .before .before .before .before .before .before .before .before .before .args .i) in
+    let a = c .before .before .before .before .before .before .before .before .before .before .before .before .before .before .before .before .before .args in
+    let t = without (a .gone .now) (a .t .now) in
+    let r = rec (a .t .now) (a .i) in
     let p : zeros (10 + nameLength r) (10 - nameLength r) r ≡ true = rw (← c .before .before .before .before .before .before .before .before .before .before .before .before .before .byte-of2 .ensures .0) (sym (c .before .before .before .before .before .before .before .before .before .are-zeros2 .ensures) ∙ not-false _ (c .before .before .before .before .before .before .before .before .if4 .left)) in
     let n : isKind 1 (rec t (headingNamed r)) ≡ true = rw (← c .before .before .before .before .before .before .before .two-of .ensures .0) (sym (c .before .before .before .before .before .before .is-heading .ensures) ∙ not-false _ (c .before .before .before .before .before .if5 .left)) in
     let b : isBase r ≡ true = eq-eqb _ _ (sym (c .before .before .two-of2 .ensures .0) ∙ c .before .if7 .taken) in
@@ -96,8 +104,9 @@ is-directory-requires c κs = search needs
 
 returns-8 : tie.Need-returns-8
 returns-8 c =
-    let t = c .before .before .before .before .before .before .before .before .before .before .before .before .before .before .before .before .before .before .args .t .now in
-    let r = rec t (c .before .before .before .before .before .before .before .before .before .before .before .before .before .before .before .before .before .before .args .i) in
+    let a = c .before .before .before .before .before .before .before .before .before .before .before .before .before .before .before .before .before .before .args in
+    let t = without (a .gone .now) (a .t .now) in
+    let r = rec (a .t .now) (a .i) in
     let b : isBase r ≡ false = ne-eqb _ _ (λ q. c .before .before .if7 .left (c .before .before .before .two-of2 .ensures .0 ∙ q)) in
     let d : directory (rec t (holderOf r)) ≡ false = rw (← c .before .before .before .two-of2 .ensures .0) (sym (c .before .is-directory .ensures) ∙ not-true _ (c .if8 .taken)) in
     sym (inside-not t r b d)
@@ -107,8 +116,9 @@ three-of-requires c κs = search needs
 
 returns-9 : tie.Need-returns-9
 returns-9 c =
-    let t = c .before .before .before .before .before .before .before .before .before .before .before .before .before .before .before .before .before .before .before .args .t .now in
-    let r = rec t (c .before .before .before .before .before .before .before .before .before .before .before .before .before .before .before .before .before .before .before .args .i) in
+    let a = c .before .before .before .before .before .before .before .before .before .before .before .before .before .before .before .before .before .before .before .args in
+    let t = without (a .gone .now) (a .t .now) in
+    let r = rec (a .t .now) (a .i) in
     let p : zeros (10 + nameLength r) (10 - nameLength r) r ≡ true = rw (← c .before .before .before .before .before .before .before .before .before .before .before .before .before .before .before .byte-of2 .ensures .0) (sym (c .before .before .before .before .before .before .before .before .before .before .before .are-zeros2 .ensures) ∙ not-false _ (c .before .before .before .before .before .before .before .before .before .before .if4 .left)) in
     let n : isKind 1 (rec t (headingNamed r)) ≡ true = rw (← c .before .before .before .before .before .before .before .before .before .two-of .ensures .0) (sym (c .before .before .before .before .before .before .before .before .is-heading .ensures) ∙ not-false _ (c .before .before .before .before .before .before .before .if5 .left)) in
     let b : isBase r ≡ false = ne-eqb _ _ (λ q. c .before .before .before .if7 .left (c .before .before .before .before .two-of2 .ensures .0 ∙ q)) in

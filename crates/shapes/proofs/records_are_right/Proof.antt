@@ -3,6 +3,7 @@
 use mathlib.Core.Path.{sym, _∙_}
 use borrow.Author.Tests.{not-true, not-false}
 use borrow.Author.Needs.{needs}
+use Rattle.judge_laws.specs.Mask.{without}
 use Rattle.judge_laws.specs.Shapes.{shaped}
 use Rattle.paper.specs.Table.{sized}
 use Rattle.laws.proofs.Tests.{and-no-left}
@@ -15,13 +16,13 @@ is-sized-requires : tie.Need-is-sized-requires
 is-sized-requires c κs = search needs
 
 returns : tie.Need-returns
-returns c = sym (and-no-left (sized (c .before .before .before .args .t .now)) (shaped (c .before .before .before .args .t .now)) (sym (c .before .is-sized .ensures) ∙ not-true _ (c .if1 .taken)))
+returns c = sym (and-no-left (sized (c .before .before .before .args .t .now)) (shaped (without (c .before .before .before .args .gone .now) (c .before .before .before .args .t .now))) (sym (c .before .is-sized .ensures) ∙ not-true _ (c .if1 .taken)))
 
 are-right-requires : tie.Need-are-right-requires
-are-right-requires c κs = sized-whole (c .before .before .before .args .t .now) (sym (c .before .is-sized .ensures) ∙ not-false _ (c .if1 .left)) .0
+are-right-requires c κs = sized-whole (c .before .before .before .args .t .now) (sym (c .before .is-sized .ensures) ∙ not-false _ (c .if1 .left))
 
 returns-2 : tie.Need-returns-2
-returns-2 c = c .are-right .ensures ∙ sym (and-past (sized (c .before .before .before .before .args .t .now)) (shaped (c .before .before .before .before .args .t .now)) (sym (c .before .before .is-sized .ensures) ∙ not-false _ (c .before .if1 .left)))
+returns-2 c = c .are-right .ensures ∙ sym (and-past (sized (c .before .before .before .before .args .t .now)) (shaped (without (c .before .before .before .before .args .gone .now) (c .before .before .before .before .args .t .now))) (sym (c .before .before .is-sized .ensures) ∙ not-false _ (c .before .if1 .left)))
 
 pub records-are-right-spec : {M : Type 1} → statement M
 records-are-right-spec =

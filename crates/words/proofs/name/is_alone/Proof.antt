@@ -27,15 +27,15 @@ returns c =
 name-requires : tie.Need-name-requires
 name-requires c κs = tt
 
-is-same-requires : tie.Need-is-same-requires
-is-same-requires c κs = tt
+are-same-requires : tie.Need-are-same-requires
+are-same-requires c κs = tt
 
 returns-2 : tie.Need-returns-2
 returns-2 c =
     let line = c .before .before .before .before .before .before .before .args .line .now in
     let p = c .before .before .before .before .before .before .before .args .p in
     let j = next-none line p (sym (c .before .before .before .before .next-name .ensures) ∙ c .before .before .enum-told .given .1) in
-    rw (names-one line p j, ← c .before .name .ensures) (c .is-same .ensures)
+    rw (names-one line p j, ← c .before .name .ensures) (c .are-same .ensures)
 
 pub is-alone-spec : {M : Type 1} → statement M
 is-alone-spec =
@@ -46,5 +46,5 @@ is-alone-spec =
     enum-told-2
     returns
     name-requires
-    is-same-requires
+    are-same-requires
     returns-2)

@@ -1,0 +1,80 @@
+-- A request of the reader stands for the paper's that was read: its names are the line's own words, and its parts are shown by cases,
+-- so nothing is lost.
+use mathlib.Core.Bool.{false}
+use mathlib.Core.List.{List, [], _∷_}
+use mathlib.Core.Path.{_≡_, refl, sym, ap, _∙_}
+use Prim.Native.Nat.{ℕ}
+use denote.Enum.Declared.{tagOf}
+use lib.Dec.{ltb}
+use lib.ListN.{length}
+use types.Run.{OneOf, miss}
+use Rattle.paper.specs.Declaration.{Part, given, notGiven}
+use Rattle.paper.specs.Request as asked
+use Rattle.paper.specs.Request.{crd, wrs, rds, cpy, dup, chn, del, dpr, lst, lstBase, request, unread, read, textTooLong}
+use Rattle.laws.proofs.Tests.{clash}
+use Rattle.reader.specs.Given.{shownLifetime, shownLevel, shownDigit, lifetimePart, levelPart, digitPart}
+use Rattle.reader.specs.Asked.{shownRequest, shownRead}
+use Rattle.reader.specs.Tied.{Tied, TiedRead}
+use Rattle.reader.specs.declared.declaration.Level.{Level}
+use Rattle.reader.specs.declared.declaration.Digit.{Digit}
+use Rattle.reader.specs.declared.request.Request.{Request}
+use Rattle.reader.proofs.request.Request.{the-type}
+use Rattle.reader.specs.declared.request.Request.the-variants.{Crd, Wrs, Rds, Cpy, Dup, Chn, Del, Dpr, Lst, LstBase}
+use Rattle.reader.specs.declared.request.Read.the-variants as answers
+use Rattle.reader.proofs.Ties.{tied}
+use Rattle.elephant.specs.Meant.{requestMeant}
+use Rattle.elephant.proofs.Grants.{word-there}
+
+lifetime-back : (p : Part) → lifetimePart (shownLifetime p) ≡ p
+lifetime-back (given n) = refl
+lifetime-back notGiven = refl
+
+level-back : (p : Part) → levelPart (shownLevel p) ≡ p
+level-back (given n) = refl
+level-back notGiven = refl
+
+digit-back : (p : Part) → digitPart (shownDigit p) ≡ p
+digit-back (given n) = refl
+digit-back notGiven = refl
+
+pub request-back : (line : List ℕ) (q : asked.Request) → Tied line q → requestMeant line (shownRequest q) ≡ q
+request-back line (crd w v d) t = rw (word-there line 1 w t, level-back v, digit-back d)
+request-back line (wrs f v d w) t = rw (word-there line 2 w t, level-back v, digit-back d)
+request-back line (rds w) t = rw (word-there line 1 w t)
+request-back line (cpy o n f v d) t =
+    rw (word-there line 1 o (t .0), word-there line 2 n (t .1), lifetime-back f, level-back v, digit-back d)
+request-back line (dup o n d) t = rw (word-there line 1 o (t .0), word-there line 2 n (t .1), digit-back d)
+request-back line (chn o l) t = rw (word-there line 1 o (t .0), word-there line 2 l (t .1))
+request-back line (del ws) t = ap del (sym t)
+request-back line (dpr w d) t = rw (word-there line 1 w t)
+request-back line (lst w) t = rw (word-there line 1 w t)
+request-back line lstBase t = refl
+
+-- what was read, from what the reader answers
+pub read-granted : (line : List ℕ) (r : Request) → answers.Granted r ≡ shownRead (read line) → read line ≡ request (requestMeant line r)
+read-granted line r e = go (read line) (tied line) e
+  where
+    go : (x : asked.Read) → TiedRead line x → answers.Granted r ≡ shownRead x → x ≡ request (requestMeant line r)
+    go (request q) t z =
+        unfold TiedRead in
+        let y : r ≡ shownRequest q = cc in
+        ap request (sym (ap (requestMeant line) y ∙ request-back line q t))
+    go (unread f) t z = clash (cc)
+
+-- only a WRS has a text that may be too long
+pub no-text : (line text : List ℕ) (r : Request) → OneOf (0 ∷ 2 ∷ 3 ∷ 4 ∷ 5 ∷ 6 ∷ 7 ∷ 8 ∷ 9 ∷ []) (tagOf the-type r)
+    → textTooLong (requestMeant line r) text ≡ false
+no-text line text (Crd n v d) h = refl
+no-text line text (Wrs f v d n) h = absurd (miss (0 ∷ 2 ∷ 3 ∷ 4 ∷ 5 ∷ 6 ∷ 7 ∷ 8 ∷ 9 ∷ []) 1 tt h)
+no-text line text (Rds n) h = refl
+no-text line text (Cpy o n f v d) h = refl
+no-text line text (Dup o n d) h = refl
+no-text line text (Chn o l) h = refl
+no-text line text (Del f n) h = refl
+no-text line text (Dpr n d) h = refl
+no-text line text (Lst n) h = refl
+no-text line text LstBase h = refl
+
+pub its-text : (line text : List ℕ) (r : Request) (f : ℕ) (v : Level) (d : Digit) (n : ℕ) → r ≡ Wrs f v d n
+    → textTooLong (requestMeant line r) text ≡ ltb 24000 (length text)
+its-text line text r f v d n e = rw e

@@ -1,0 +1,170 @@
+-- A new entry's plan, by what the code finds: its checks are those of what the entry meets, and its stores are the file's, the
+-- entry's and the settling, as many as are counted. So where no check holds the stores made are the first of the plan's.
+use mathlib.Core.Bool.{Bool, true, false, _&&_, not, cond}
+use mathlib.Core.List.{List, [], _∷_, _++_}
+use mathlib.Core.Path.{_≡_, refl, sym, ap, _∙_}
+use Prim.Native.Nat.{ℕ, _+_, _≤_}
+use native.Mathlib.Omega.{arith}
+use lib.Dec.{ltb}
+use lib.ListN.{getD, length, length-append}
+use Rattle.paper.specs.Scan as F
+use Rattle.paper.specs.Table.{sized, frees, room}
+use Rattle.paper.specs.Check as C
+use Rattle.paper.specs.Check.{check, Verdict, passed, refused, verdict}
+use Rattle.paper.specs.Entry.{Holder, full}
+use Rattle.paper.specs.Block.{blocks}
+use Rattle.paper.specs.Store.{puts}
+use Rattle.paper.specs.Answer.{Outcome, plain}
+use Rattle.paper.specs.Effect.{Plan, plan, Making, newFile, placing, needed, borne, isFound, displacing, fullUp, stillPeopled, noRoom}
+use Rattle.scans.specs.Shown.{foundShown}
+use Rattle.effects.specs.Listed.{freeRooms, textRooms}
+use Rattle.effects.specs.Stage.{Made, textStores, clearStores}
+use Rattle.effects.proofs.Papers.{free-room, new-file, text-stores-length, clear-stores-length}
+use Rattle.walk.specs.declared.state.State.{State}
+use Rattle.ends.specs.Shown.{shown, stored}
+use Rattle.ends.specs.Placing.{met, losingBy, entryChecks, refusalShown, entryStores, ending}
+use Rattle.elephant.specs.Filing.{fileCount, fileStores, neededBy, storesBy, makingOf, Did, Ready}
+use Rattle.ends.specs.declared.placing.Meets.{Meets}
+use Rattle.ends.specs.declared.placing.Refusal.{Refusal}
+use Rattle.elephant.specs.declared.filing.File.{File}
+use Rattle.elephant.proofs.Verdicts.{single-refused, single-table, single-answer}
+use Rattle.ends.proofs.Meeting.{displaced-loses, placed-settled}
+
+-- ---- plans without a reply
+
+pub did-refused : (t : List ℕ) (k : ℕ) (p : Plan) (g : C.Refusal) → verdict (p .checks) ≡ refused g
+    → Did t k (plan p) (shown (plain (g .number) (g .place) 0 0)) t
+did-refused t k p g e =
+    record {
+      answer = sym (ap (λ (o : Outcome). shown (o .answer)) (single-refused t [] k p g e));
+      table = sym (ap (λ (o : Outcome). o .table) (single-refused t [] k p g e));
+    }
+
+pub did-stored : (t u : List ℕ) (k l : ℕ) (p : Plan) → verdict (p .checks) ≡ passed → p .reply ≡ [] → Made t u k l (p .stores)
+    → Did t k (plan p) (shown (stored (length (p .stores)) k (p .displaced))) u
+did-stored t u k l p e q w =
+    record {
+      answer = sym (ap shown (single-answer t [] k p e q));
+      table = w .table ∙ sym (single-table t [] k p e);
+    }
+
+-- ---- how many
+
+pub file-count : (f : File) (text : List ℕ) → length text ≤ 24000 → fileCount f text ≤ 1001
+file-count f text l = go (f .new)
+  where
+    go : (b : Bool) → cond b (blocks (length text) + 1) 0 ≤ 1001
+    go true = omega arith
+    go false = omega arith
+
+pub stores-length : (f : File) (r text : List ℕ) → length (fileStores f r text) ≡ fileCount f text
+stores-length f r text = go (f .new)
+  where
+    go : (b : Bool) → length (cond b (puts (getD r 0 0) (f .heading) ∷ textStores r text) []) ≡ cond b (blocks (length text) + 1) 0
+    go true = rw (text-stores-length r text) (omega arith)
+    go false = refl
+
+entry-length : (m : Meets) (entry r : List ℕ) → length (entryStores m entry r) ≡ cond (m .lost) (m .count + 2) 1
+entry-length m entry r = go (m .lost)
+  where
+    go : (b : Bool) → length (puts (m .room .0) entry ∷ cond b (clearStores (m .heading .0) r (m .count)) []) ≡ cond b (m .count + 2) 1
+    go true = rw (clear-stores-length (m .heading .0) r (m .count)) (omega arith)
+    go false = refl
+
+pub first-stores : (t : List ℕ) (f : File) (text : List ℕ) → sized t ≡ true → length text ≤ 24000
+    → fileStores f (freeRooms t) text ≡ cond (f .new) (newFile t (f .heading) text) []
+first-stores t f text z l = go (f .new)
+  where
+    go : (b : Bool) → cond b (puts (getD (freeRooms t) 0 0) (f .heading) ∷ textStores (freeRooms t) text) [] ≡ cond b (newFile t (f .heading) text) []
+    go true = rw (free-room t 0 z (omega arith)) (sym (new-file t (f .heading) text z l))
+    go false = refl
+
+-- ---- the verdict
+
+-- number 0: no check refuses
+pub none-refuses : (t : List ℕ) (place : ℕ) (d : Holder) (m : Meets) (n : ℕ) → refusalShown (verdict (entryChecks t place d m n)) .number ≡ 0
+    → verdict (entryChecks t place d m n) ≡ passed
+unfolding verdict
+none-refuses t place d m n e = go (not (m .displaced) && full t d) (losingBy t m) (ltb (length (frees t)) n) e
+  where
+    go : (a b c : Bool) → refusalShown (verdict (check a 17 place ∷ check b 18 place ∷ check c 19 0 ∷ [])) .number ≡ 0
+        → verdict (check a 17 place ∷ check b 18 place ∷ check c 19 0 ∷ []) ≡ passed
+    go true b c e = let z : ⊥ = omega arith in absurd z
+    go false true c e = let z : ⊥ = omega arith in absurd z
+    go false false true e = let z : ⊥ = omega arith in absurd z
+    go false false false e = refl
+
+-- ---- the plan
+
+-- what is displaced, and the free records needed, by where the name was found
+is-displaced : (t : List ℕ) (f : F.Found) (k free : ℕ) → isFound f ≡ met t (foundShown f) k free .displaced
+is-displaced t (F.at e) k free = refl
+is-displaced t F.nowhere k free = refl
+
+needed-by : (t : List ℕ) (m : Making) (f : F.Found) (k free : ℕ) → needed m f ≡ neededBy (length (m .first)) (met t (foundShown f) k free .displaced)
+needed-by t m (F.at e) k free = refl
+needed-by t m F.nowhere k free = refl
+
+module _
+    (t r name text : List ℕ) (named : ℕ) (w : Ready t r name text named)
+    (place : ℕ) (d : State) (code : ℕ) (f : File) (free : ℕ) (isFree : free ≡ getD r (fileCount f text) 0) where
+  abbrev making : Making
+  making = makingOf t place d name code named f text
+
+  abbrev meets : Meets
+  meets = met t (foundShown (borne t making)) named free
+
+  first-length : length (making .first) ≡ fileCount f text
+  first-length = ap length (sym (first-stores t f text (w .size) (w .few))) ∙ stores-length f (freeRooms t) text
+
+  free-there : room t (length (making .first)) ≡ free
+  free-there =
+      rw first-length
+      (sym (isFree ∙ rw (w .free) (free-room t (fileCount f text) (w .size) (omega (arith, file-count f text (w .few))))))
+
+  checks-met : (fullUp t making ∷ stillPeopled place (displacing t (borne t making) (making .entry)) ∷ noRoom t making ∷ [])
+      ≡ entryChecks t place (making .directory .holder) meets (neededBy (fileCount f text) (meets .displaced))
+  checks-met =
+      rw (
+        is-displaced t (borne t making) named free,
+        displaced-loses t (w .size) (w .sound) code (d .holder .heading .0) named (d .holder .user) name (w .short) (w .small) (making .directory .holder) name (borne t making) free refl,
+        needed-by t making (borne t making) named free,
+        first-length,
+      )
+
+  stores-met : placing t making (borne t making) ≡ fileStores f r text ++ entryStores meets (making .entry) (textRooms t (meets .heading .0))
+  stores-met =
+      placed-settled t (w .size) (w .sound) code (d .holder .heading .0) named (d .holder .user) name (w .short) (w .small) making (borne t making) refl refl
+      ∙ rw (free-there, w .free, first-stores t f text (w .size) (w .few))
+
+  abbrev ends : Plan
+  ends =
+      record {
+        checks = fullUp t making ∷ stillPeopled place (displacing t (borne t making) (making .entry)) ∷ noRoom t making ∷ [];
+        stores = placing t making (borne t making);
+        displaced = isFound (borne t making);
+        reply = [];
+      }
+
+  module _ (k : ℕ) (m : Meets) (e : m ≡ meets) (c : Refusal)
+      (q : c ≡ refusalShown (verdict (entryChecks t place (making .directory .holder) m (neededBy (fileCount f text) (m .displaced))))) where
+    pub ends-refused : (c .number ≡ 0 → ⊥) → Did t k (ending t making) (shown (plain (c .number) (c .place) 0 0)) t
+    unfolding ending
+    ends-refused h = go (verdict (ends .checks)) refl (rw (checks-met, ← e) q)
+      where
+        go : (v : Verdict) → verdict (ends .checks) ≡ v → c ≡ refusalShown v → Did t k (plan ends) (shown (plain (c .number) (c .place) 0 0)) t
+        go passed x y = absurd (h (ap (λ (s : Refusal). s .number) y))
+        go (refused g) x y = rw y (did-refused t k ends g x)
+
+    pub ends-stored : c .number ≡ 0 → (u entry : List ℕ) (l : ℕ) → entry ≡ making .entry
+        → Made t u k l (fileStores f r text ++ entryStores m entry (textRooms t (m .heading .0)))
+        → Did t k (ending t making) (shown (stored (storesBy (fileCount f text) m) k (m .displaced))) u
+    unfolding ending
+    ends-stored h u entry l x y =
+        let v : verdict (ends .checks) ≡ passed =
+        rw (checks-met, ← e) (none-refuses t place (making .directory .holder) m (neededBy (fileCount f text) (m .displaced)) (sym (ap (λ (s : Refusal). s .number) q) ∙ h)) in
+        let s : ends .stores ≡ fileStores f r text ++ entryStores m entry (textRooms t (m .heading .0)) = rw (x, e) stores-met in
+        let n : length (ends .stores) ≡ storesBy (fileCount f text) m =
+        ap length s ∙ rw (length-append, stores-length f r text, entry-length m entry (textRooms t (m .heading .0))) in
+        let b : ends .displaced ≡ m .displaced = rw e (is-displaced t (borne t making) named free) in
+        rw (← n, ← b) (did-stored t u k l ends v refl (rw s y))

@@ -1,0 +1,157 @@
+-- Each function on a request that was admitted: what it stands on follows from what was read, and its promise is the request's.
+-- One law of each kind for a function, so that the choice of the function only cites them.
+use mathlib.Core.List.{List, []}
+use mathlib.Core.Path.{_≡_, refl, sym, ap, _∙_, subst}
+use Prim.Native.Nat.{ℕ, _≤_}
+use native.Mathlib.Omega.{arith}
+use lib.ListN.{length, drop}
+use Rattle.paper.specs.Line.{Word, words, word}
+use Rattle.paper.specs.Request.{request, asked}
+use Rattle.paper.specs.Effect.{Planned, chainOf, crdPlan, wrsPlan, rdsPlan, cpyPlan, dupPlan, chnPlan, dprPlan, lstPlan, lstBasePlan}
+use Rattle.paper.specs.Walk.{lastName}
+use Rattle.paper.specs.Answer.{Outcome, granted, requested, ran, single, deleting}
+use Rattle.words.specs.Place.{namesFrom}
+use Rattle.reader.specs.Given.{lifetimePart, levelPart, digitPart}
+use Rattle.reader.specs.declared.declaration.Lifetime.{Lifetime}
+use Rattle.reader.specs.declared.declaration.Level.{Level}
+use Rattle.reader.specs.declared.declaration.Digit.{Digit}
+use Rattle.reader.specs.declared.request.Request.{Request}
+use Rattle.reader.specs.declared.request.Request.the-variants.{Crd, Wrs, Rds, Cpy, Dup, Chn, Del, Dpr, Lst, LstBase}
+use Rattle.reader.specs.declared.request.Read.the-variants.{Granted}
+use Rattle.demands.proofs.Read.{Told}
+use Rattle.demands.proofs.Formed as formed
+use Rattle.demands.proofs.Formed.{named-last}
+use Rattle.ends.specs.Shown.{shown, wordAt, did}
+use Rattle.elephant.specs.Filing.{Did, Named}
+use Rattle.elephant.specs.Meant.{requestMeant}
+use Rattle.elephant.specs.Admitted.{Admitted}
+use Rattle.elephant.specs.Promised.{Promised}
+use Rattle.ends.specs.declared.answer.Answer.{Answer}
+use Rattle.elephant.proofs.Grants.{Silent, Storeless, crd-silent, wrs-silent, cpy-silent, dup-silent, chn-silent, dpr-silent, rds-storeless, lst-storeless, lst-base-storeless}
+use Rattle.elephant.proofs.Promises.{promised-storing, promised-writing, promised-names}
+use Rattle.elephant.proofs.Requests.{requested-granted, asked-granted, del-read, told, link-short, names-first}
+
+module _ (t line text : List ℕ) (u : ℕ) (r : Request) (a : Admitted t line text u r) where
+  -- what was asked, what that tells, and what it comes to
+  asks : (q : Request) → r ≡ q → asked line text ≡ request (requestMeant line q)
+  asks q e =
+      asked-granted t line text [] u 0 (a .passed) r (a .read) (a .short) ∙ ap (λ (x : Request). request (requestMeant line x)) e
+
+  hears : (q : Request) → r ≡ q → Told text (requestMeant line q)
+  hears q e = told line text (requestMeant line q) (asks q e)
+
+  comes : (q : Request) → r ≡ q → (reply : List ℕ) (k : ℕ) → requested t line text reply u k ≡ granted t text reply u k (requestMeant line q)
+  comes q e reply k =
+      requested-granted t line text reply u k (a .passed) r (a .read) (a .short) ∙ ap (λ (x : Request). granted t text reply u k (requestMeant line x)) e
+
+  -- ---- what each stands on
+
+  new-named : (p : ℕ) (s : List ℕ) → formed.Named (wordAt line p) → length s ≤ 24000 → Named t line p s
+  new-named p s n l = record { size = a .fit .sized; sound = a .fit .sound; short = named-last (wordAt line p) n .short; few = l }
+
+  pub crd-ready : (p : ℕ) (l : Level) (d : Digit) → r ≡ Crd p l d → Named t line p []
+  crd-ready p l d e = new-named p [] (hears (Crd p l d) e .name) (omega arith)
+
+  pub wrs-ready : (f : ℕ) (l : Level) (d : Digit) (p : ℕ) → r ≡ Wrs f l d p → Named t line p text
+  wrs-ready f l d p e = new-named p text (hears (Wrs f l d p) e .name) (hears (Wrs f l d p) e .text)
+
+  pub cpy-ready : (o n : ℕ) (f : Lifetime) (l : Level) (d : Digit) → r ≡ Cpy o n f l d → Named t line n []
+  cpy-ready o n f l d e = new-named n [] (hears (Cpy o n f l d) e .new) (omega arith)
+
+  pub dup-ready : (o n : ℕ) (d : Digit) → r ≡ Dup o n d → Named t line n []
+  dup-ready o n d e = new-named n [] (hears (Dup o n d) e .new) (omega arith)
+
+  pub chn-ready : (o l : ℕ) → r ≡ Chn o l → length (lastName (namesFrom line l)) ≤ 10
+  chn-ready o l e = link-short line text (wordAt line o) (wordAt line l) (asks (Chn o l) e)
+
+  pub del-ready : (p n : ℕ) → r ≡ Del p n → (p ≡ word line 1 .start) × (n ≡ length (drop 1 (words line))) × (n ≤ 8)
+  del-ready p n e =
+      let d = del-read line p n (sym (ap Granted e) ∙ a .read) in
+      let w = names-first line text (asks (Del p n) e) in
+      (d .0 ∙ w .0, d .1, rw (d .1) (w .1))
+
+  -- ---- what each comes to
+
+  module _ (reply : List ℕ) (k : ℕ) (z : Answer) (v : List ℕ) where
+    -- a plan that stores
+    storing-done : (q : Request) → r ≡ q → (x : Planned) → granted t text reply u k (requestMeant line q) ≡ single t reply k (ran k x) → Silent x
+        → Did t k x z v → Promised (requested t line text reply u k) z v reply
+    storing-done q e x g s h =
+        subst (λ (o : Outcome). Promised o z v reply) (sym (comes q e reply k ∙ g)) (promised-storing t reply k x z v s (h .answer) (h .table))
+
+    -- one that writes
+    writing-done : (q : Request) → r ≡ q → (x : Planned) → granted t text reply u k (requestMeant line q) ≡ single t reply k (ran k x) → Storeless x
+        → (z ≡ shown (single t reply 0 (ran 0 x) .answer)) × (v ≡ single t reply 0 (ran 0 x) .reply) → Promised (requested t line text reply u k) z t v
+    writing-done q e x g s h =
+        subst (λ (o : Outcome). Promised o z t v) (sym (comes q e reply k ∙ g)) (promised-writing t reply k x z v s (h .0) (h .1))
+
+    pub crd-done : (p : ℕ) (l : Level) (d : Digit) → r ≡ Crd p l d → Did t k (crdPlan t u (wordAt line p) (levelPart l) (digitPart d)) z v
+        → Promised (requested t line text reply u k) z v reply
+    unfolding granted
+    crd-done p l d e h =
+        let x : Planned = crdPlan t u (wordAt line p) (levelPart l) (digitPart d) in
+        storing-done (Crd p l d) e x refl (crd-silent t u (wordAt line p) (levelPart l) (digitPart d)) h
+
+    pub wrs-done : (f : ℕ) (l : Level) (d : Digit) (p : ℕ) → r ≡ Wrs f l d p
+        → Did t k (wrsPlan t u text f (levelPart l) (digitPart d) (wordAt line p)) z v → Promised (requested t line text reply u k) z v reply
+    unfolding granted
+    wrs-done f l d p e h =
+        let x : Planned = wrsPlan t u text f (levelPart l) (digitPart d) (wordAt line p) in
+        storing-done (Wrs f l d p) e x refl (wrs-silent t u text f (levelPart l) (digitPart d) (wordAt line p)) h
+
+    pub cpy-done : (o n : ℕ) (f : Lifetime) (l : Level) (d : Digit) → r ≡ Cpy o n f l d
+        → Did t k (cpyPlan t u (wordAt line o) (wordAt line n) (lifetimePart f) (levelPart l) (digitPart d)) z v
+        → Promised (requested t line text reply u k) z v reply
+    unfolding granted
+    cpy-done o n f l d e h =
+        let x : Planned = cpyPlan t u (wordAt line o) (wordAt line n) (lifetimePart f) (levelPart l) (digitPart d) in
+        storing-done (Cpy o n f l d) e x refl (cpy-silent t u (wordAt line o) (wordAt line n) (lifetimePart f) (levelPart l) (digitPart d)) h
+
+    pub dup-done : (o n : ℕ) (d : Digit) → r ≡ Dup o n d → Did t k (dupPlan t u (wordAt line o) (wordAt line n) (digitPart d)) z v
+        → Promised (requested t line text reply u k) z v reply
+    unfolding granted
+    dup-done o n d e h =
+        let x : Planned = dupPlan t u (wordAt line o) (wordAt line n) (digitPart d) in
+        storing-done (Dup o n d) e x refl (dup-silent t u (wordAt line o) (wordAt line n) (digitPart d)) h
+
+    pub chn-done : (o l : ℕ) → r ≡ Chn o l
+        → (z ≡ shown (did t k (chnPlan t u (wordAt line o) (wordAt line l)) .answer)) × (v ≡ did t k (chnPlan t u (wordAt line o) (wordAt line l)) .table)
+        → Promised (requested t line text reply u k) z v reply
+    unfolding granted
+    chn-done o l e h =
+        let x : Planned = chnPlan t u (wordAt line o) (wordAt line l) in
+        storing-done (Chn o l) e x refl (chn-silent t u (wordAt line o) (wordAt line l)) (record { answer = h .0; table = h .1 })
+
+    pub dpr-done : (p c : ℕ) → r ≡ Dpr p c
+        → (z ≡ shown (did t k (dprPlan t u (wordAt line p) c) .answer)) × (v ≡ did t k (dprPlan t u (wordAt line p) c) .table)
+        → Promised (requested t line text reply u k) z v reply
+    unfolding granted
+    dpr-done p c e h =
+        let x : Planned = dprPlan t u (wordAt line p) c in
+        storing-done (Dpr p c) e x refl (dpr-silent t u (wordAt line p) c) (record { answer = h .0; table = h .1 })
+
+    pub del-done : (p n : ℕ) → r ≡ Del p n
+        → (z ≡ shown (deleting t u [] k 0 0 (drop 1 (words line)) .answer)) × (v ≡ deleting t u [] k 0 0 (drop 1 (words line)) .table)
+        → Promised (requested t line text reply u k) z v reply
+    unfolding granted
+    del-done p n e h =
+        subst (λ (o : Outcome). Promised o z v reply) (sym (comes (Del p n) e reply k))
+        (promised-names t u reply k (drop 1 (words line)) z v (h .0) (h .1))
+
+    pub rds-done : (p : ℕ) → r ≡ Rds p
+        → (z ≡ shown (single t reply 0 (ran 0 (rdsPlan t u reply (wordAt line p))) .answer)) × (v ≡ single t reply 0 (ran 0 (rdsPlan t u reply (wordAt line p))) .reply)
+        → Promised (requested t line text reply u k) z t v
+    unfolding granted
+    rds-done p e h = writing-done (Rds p) e (rdsPlan t u reply (wordAt line p)) refl (rds-storeless t u reply (wordAt line p)) h
+
+    pub lst-done : (p : ℕ) → r ≡ Lst p
+        → (z ≡ shown (single t reply 0 (ran 0 (lstPlan t u reply (wordAt line p))) .answer)) × (v ≡ single t reply 0 (ran 0 (lstPlan t u reply (wordAt line p))) .reply)
+        → Promised (requested t line text reply u k) z t v
+    unfolding granted
+    lst-done p e h = writing-done (Lst p) e (lstPlan t u reply (wordAt line p)) refl (lst-storeless t u reply (wordAt line p)) h
+
+    pub lst-base-done : r ≡ LstBase
+        → (z ≡ shown (single t reply 0 (ran 0 (lstBasePlan t u reply)) .answer)) × (v ≡ single t reply 0 (ran 0 (lstBasePlan t u reply)) .reply)
+        → Promised (requested t line text reply u k) z t v
+    unfolding granted
+    lst-base-done e h = writing-done LstBase e (lstBasePlan t u reply) refl (lst-base-storeless t u reply) h

@@ -1,0 +1,17 @@
+pub mod Verdicts
+pub mod Ending
+pub mod Walking
+pub mod Makes
+pub mod Changes
+pub mod Written
+pub mod Readings
+pub mod Clearings
+pub mod Turns
+pub mod Grants
+pub mod Asking
+pub mod Entering
+pub mod Promises
+pub mod Requests
+pub mod Places
+pub mod Granted
+pub mod Refused

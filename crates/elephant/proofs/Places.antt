@@ -1,0 +1,137 @@
+-- What the reader refuses is the whole line or one of its first eight arguments: each check names its place, and a DEL's names are
+-- tried only once they are counted.
+use mathlib.Core.Bool.{Bool, true, false, not, cond}
+use mathlib.Core.List.{List, [], _∷_, _++_}
+use mathlib.Core.Path.{_≡_, refl, sym, ap}
+use Prim.Native.Nat.{ℕ, _+_, _-_, _≤_}
+use native.Mathlib.Omega.{arith}
+use lib.ListN.{length, take, drop, length-take, length-drop}
+use lib.Dec.{leb}
+use borrow.Author.Tests.{leb-true, not-false}
+use Rattle.paper.specs.Name.{lonePoint}
+use Rattle.paper.specs.Line.{Word, words, word, legalLine}
+use Rattle.paper.specs.Check.{Check, Verdict, passed, refused, verdict}
+use Rattle.paper.specs.Request.{Request, del, Read, request, unread, readAs, counted, miscounted, malformed, illegal, each, between, misnamed, readCrd, readWrs, readRds, readLst, readCpy, readDup, readChn, readDpr, readDel, isFunction, readFunction, read}
+use Rattle.laws.proofs.Tests.{and-right, either, clash}
+use Rattle.laws.proofs.Lists.{Every, every-append}
+use Rattle.reader.specs.Asked.{shownRead, shownRefusal}
+use Rattle.reader.specs.declared.request.Refusal as given
+use Rattle.reader.specs.declared.request.Read.the-variants as answers
+
+abbrev NearCheck : Check → Type 0
+NearCheck c = c .refusal .place ≤ 8
+
+abbrev NearVerdict : Verdict → Type 0
+NearVerdict passed = Unit {0}
+NearVerdict (refused f) = f .place ≤ 8
+
+abbrev Near : Read → Type 0
+Near (request r) = Unit {0}
+Near (unread f) = f .place ≤ 8
+
+verdict-near : (cs : List Check) → Every NearCheck cs → NearVerdict (verdict cs)
+unfolding verdict
+verdict-near [] h = tt
+verdict-near (c ∷ cs) h = either NearVerdict (c .when) (refused (c .refusal)) (verdict cs) (h .0) (verdict-near cs (h .1))
+
+read-near : (r : Request) (v : Verdict) → NearVerdict v → Near (readAs r v)
+read-near r passed h = tt
+read-near r (refused f) h = h
+
+near-as : (r : Request) (cs : List Check) → Every NearCheck cs → Near (readAs r (verdict cs))
+near-as r cs h = read-near r (verdict cs) (verdict-near cs h)
+
+-- a check for each of some words
+each-near : (f : ℕ → Word → Check) → ((p : ℕ) (w : Word) → f p w .refusal .place ≡ p) → (p : ℕ) (ws : List Word) → p + length ws ≤ 9 → Every NearCheck (each f p ws)
+unfolding each
+each-near f h p [] l = tt
+each-near f h p (w ∷ ws) l = (omega (arith, h p w), each-near f h (p + 1) ws (omega arith))
+
+misnamed-near : (a b : ℕ) (line : List ℕ) → a + (b - a) ≤ 9 → Every NearCheck (misnamed a b line)
+unfolding between
+misnamed-near a b line l =
+    let n : a + length (take (b - a) (drop a (words line))) ≤ 9 = simp (length-take) (omega arith) in
+    every-append NearCheck (each malformed a (between a b line)) _
+    (each-near malformed (λ p w. refl) a (between a b line) n) (each-near illegal (λ p w. refl) a (between a b line) n)
+
+module _ (line : List ℕ) where
+  -- the usual reader: the count, the names, and the checks after them
+  near-names : (r : Request) (least most a b : ℕ) (cs : List Check) → a + (b - a) ≤ 9 → Every NearCheck cs
+      → Near (readAs r (verdict (miscounted least most line ∷ misnamed a b line ++ cs)))
+  near-names r least most a b cs l h = near-as r _ (omega arith, every-append NearCheck (misnamed a b line) cs (misnamed-near a b line l) h)
+
+  near-crd : Near (readCrd line)
+  unfolding readCrd
+  near-crd = near-names _ 1 2 1 2 _ (omega arith) (omega arith, tt)
+
+  near-wrs : Near (readWrs line)
+  unfolding readWrs
+  near-wrs = near-names _ 2 2 2 3 _ (omega arith) (omega arith, tt)
+
+  near-rds : Near (readRds line)
+  unfolding readRds
+  near-rds = near-as _ _ (omega arith, misnamed-near 1 2 line (omega arith))
+
+  near-lst : Near (readLst line)
+  unfolding readLst
+  near-lst =
+      either Near (lonePoint (word line 1 .names)) _ _ (near-as _ _ (omega arith, tt))
+      (near-as _ _ (omega arith, misnamed-near 1 2 line (omega arith)))
+
+  near-cpy : Near (readCpy line)
+  unfolding readCpy
+  near-cpy = near-names _ 2 3 1 3 _ (omega arith) (omega arith, tt)
+
+  near-dup : Near (readDup line)
+  unfolding readDup
+  near-dup = near-names _ 2 3 1 3 _ (omega arith) (omega arith, tt)
+
+  near-chn : Near (readChn line)
+  unfolding readChn
+  near-chn = near-as _ _ (omega arith, (omega arith, (omega arith, (omega arith, (omega arith, tt)))))
+
+  near-dpr : Near (readDpr line)
+  unfolding readDpr
+  near-dpr = near-names _ 2 2 1 2 _ (omega arith) (omega arith, tt)
+
+  -- "DEL 1 to 8 names"
+  few-words : counted 1 8 line ≡ true → length (words line) - 1 ≤ 8
+  unfolding counted
+  few-words e = leb-true _ _ (and-right (leb 1 (length (words line) - 1)) _ e)
+
+  near-del : Near (readDel line)
+  unfolding readDel verdict
+  near-del = go (not (counted 1 8 line)) refl
+    where
+      go : (b : Bool) → not (counted 1 8 line) ≡ b
+          → Near (readAs (del (drop 1 (words line))) (cond b (refused (record { number = 6; place = 0; link = 0 })) (verdict (misnamed 1 (length (words line)) line))))
+      go true e = omega arith
+      go false e =
+          let l = few-words (not-false (counted 1 8 line) e) in
+          near-as (del (drop 1 (words line))) (misnamed 1 (length (words line)) line) (misnamed-near 1 (length (words line)) line (omega arith))
+
+  near-function : Near (readFunction line)
+  unfolding readFunction
+  near-function =
+      either Near (isFunction 67 82 68 line) _ _ near-crd
+      (either Near (isFunction 87 82 83 line) _ _ near-wrs
+      (either Near (isFunction 82 68 83 line) _ _ near-rds
+      (either Near (isFunction 67 80 89 line) _ _ near-cpy
+      (either Near (isFunction 68 85 80 line) _ _ near-dup
+      (either Near (isFunction 67 72 78 line) _ _ near-chn
+      (either Near (isFunction 68 69 76 line) _ _ near-del
+      (either Near (isFunction 68 80 82 line) _ _ near-dpr
+      (either Near (isFunction 76 83 84 line) _ _ near-lst
+      (omega arith)))))))))
+
+  near : Near (read line)
+  unfolding read
+  near = either Near (legalLine line) _ _ near-function (omega arith)
+
+  -- the reader's answer
+  pub place-near : (f : given.Refusal) → answers.Refused f ≡ shownRead (read line) → f .place ≤ 8
+  place-near f e = go (read line) near e
+    where
+      go : (x : Read) → Near x → answers.Refused f ≡ shownRead x → f .place ≤ 8
+      go (request r) h z = clash (cc)
+      go (unread g) h z = let y : f ≡ shownRefusal g = cc in rw y h

@@ -1,0 +1,105 @@
+-- A plan after a walk is refused where the walk stopped, and else goes on from the state it came to, as the code's does.
+-- A check that does not hold changes nothing of how the plan ends.
+use mathlib.Core.Bool.{Bool, true, false, cond}
+use mathlib.Core.List.{List, [], _∷_}
+use mathlib.Core.Path.{_≡_, refl, sym, ap, _∙_}
+use Prim.Native.Nat.{ℕ, _%_, _<_}
+use native.Mathlib.Omega.{arith}
+use lib.Dec.{leb}
+use lib.ListN.{getD, length}
+use Rattle.paper.specs.Table.{room}
+use Rattle.paper.specs.Check.{Check, Verdict, passed, verdict, refused}
+use Rattle.paper.specs.Store.{Store}
+use Rattle.paper.specs.Code.{noWrite}
+use Rattle.paper.specs.Line.{Word}
+use Rattle.paper.specs.Walk as W
+use Rattle.paper.specs.Walk.{start, toDirectory, stopped}
+use Rattle.paper.specs.Answer.{Outcome, plain, single, stores, done, cut}
+use Rattle.paper.specs.Effect.{Plan, Planned, plan, Making, making, toHolder, chainOf}
+use Rattle.laws.proofs.Lists.{length-each, getD-each}
+use Rattle.effects.specs.Listed.{freeRooms}
+use Rattle.walk.specs.Shown.{meant, walkedShown}
+use Rattle.walk.specs.declared.state.State.{State}
+use Rattle.walk.specs.declared.chain.Walked.the-variants.{Reached, Stopped}
+use Rattle.ends.specs.Shown.{shown, did}
+use Rattle.ends.specs.Placing.{ending}
+use Rattle.elephant.specs.Filing.{Did}
+use Rattle.ends.specs.declared.answer.Answer.{Answer}
+use Rattle.elephant.proofs.Verdicts.{first-holds, first-passes, second-holds}
+use Rattle.ends.proofs.Reached.{walked-stopped, walked-reached}
+use Rattle.elephant.proofs.Ending.{did-refused}
+
+-- two plans that end alike
+did-same : (t u : List ℕ) (k : ℕ) (p q : Planned) (r : Answer) → did t k p ≡ did t k q → Did t k q r u → Did t k p r u
+did-same t u k p q r e w =
+    record {
+      answer = w .answer ∙ sym (ap (λ (o : Outcome). shown (o .answer)) e);
+      table = w .table ∙ sym (ap (λ (o : Outcome). o .table) e);
+    }
+
+-- checks with one verdict
+module _ (t : List ℕ) (k : ℕ) (ss : List Store) (b : Bool) where
+  abbrev with : List Check → Plan
+  with cs = record { checks = cs; stores = ss; displaced = b; reply = [] }
+
+  did-alike : (cs ds : List Check) → verdict cs ≡ verdict ds → did t k (plan (with cs)) ≡ did t k (plan (with ds))
+  did-alike cs ds e = ap (λ (v : Verdict). single t [] k (stores k (with cs) v)) e ∙ go (verdict ds)
+    where
+      by : (x : Bool) → single t [] k (cond x (done (with cs)) (cut (with cs))) ≡ single t [] k (cond x (done (with ds)) (cut (with ds)))
+      by true = refl
+      by false = refl
+
+      go : (v : Verdict) → single t [] k (stores k (with cs) v) ≡ single t [] k (stores k (with ds) v)
+      go (refused f) = refl
+      go passed = by (leb (length ss) k)
+
+-- ---- walks
+
+module _ (t : List ℕ) (u place k : ℕ) (w : Word) (f : W.State → Planned) where
+  pub holder-stops : (n l : ℕ) → walkedShown (toDirectory t 1 (start u) (chainOf w)) ≡ Stopped n l → Did t k (toHolder t u place w f) (shown (plain n place 0 0)) t
+  holder-stops n l e = rw (walked-stopped (toDirectory t 1 (start u) (chainOf w)) n l e) (record { answer = refl; table = refl })
+
+  pub holder-reaches : (d : State) (r : Answer) (x : List ℕ) → walkedShown (toDirectory t 1 (start u) (chainOf w)) ≡ Reached d
+      → Did t k (f (meant d)) r x → Did t k (toHolder t u place w f) r x
+  holder-reaches d r x e y = rw (walked-reached (toDirectory t 1 (start u) (chainOf w)) d e) y
+
+-- ---- 14
+
+module _ (t : List ℕ) (k : ℕ) (m : Making) where
+  pub shut-refused : noWrite (m .directory .code) ≡ true → Did t k (making t m [] []) (shown (plain 14 (m .place) 0 0)) t
+  unfolding making
+  shut-refused e = did-refused t k _ _ (first-holds _ _ e)
+
+  pub open-ends : (r : Answer) (u : List ℕ) → noWrite (m .directory .code) ≡ false → Did t k (ending t m) r u → Did t k (making t m [] []) r u
+  unfolding making ending
+  open-ends r u e w = did-same t u k (making t m [] []) (ending t m) r (did-alike t k _ _ _ _ (first-passes _ _ e)) w
+
+-- 13, 14 and 15 of CPY, in that order
+module _ (t : List ℕ) (k : ℕ) (m : Making) (c e : Check) where
+  pub copy-first : c .when ≡ true → Did t k (making t m (c ∷ []) (e ∷ [])) (shown (plain (c .refusal .number) (c .refusal .place) 0 0)) t
+  unfolding making
+  copy-first x = did-refused t k _ _ (first-holds _ _ x)
+
+  pub copy-second : c .when ≡ false → noWrite (m .directory .code) ≡ true → Did t k (making t m (c ∷ []) (e ∷ [])) (shown (plain 14 (m .place) 0 0)) t
+  unfolding making
+  copy-second x y = did-refused t k _ _ (second-holds _ _ _ x y)
+
+  pub copy-third : c .when ≡ false → noWrite (m .directory .code) ≡ false → e .when ≡ true
+      → Did t k (making t m (c ∷ []) (e ∷ [])) (shown (plain (e .refusal .number) (e .refusal .place) 0 0)) t
+  unfolding making
+  copy-third x y z = did-refused t k _ _ (first-passes _ _ x ∙ first-passes _ _ y ∙ first-holds _ _ z)
+
+  pub copy-ends : (r : Answer) (u : List ℕ) → c .when ≡ false → noWrite (m .directory .code) ≡ false → e .when ≡ false → Did t k (ending t m) r u
+      → Did t k (making t m (c ∷ []) (e ∷ [])) r u
+  unfolding making ending
+  copy-ends r u x y z w =
+      did-same t u k (making t m (c ∷ []) (e ∷ [])) (ending t m) r (did-alike t k _ _ _ _ (first-passes _ _ x ∙ first-passes _ _ y ∙ first-passes _ _ z)) w
+
+-- ---- a new file
+
+-- the first free record's number is small
+pub free-small : (t : List ℕ) → getD (freeRooms t) 0 0 < 65536
+free-small t = rw (getD-each (λ m. room t m % 65536) 1002 0 0 (omega arith)) (omega arith)
+
+pub free-length : (t : List ℕ) → 1002 ≡ length (freeRooms t)
+free-length t = sym (length-each (λ m. room t m % 65536) 1002)

@@ -1,0 +1,84 @@
+-- The text is copied out before any store, and as much of the copy as the heading's length says is the file's text.
+-- What is not declared is read from the source's heading.
+use mathlib.Core.Path.{sym, _∙_}
+use Prim.Native.Nat.{ℕ}
+use native.Mathlib.Omega.{arith}
+use lib.ListN.{length-replicate}
+use Rattle.ends.specs.Ends.{Fit}
+use Rattle.elephant.proofs.Written.{text-size, text-few, text-copied}
+use borrow.Author.Needs.{needs}
+use Rattle.elephant.proofs.copying.copy.Statement.{statement}
+use Rattle.elephant.proofs.copying.copy.Tie as tie
+
+slice-aggregate-copy-text : tie.Need-slice-aggregate-copy-text
+slice-aggregate-copy-text c = search needs
+
+copy-text-requires : tie.Need-copy-text-requires
+copy-text-requires c κs = search needs
+
+text-length-requires : tie.Need-text-length-requires
+text-length-requires c κs = search needs
+
+or-else-requires : tie.Need-or-else-requires
+or-else-requires c κs = search needs
+
+level-of-requires : tie.Need-level-of-requires
+level-of-requires c κs = search needs
+
+or-else-requires-2 : tie.Need-or-else-requires-2
+or-else-requires-2 c κs = search needs
+
+lifetime-of-requires : tie.Need-lifetime-of-requires
+lifetime-of-requires c κs = search needs
+
+or-else-requires-3 : tie.Need-or-else-requires-3
+or-else-requires-3 c κs = search needs
+
+laid-requires : tie.Need-laid-requires
+laid-requires c κs = search needs
+
+slice-aggregate-part : tie.Need-slice-aggregate-part
+slice-aggregate-part c = search needs
+
+part-requires : tie.Need-part-requires
+part-requires c κs = search needs
+
+file-requires : tie.Need-file-requires
+file-requires c κs =
+    let a = c .before .before .before .before .before .before .before .before .before .before .before .before .before .before .before .before .before .before .before .args in
+    let p = c .before .before .before .before .before .before .before .before .before .before .before .before .before .before .before .before .before .before .before .pre in
+    let n = c .before .before .before .before .before .before .before .before .before .before .before .text-length in
+    let f : Fit (a .table .now) = record { sized = p .0 .size; sound = p .0 .sound } in
+    let x = text-copied (a .table .now) (a .source .0) f (p .1) _ _ (n .result .0) (rw (length-replicate {A = ℕ} 24000 0) (omega arith)) (c .before .before .before .before .before .before .before .before .before .before .before .before .before .before .copy-text .ensures) (n .ensures .0) in
+    record { size = p .0 .size; sound = p .0 .sound; short = p .0 .short; few = rw (c .part .ensures ∙ x) (text-few (a .table .now) (a .source .0) f (p .1)) }
+
+same-length : tie.Need-same-length
+same-length c = search needs
+
+returns : tie.Need-returns
+returns c =
+    let a = c .before .before .before .before .before .before .before .before .before .before .before .before .before .before .before .before .before .before .before .before .before .before .args in
+    let p = c .before .before .before .before .before .before .before .before .before .before .before .before .before .before .before .before .before .before .before .before .before .before .pre in
+    let n = c .before .before .before .before .before .before .before .before .before .before .before .before .before .before .text-length in
+    let f : Fit (a .table .now) = record { sized = p .0 .size; sound = p .0 .sound } in
+    let x = text-copied (a .table .now) (a .source .0) f (p .1) _ _ (n .result .0) (rw (length-replicate {A = ℕ} 24000 0) (omega arith)) (c .before .before .before .before .before .before .before .before .before .before .before .before .before .before .before .before .before .copy-text .ensures) (n .ensures .0) in
+    rw (c .before .before .before .part .ensures ∙ x, c .before .before .before .before .before .before .laid .ensures, c .before .before .before .before .before .before .before .or-else3 .ensures, c .before .before .before .before .before .before .before .before .lifetime-of .ensures, c .before .before .before .before .before .before .before .before .before .before .or-else2 .ensures, c .before .before .before .before .before .before .before .before .before .before .before .level-of .ensures, c .before .before .before .before .before .before .before .before .before .before .before .before .before .or-else .ensures, n .ensures .0 ∙ sym (text-size (a .table .now) (a .source .0) f (p .1))) at (c .before .before .file .ensures)
+
+pub copy-spec : {M : Type 1} → statement M
+copy-spec =
+    tie.close
+    (tie.spec
+    slice-aggregate-copy-text
+    copy-text-requires
+    text-length-requires
+    or-else-requires
+    level-of-requires
+    or-else-requires-2
+    lifetime-of-requires
+    or-else-requires-3
+    laid-requires
+    slice-aggregate-part
+    part-requires
+    file-requires
+    same-length
+    returns)

@@ -1,0 +1,50 @@
+-- The entry is one stage and its file the next: joined they are the entry cleared and the file freed. A sound table's file has at most
+-- 1,000 blocks, whose rooms are listed before the first store.
+use mathlib.Core.Path.{_≡_, sym, ap, _∙_}
+use native.Mathlib.Omega.{arith}
+use borrow.Author.Needs.{needs}
+use Rattle.paper.specs.Record.{blank}
+use Rattle.elephant.proofs.Clearings.{cleared-length, cleared-table}
+use Rattle.elephant.proofs.delete.clear_both.Statement.{statement}
+use Rattle.elephant.proofs.delete.clear_both.Tie as tie
+
+text-rooms-requires : tie.Need-text-rooms-requires
+text-rooms-requires c κs = search needs
+
+text-length-requires : tie.Need-text-length-requires
+text-length-requires c κs = search needs
+
+blocks-requires : tie.Need-blocks-requires
+blocks-requires c κs = search needs
+
+put-requires : tie.Need-put-requires
+put-requires c κs = search needs
+
+clear-file-requires : tie.Need-clear-file-requires
+clear-file-requires c κs = search needs
+
+add-result : tie.Need-add-result
+add-result c = search needs
+
+same-length : tie.Need-same-length
+same-length c = search needs
+
+returns : tie.Need-returns
+unfolding blank
+returns c =
+    let a = c .before .before .before .before .before .before .before .before .before .before .before .before .before .before .before .before .args in
+    let n = c .before .before .before .before .before .before .before .before .before .before .text-length in
+    (cleared-length (a .table .now) (a .entry .0) (a .heading .0) (c .before .before .before .before .before .before .before .before .before .before .before .before .before .before .before .before .pre .0) (c .before .before .before .before .before .before .before .before .before .before .before .before .before .before .before .before .pre .1) (c .before .before .before .before .before .before .before .before .before .before .before .before .before .before .before .before .pre .2) _ (c .before .before .before .before .before .before .before .before .before .blocks2 .result .0) (n .result .0) (c .before .before .before .before .before .before .before .before .before .before .before .before .text-rooms .ensures) (c .before .before .before .before .before .before .before .before .before .blocks2 .ensures) (n .ensures .0), cleared-table (a .table .now) (a .entry .0) (a .heading .0) (c .before .before .before .before .before .before .before .before .before .before .before .before .before .before .before .before .pre .0) (c .before .before .before .before .before .before .before .before .before .before .before .before .before .before .before .before .pre .1) (c .before .before .before .before .before .before .before .before .before .before .before .before .before .before .before .before .pre .2) _ (c .before .before .before .before .before .before .before .before .before .blocks2 .result .0) (n .result .0) (c .before .before .before .before .before .before .before .before .before .before .before .before .text-rooms .ensures) (c .before .before .before .before .before .before .before .before .before .blocks2 .ensures) (n .ensures .0) _ _ _ _ _ (c .before .before .before .before .before .before .before .put .ensures) (c .before .before .clear-file .ensures))
+
+pub clear-both-spec : {M : Type 1} → statement M
+clear-both-spec =
+    tie.close
+    (tie.spec
+    text-rooms-requires
+    text-length-requires
+    blocks-requires
+    put-requires
+    clear-file-requires
+    add-result
+    same-length
+    returns)

@@ -1,0 +1,135 @@
+-- What is left of the names is the whole: a name done leaves the table sound, and the word after it is the next name.
+-- The measure is the names not yet done.
+use mathlib.Core.Path.{_≡_, sym, ap, _∙_}
+use Prim.Native.Nat.{_-_, _+_, _≤_, _<_}
+use native.Mathlib.Omega.{arith}
+use lib.ListN.{length, drop}
+use borrow.Author.Needs.{needs}
+use Rattle.paper.specs.Answer.{Outcome}
+use Rattle.paper.specs.Line.{words}
+use Rattle.ends.specs.Shown.{shown}
+use Rattle.elephant.proofs.Turns.{Deleting, deleting-start, deleting-end, deleting-refused, deleting-cut, deleting-on}
+use Rattle.elephant.proofs.delete.del.Statement.{statement}
+use Rattle.elephant.proofs.delete.del.Tie as tie
+
+abbrev Inv-loop : tie.InvT-loop
+Inv-loop table₀ line first count user stop p₀ names₀ left₀ table p names left = Deleting table₀ line user stop table p names left
+
+abbrev μ-loop : tie.MeasureT-loop
+μ-loop table₀ line first count user stop p₀ names₀ left₀ table p names left = count - names
+
+loop-holds : tie.Need-loop-holds Inv-loop μ-loop
+loop-holds c = deleting-start (c .before .before .args .table .now) (c .before .before .args .line .now) (c .before .before .args .user) (c .before .before .args .stop) (c .before .before .args .first) (c .before .before .pre .0) (c .before .before .pre .1)
+
+add-delete-one : tie.Need-add-delete-one Inv-loop μ-loop
+add-delete-one c = omega arith
+
+delete-one-requires : tie.Need-delete-one-requires Inv-loop μ-loop
+delete-one-requires c κs = c .before .before .loop .inv .fit
+
+cast-made : tie.Need-cast-made Inv-loop μ-loop
+cast-made c = omega (arith, c .before .before .before .before .before .loop .inv .some)
+
+sub-made : tie.Need-sub-made Inv-loop μ-loop
+sub-made c = omega (arith, c .before .before .before .before .before .loop .inv .some)
+
+enum-known-deleted : tie.Need-enum-known-deleted Inv-loop μ-loop
+enum-known-deleted c = search needs
+
+enum-told : tie.Need-enum-told Inv-loop μ-loop
+enum-told c = search needs
+
+refusal-requires : tie.Need-refusal-requires Inv-loop μ-loop
+refusal-requires c κs = search needs
+
+same-length : tie.Need-same-length Inv-loop μ-loop
+same-length c = omega (arith, c .before .before .before .before .before .before .before .before .loop .inv .size)
+
+returns : tie.Need-returns Inv-loop μ-loop
+returns c =
+    let a = c .before .before .before .before .before .before .before .before .before .before .before .args in
+    let l = c .before .before .before .before .before .before .before .before .loop in
+    let d = c .before .before .before .before .before .delete-one in
+    let g = c .before .enum-told .given in
+    let w = deleting-refused (a .table .now) (a .line .now) (a .user) (a .stop) (l .table) (l .p) (l .names) (l .left) (l .inv) (omega (arith, c .before .before .before .before .before .before .before .before .before .before .before .pre .2)) _ (d .ensures .1) (d .result) (g .0 .0) (g .0 .1 .0) (d .ensures .0) (g .1) in
+    (c .refusal .ensures ∙ sym (ap (λ (o : Outcome). shown (o .answer)) w), sym (ap (λ (o : Outcome). o .table) w))
+
+plain-requires : tie.Need-plain-requires Inv-loop μ-loop
+plain-requires c κs = search needs
+
+same-length-2 : tie.Need-same-length-2 Inv-loop μ-loop
+same-length-2 c = omega (arith, c .before .before .before .before .before .before .before .before .before .before .loop .inv .size)
+
+returns-2 : tie.Need-returns-2 Inv-loop μ-loop
+returns-2 c =
+    let a = c .before .before .before .before .before .before .before .before .before .before .before .before .before .args in
+    let l = c .before .before .before .before .before .before .before .before .before .before .loop in
+    let d = c .before .before .before .before .before .before .before .delete-one in
+    let g = c .before .before .before .deleted .given in
+    let w = deleting-cut (a .table .now) (a .line .now) (a .user) (a .stop) (l .table) (l .p) (l .names) (l .left) (l .inv) (omega (arith, c .before .before .before .before .before .before .before .before .before .before .before .before .before .pre .2)) _ (d .ensures .1) (g .0 .0) (sym (g .1) ∙ d .ensures .0) (omega arith) in
+    (c .plain .ensures ∙ sym (ap (λ (o : Outcome). shown (o .answer)) w), sym (ap (λ (o : Outcome). o .table) w))
+
+add-names : tie.Need-add-names Inv-loop μ-loop
+add-names c = omega arith
+
+next-word-requires : tie.Need-next-word-requires Inv-loop μ-loop
+next-word-requires c κs = search needs
+
+loop-less : tie.Need-loop-less Inv-loop μ-loop
+loop-less c = omega arith
+
+loop-again : tie.Need-loop-again Inv-loop μ-loop
+loop-again c =
+    let a = c .before .before .before .before .before .before .before .before .before .before .before .before .before .args in
+    let l = c .before .before .before .before .before .before .before .before .before .before .loop in
+    let d = c .before .before .before .before .before .before .before .delete-one in
+    let g = c .before .before .before .deleted .given in
+    deleting-on (a .table .now) (a .line .now) (a .user) (a .stop) (l .table) (l .p) (l .names) (l .left) (l .inv) (omega (arith, c .before .before .before .before .before .before .before .before .before .before .before .before .before .pre .2)) _ (d .ensures .1) (g .0 .0) (c .next-word .result) (sym (g .1) ∙ d .ensures .0) (omega arith) (c .next-word .ensures) (omega (arith, l .inv .size))
+
+cast-plain : tie.Need-cast-plain Inv-loop μ-loop
+cast-plain c = omega (arith, c .before .loop .inv .some)
+
+sub-plain : tie.Need-sub-plain Inv-loop μ-loop
+sub-plain c = omega (arith, c .before .loop .inv .some)
+
+plain-requires-2 : tie.Need-plain-requires-2 Inv-loop μ-loop
+plain-requires-2 c κs = search needs
+
+same-length-3 : tie.Need-same-length-3 Inv-loop μ-loop
+same-length-3 c = omega (arith, c .before .before .loop .inv .size)
+
+returns-3 : tie.Need-returns-3 Inv-loop μ-loop
+returns-3 c =
+    let a = c .before .before .before .before .before .args in
+    let l = c .before .before .loop in
+    let w = deleting-end (a .table .now) (a .line .now) (a .user) (a .stop) (l .table) (l .p) (l .names) (l .left) (l .inv) (omega (arith, c .before .before .before .before .before .pre .2)) in
+    (c .plain2 .ensures ∙ sym (ap (λ (o : Outcome). shown (o .answer)) w), sym (ap (λ (o : Outcome). o .table) w))
+
+pub del-spec : {M : Type 1} → statement M
+del-spec =
+    tie.close
+    (tie.spec
+    Inv-loop
+    μ-loop
+    loop-holds
+    add-delete-one
+    delete-one-requires
+    cast-made
+    sub-made
+    enum-known-deleted
+    enum-told
+    refusal-requires
+    same-length
+    returns
+    plain-requires
+    same-length-2
+    returns-2
+    add-names
+    next-word-requires
+    loop-less
+    loop-again
+    cast-plain
+    sub-plain
+    plain-requires-2
+    same-length-3
+    returns-3)

@@ -1,0 +1,242 @@
+-- Each arm: what was read gives what its function requires, and that function's promise is the request's.
+-- The laws stand in `Granted`, one of each kind for a function.
+use mathlib.Core.Path.{_≡_, sym, _∙_}
+use native.Mathlib.Omega.{arith}
+use borrow.Author.Needs.{needs}
+use Rattle.elephant.proofs.Granted.{crd-ready, wrs-ready, cpy-ready, dup-ready, chn-ready, del-ready, crd-done, wrs-done, rds-done, cpy-done, dup-done, chn-done, del-done, dpr-done, lst-done, lst-base-done}
+use Rattle.elephant.proofs.entrance.grant.Statement.{statement}
+use Rattle.elephant.proofs.entrance.grant.Tie as tie
+
+enum-known-asked : tie.Need-enum-known-asked
+enum-known-asked c = search needs
+
+crd-requires : tie.Need-crd-requires
+crd-requires c κs =
+    let s = c .before .before .before .before .before .before .before .before in
+    let g = c .before .before .asked .given in
+    crd-ready (s .args .table .now) (s .args .line .now) (s .args .text .now) (s .args .user) (s .args .asked) (s .pre) (g .0 .0) (g .0 .1 .0) (g .0 .1 .1 .0) (g .1)
+
+enum-known-asked-2 : tie.Need-enum-known-asked-2
+enum-known-asked-2 c = search needs
+
+wrs-requires : tie.Need-wrs-requires
+wrs-requires c κs =
+    let s = c .before .before .before .before .before .before .before .before in
+    let g = c .before .before .asked2 .given in
+    wrs-ready (s .args .table .now) (s .args .line .now) (s .args .text .now) (s .args .user) (s .args .asked) (s .pre) (g .0 .0) (g .0 .1 .0) (g .0 .1 .1 .0) (g .0 .1 .1 .1 .0) (g .1)
+
+enum-known-asked-3 : tie.Need-enum-known-asked-3
+enum-known-asked-3 c = search needs
+
+rds-requires : tie.Need-rds-requires
+rds-requires c κs = search needs
+
+enum-known-asked-4 : tie.Need-enum-known-asked-4
+enum-known-asked-4 c = search needs
+
+cpy-requires : tie.Need-cpy-requires
+cpy-requires c κs =
+    let s = c .before .before .before .before .before .before .before .before in
+    let g = c .before .before .asked4 .given in
+    cpy-ready (s .args .table .now) (s .args .line .now) (s .args .text .now) (s .args .user) (s .args .asked) (s .pre) (g .0 .0) (g .0 .1 .0) (g .0 .1 .1 .0) (g .0 .1 .1 .1 .0) (g .0 .1 .1 .1 .1 .0) (g .1)
+
+enum-known-asked-5 : tie.Need-enum-known-asked-5
+enum-known-asked-5 c = search needs
+
+dup-requires : tie.Need-dup-requires
+dup-requires c κs =
+    let s = c .before .before .before .before .before .before .before .before in
+    let g = c .before .before .asked5 .given in
+    dup-ready (s .args .table .now) (s .args .line .now) (s .args .text .now) (s .args .user) (s .args .asked) (s .pre) (g .0 .0) (g .0 .1 .0) (g .0 .1 .1 .0) (g .1)
+
+enum-known-asked-6 : tie.Need-enum-known-asked-6
+enum-known-asked-6 c = search needs
+
+chn-requires : tie.Need-chn-requires
+chn-requires c κs =
+    let s = c .before .before .before .before .before .before .before .before in
+    let g = c .before .before .asked6 .given in
+    (s .pre .fit, chn-ready (s .args .table .now) (s .args .line .now) (s .args .text .now) (s .args .user) (s .args .asked) (s .pre) (g .0 .0) (g .0 .1 .0) (g .1))
+
+enum-known-asked-7 : tie.Need-enum-known-asked-7
+enum-known-asked-7 c = search needs
+
+cast-del : tie.Need-cast-del
+cast-del c =
+    let s = c .before .before .before .before .before .before .before .before in
+    let g = c .before .before .asked7 .given in
+    let d = del-ready (s .args .table .now) (s .args .line .now) (s .args .text .now) (s .args .user) (s .args .asked) (s .pre) (g .0 .0) (g .0 .1 .0) (g .1) in
+    omega (arith, d .2)
+
+del-requires : tie.Need-del-requires
+del-requires c κs =
+    let s = c .before .before .before .before .before .before .before .before in
+    let g = c .before .before .asked7 .given in
+    let d = del-ready (s .args .table .now) (s .args .line .now) (s .args .text .now) (s .args .user) (s .args .asked) (s .pre) (g .0 .0) (g .0 .1 .0) (g .1) in
+    (s .pre .fit, d .0, d .1)
+
+enum-known-asked-8 : tie.Need-enum-known-asked-8
+enum-known-asked-8 c = search needs
+
+dpr-requires : tie.Need-dpr-requires
+dpr-requires c κs = search needs
+
+enum-known-asked-9 : tie.Need-enum-known-asked-9
+enum-known-asked-9 c = search needs
+
+lst-requires : tie.Need-lst-requires
+lst-requires c κs = search needs
+
+enum-told : tie.Need-enum-told
+enum-told c = search needs
+
+lst-base-requires : tie.Need-lst-base-requires
+lst-base-requires c κs = search needs
+
+same-length : tie.Need-same-length
+same-length c = search needs
+
+returns : tie.Need-returns
+returns c =
+    let s = c .before .before .before .before .before .before .before .before .before .before .before in
+    let g = c .before .before .before .before .before .asked .given in
+    crd-done (s .args .table .now) (s .args .line .now) (s .args .text .now) (s .args .user) (s .args .asked) (s .pre) (s .args .reply .now) (s .args .stop) _ _ (g .0 .0) (g .0 .1 .0) (g .0 .1 .1 .0) (g .1) (c .before .before .crd .ensures)
+
+same-length-2 : tie.Need-same-length-2
+same-length-2 c = search needs
+
+returns-2 : tie.Need-returns-2
+returns-2 c =
+    let s = c .before .before .before .before .before .before .before .before .before .before .before in
+    let g = c .before .before .before .before .before .asked2 .given in
+    wrs-done (s .args .table .now) (s .args .line .now) (s .args .text .now) (s .args .user) (s .args .asked) (s .pre) (s .args .reply .now) (s .args .stop) _ _ (g .0 .0) (g .0 .1 .0) (g .0 .1 .1 .0) (g .0 .1 .1 .1 .0) (g .1) (c .before .before .wrs .ensures)
+
+same-length-3 : tie.Need-same-length-3
+same-length-3 c = search needs
+
+same-length-4 : tie.Need-same-length-4
+same-length-4 c = search needs
+
+returns-3 : tie.Need-returns-3
+returns-3 c =
+    let s = c .before .before .before .before .before .before .before .before .before .before .before .before in
+    let g = c .before .before .before .before .before .before .asked3 .given in
+    rds-done (s .args .table .now) (s .args .line .now) (s .args .text .now) (s .args .user) (s .args .asked) (s .pre) (s .args .reply .now) (s .args .stop) _ _ (g .0 .0) (g .1) (c .before .before .rds .ensures)
+
+same-length-5 : tie.Need-same-length-5
+same-length-5 c = search needs
+
+returns-4 : tie.Need-returns-4
+returns-4 c =
+    let s = c .before .before .before .before .before .before .before .before .before .before .before in
+    let g = c .before .before .before .before .before .asked4 .given in
+    cpy-done (s .args .table .now) (s .args .line .now) (s .args .text .now) (s .args .user) (s .args .asked) (s .pre) (s .args .reply .now) (s .args .stop) _ _ (g .0 .0) (g .0 .1 .0) (g .0 .1 .1 .0) (g .0 .1 .1 .1 .0) (g .0 .1 .1 .1 .1 .0) (g .1) (c .before .before .cpy .ensures)
+
+same-length-6 : tie.Need-same-length-6
+same-length-6 c = search needs
+
+returns-5 : tie.Need-returns-5
+returns-5 c =
+    let s = c .before .before .before .before .before .before .before .before .before .before .before in
+    let g = c .before .before .before .before .before .asked5 .given in
+    dup-done (s .args .table .now) (s .args .line .now) (s .args .text .now) (s .args .user) (s .args .asked) (s .pre) (s .args .reply .now) (s .args .stop) _ _ (g .0 .0) (g .0 .1 .0) (g .0 .1 .1 .0) (g .1) (c .before .before .dup .ensures)
+
+same-length-7 : tie.Need-same-length-7
+same-length-7 c = search needs
+
+returns-6 : tie.Need-returns-6
+returns-6 c =
+    let s = c .before .before .before .before .before .before .before .before .before .before .before in
+    let g = c .before .before .before .before .before .asked6 .given in
+    chn-done (s .args .table .now) (s .args .line .now) (s .args .text .now) (s .args .user) (s .args .asked) (s .pre) (s .args .reply .now) (s .args .stop) _ _ (g .0 .0) (g .0 .1 .0) (g .1) (c .before .before .chn .ensures)
+
+same-length-8 : tie.Need-same-length-8
+same-length-8 c = search needs
+
+returns-7 : tie.Need-returns-7
+returns-7 c =
+    let s = c .before .before .before .before .before .before .before .before .before .before .before in
+    let g = c .before .before .before .before .before .asked7 .given in
+    del-done (s .args .table .now) (s .args .line .now) (s .args .text .now) (s .args .user) (s .args .asked) (s .pre) (s .args .reply .now) (s .args .stop) _ _ (g .0 .0) (g .0 .1 .0) (g .1) (c .before .before .del .ensures)
+
+same-length-9 : tie.Need-same-length-9
+same-length-9 c = search needs
+
+returns-8 : tie.Need-returns-8
+returns-8 c =
+    let s = c .before .before .before .before .before .before .before .before .before .before .before in
+    let g = c .before .before .before .before .before .asked8 .given in
+    dpr-done (s .args .table .now) (s .args .line .now) (s .args .text .now) (s .args .user) (s .args .asked) (s .pre) (s .args .reply .now) (s .args .stop) _ _ (g .0 .0) (g .0 .1 .0) (g .1) (c .before .before .dpr .ensures)
+
+same-length-10 : tie.Need-same-length-10
+same-length-10 c = search needs
+
+same-length-11 : tie.Need-same-length-11
+same-length-11 c = search needs
+
+returns-9 : tie.Need-returns-9
+returns-9 c =
+    let s = c .before .before .before .before .before .before .before .before .before .before .before .before in
+    let g = c .before .before .before .before .before .before .asked9 .given in
+    lst-done (s .args .table .now) (s .args .line .now) (s .args .text .now) (s .args .user) (s .args .asked) (s .pre) (s .args .reply .now) (s .args .stop) _ _ (g .0 .0) (g .1) (c .before .before .lst .ensures)
+
+same-length-12 : tie.Need-same-length-12
+same-length-12 c = search needs
+
+same-length-13 : tie.Need-same-length-13
+same-length-13 c = search needs
+
+returns-10 : tie.Need-returns-10
+returns-10 c =
+    let s = c .before .before .before .before .before .before .before .before .before .before .before in
+    let g = c .before .before .before .before .before .enum-told .given in
+    lst-base-done (s .args .table .now) (s .args .line .now) (s .args .text .now) (s .args .user) (s .args .asked) (s .pre) (s .args .reply .now) (s .args .stop) _ _ (g .1) (c .before .before .lst-base .ensures)
+
+pub grant-spec : {M : Type 1} → statement M
+grant-spec =
+    tie.close
+    (tie.spec
+    enum-known-asked
+    crd-requires
+    enum-known-asked-2
+    wrs-requires
+    enum-known-asked-3
+    rds-requires
+    enum-known-asked-4
+    cpy-requires
+    enum-known-asked-5
+    dup-requires
+    enum-known-asked-6
+    chn-requires
+    enum-known-asked-7
+    cast-del
+    del-requires
+    enum-known-asked-8
+    dpr-requires
+    enum-known-asked-9
+    lst-requires
+    enum-told
+    lst-base-requires
+    same-length
+    returns
+    same-length-2
+    returns-2
+    same-length-3
+    same-length-4
+    returns-3
+    same-length-5
+    returns-4
+    same-length-6
+    returns-5
+    same-length-7
+    returns-6
+    same-length-8
+    returns-7
+    same-length-9
+    returns-8
+    same-length-10
+    same-length-11
+    returns-9
+    same-length-12
+    same-length-13
+    returns-10)

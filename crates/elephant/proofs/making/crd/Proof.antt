@@ -1,0 +1,81 @@
+-- The heading is laid out before the walk, and the walk chooses: stopped, or in the directory.
+-- The declared parts have the numbers that the plan gives them.
+use mathlib.Core.Path.{sym, _∙_}
+use native.Mathlib.Omega.{arith}
+use Rattle.elephant.proofs.Makes.{crd-stops, crd-reaches}
+use borrow.Author.Needs.{needs}
+use Rattle.elephant.proofs.making.crd.Statement.{statement}
+use Rattle.elephant.proofs.making.crd.Tie as tie
+
+or-else-requires : tie.Need-or-else-requires
+or-else-requires c κs = search needs
+
+or-else-requires-2 : tie.Need-or-else-requires-2
+or-else-requires-2 c κs = search needs
+
+laid-requires : tie.Need-laid-requires
+laid-requires c κs = search needs
+
+start-requires : tie.Need-start-requires
+start-requires c κs = search needs
+
+to-directory-requires : tie.Need-to-directory-requires
+to-directory-requires c κs = search needs
+
+enum-known-walked : tie.Need-enum-known-walked
+enum-known-walked c = search needs
+
+refused-requires : tie.Need-refused-requires
+refused-requires c κs = search needs
+
+enum-known-walked-2 : tie.Need-enum-known-walked-2
+enum-known-walked-2 c = search needs
+
+part-requires : tie.Need-part-requires
+part-requires c κs = search needs
+
+file-in-requires : tie.Need-file-in-requires
+file-in-requires c κs =
+    let p = c .before .before .before .before .before .before .before .before .before .before .before .before .before .pre in
+    record { size = p .size; sound = p .sound; short = p .short; few = rw (c .part .ensures) (omega arith) }
+
+same-length : tie.Need-same-length
+same-length c = search needs
+
+returns : tie.Need-returns
+returns c =
+    let a = c .before .before .before .before .before .before .before .before .before .before .before .before .args in
+    let g = c .before .before .walked .given in
+    rw (c .refused .ensures)
+    (crd-stops (a .table .now) (a .line .now) (a .user) (a .name) (a .stop) _ _ (g .0 .0) (g .0 .1 .0)
+    (sym (rw (c .before .before .before .before .before .start .ensures) at (c .before .before .before .before .to-directory .ensures)) ∙ g .1))
+
+same-length-2 : tie.Need-same-length-2
+same-length-2 c = search needs
+
+returns-2 : tie.Need-returns-2
+returns-2 c =
+    let a = c .before .before .before .before .before .before .before .before .before .before .before .before .before .before .before .before .args in
+    let g = c .before .before .before .before .before .before .walked2 .given in
+    crd-reaches (a .table .now) (a .line .now) (a .user) (a .name) (a .stop) _ _ (g .0 .0) _ _
+    (sym (rw (c .before .before .before .before .before .before .before .before .before .start .ensures) at (c .before .before .before .before .before .before .before .before .to-directory .ensures)) ∙ g .1)
+    (rw (c .before .before .before .part .ensures, c .before .before .before .before .before .before .before .before .before .before .before .laid .ensures, c .before .before .before .before .before .before .before .before .before .before .before .before .or-else2 .ensures, c .before .before .before .before .before .before .before .before .before .before .before .before .before .or-else .ensures) at (c .before .before .file-in .ensures))
+
+pub crd-spec : {M : Type 1} → statement M
+crd-spec =
+    tie.close
+    (tie.spec
+    or-else-requires
+    or-else-requires-2
+    laid-requires
+    start-requires
+    to-directory-requires
+    enum-known-walked
+    refused-requires
+    enum-known-walked-2
+    part-requires
+    file-in-requires
+    same-length
+    returns
+    same-length-2
+    returns-2)

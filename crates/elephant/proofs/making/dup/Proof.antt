@@ -1,0 +1,58 @@
+-- The walks of both names choose: one stopped, or at the file and in the directory.
+-- What follows there is the plan's making.
+use Rattle.elephant.proofs.Makes.{dup-stops, dup-reaches}
+use borrow.Author.Needs.{needs}
+use Rattle.elephant.proofs.making.dup.Statement.{statement}
+use Rattle.elephant.proofs.making.dup.Tie as tie
+
+or-else-requires : tie.Need-or-else-requires
+or-else-requires c κs = search needs
+
+to-both-requires : tie.Need-to-both-requires
+to-both-requires c κs = search needs
+
+enum-known-both : tie.Need-enum-known-both
+enum-known-both c = search needs
+
+refused-requires : tie.Need-refused-requires
+refused-requires c κs = search needs
+
+enum-known-both-2 : tie.Need-enum-known-both-2
+enum-known-both-2 c = search needs
+
+dup-in-requires : tie.Need-dup-in-requires
+dup-in-requires c κs = search needs
+
+same-length : tie.Need-same-length
+same-length c = search needs
+
+returns : tie.Need-returns
+returns c =
+    let a = c .before .before .before .before .before .before .before .before .before .args in
+    let g = c .before .before .both .given in
+    rw (c .refused .ensures) (dup-stops (a .table .now) (a .line .now) (a .user) (a .old) (a .new) (a .stop) _ (c .before .before .before .before .to-both .ensures) _ (g .0 .0) (g .0 .1 .0) (g .0 .1 .1 .0) (g .1))
+
+same-length-2 : tie.Need-same-length-2
+same-length-2 c = search needs
+
+returns-2 : tie.Need-returns-2
+returns-2 c =
+    let a = c .before .before .before .before .before .before .before .before .before .before .before .before .args in
+    let g = c .before .before .before .before .before .both2 .given in
+    dup-reaches (a .table .now) (a .line .now) (a .user) (a .old) (a .new) (a .stop) _ (c .before .before .before .before .before .before .before .to-both .ensures) _ (g .0 .0) (g .0 .1 .0) _ _ (g .1)
+    (rw (c .before .before .before .before .before .before .before .before .before .or-else .ensures) at (c .before .before .dup-in .ensures))
+
+pub dup-spec : {M : Type 1} → statement M
+dup-spec =
+    tie.close
+    (tie.spec
+    or-else-requires
+    to-both-requires
+    enum-known-both
+    refused-requires
+    enum-known-both-2
+    dup-in-requires
+    same-length
+    returns
+    same-length-2
+    returns-2)

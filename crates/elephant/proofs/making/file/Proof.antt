@@ -1,0 +1,54 @@
+-- The free records are listed before any store, and the first of them takes the heading, which the entry names.
+-- So the making is the filing of the last name.
+use native.Mathlib.Omega.{arith}
+use Rattle.effects.proofs.Papers.{free-room}
+use Rattle.elephant.proofs.Walking.{free-small, free-length}
+use borrow.Author.Needs.{needs}
+use Rattle.elephant.proofs.making.file.Statement.{statement}
+use Rattle.elephant.proofs.making.file.Tie as tie
+
+free-rooms-requires : tie.Need-free-rooms-requires
+free-rooms-requires c κs = search needs
+
+slice-aggregate-room-at : tie.Need-slice-aggregate-room-at
+slice-aggregate-room-at c = rw (c .before .free-rooms .ensures) (free-length (c .before .before .before .before .before .before .before .args .table .now))
+
+room-at-requires : tie.Need-room-at-requires
+room-at-requires c κs = search needs
+
+last-name-requires : tie.Need-last-name-requires
+last-name-requires c κs = search needs
+
+make-requires : tie.Need-make-requires
+make-requires c κs =
+    let p = c .before .before .before .before .before .before .before .before .before .before .before .pre in
+    let f = c .before .before .before .before .before .free-rooms in
+    record {
+      size = p .size;
+      sound = p .sound;
+      free = f .ensures;
+      short = rw (c .last-name .ensures) (p .short);
+      few = p .few;
+      small = rw (c .before .before .before .room-at .ensures, f .ensures) (free-small (c .before .before .before .before .before .before .before .before .before .before .before .args .table .now));
+    }
+
+same-length : tie.Need-same-length
+same-length c = search needs
+
+returns : tie.Need-returns
+returns c =
+    let p = c .before .before .before .before .before .before .before .before .before .before .before .before .before .before .pre in
+    rw (c .before .before .before .last-name .ensures, c .before .before .before .before .before .before .room-at .ensures, c .before .before .before .before .before .before .before .before .free-rooms .ensures, free-room (c .before .before .before .before .before .before .before .before .before .before .before .before .before .before .args .table .now) 0 (p .size) (omega arith))
+    at (c .before .before .make .ensures)
+
+pub file-spec : {M : Type 1} → statement M
+file-spec =
+    tie.close
+    (tie.spec
+    free-rooms-requires
+    slice-aggregate-room-at
+    room-at-requires
+    last-name-requires
+    make-requires
+    same-length
+    returns)

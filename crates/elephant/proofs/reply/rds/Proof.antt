@@ -1,0 +1,140 @@
+-- Each return is one case of `rdsPlan`: the walk stopped, 13, 15, 20, or the text written to the front.
+-- The table is sound, and so the heading's length is its text's.
+use mathlib.Core.Path.{sym, ap, _∙_}
+use native.Mathlib.Omega.{arith}
+use borrow.Author.Needs.{needs}
+use Rattle.paper.specs.Answer.{Outcome}
+use Rattle.paper.specs.Record.{simple}
+use Rattle.paper.specs.Table.{rec}
+use Rattle.paper.specs.Block.{fileText}
+use borrow.Author.Tests.{not-false}
+use Rattle.ends.specs.Shown.{shown}
+use Rattle.elephant.proofs.Readings.{rds-reading, reading-off, reading-shut, reading-kind, reading-on, text-short, text-answer, text-reply}
+use Rattle.elephant.proofs.reply.rds.Statement.{statement}
+use Rattle.elephant.proofs.reply.rds.Tie as tie
+
+to-end-requires : tie.Need-to-end-requires
+to-end-requires c κs = search needs
+
+enum-known-end : tie.Need-enum-known-end
+enum-known-end c = search needs
+
+enum-told : tie.Need-enum-told
+enum-told c = search needs
+
+number-requires : tie.Need-number-requires
+number-requires c κs = search needs
+
+refused-requires : tie.Need-refused-requires
+refused-requires c κs = search needs
+
+returns : tie.Need-returns
+returns c =
+    let a = c .before .before .before .before .before .before .before .before .args in
+    let e = c .before .before .before .before .to-end in
+    let g = c .before .before .enum-told .given in
+    let w = rds-reading (a .table .now) (a .line .now) (a .user) (a .name) (a .reply .now) ∙ reading-off (a .table .now) (a .line .now) (a .user) (a .name) (a .reply .now) (e .result) (e .ensures) (λ h. simple (rec (a .table .now) h)) (fileText (a .table .now)) (g .0 .0) (g .0 .1 .0) (g .1) in
+    ((rw (c .before .number .ensures) at (c .refused .ensures)) ∙ sym (ap (λ (o : Outcome). shown (o .answer)) w), sym (ap (λ (o : Outcome). o .reply) w))
+
+inhibits-read-requires : tie.Need-inhibits-read-requires
+inhibits-read-requires c κs = search needs
+
+refused-requires-2 : tie.Need-refused-requires-2
+refused-requires-2 c κs = search needs
+
+returns-2 : tie.Need-returns-2
+returns-2 c =
+    let a = c .before .before .before .before .before .before .before .before .before .before .before .before .args in
+    let e = c .before .before .before .before .before .before .before .before .to-end in
+    let g = c .before .before .before .before .before .before .end .given in
+    let w = rds-reading (a .table .now) (a .line .now) (a .user) (a .name) (a .reply .now) ∙ reading-shut (a .table .now) (a .line .now) (a .user) (a .name) (a .reply .now) (e .result) (e .ensures) (λ h. simple (rec (a .table .now) h)) (fileText (a .table .now)) (g .0 .0) (g .0 .1 .0) (g .1) (rw (c .before .before .inhibits-read .ensures) at (c .before .if1 .taken)) in
+    (c .refused2 .ensures ∙ sym (ap (λ (o : Outcome). shown (o .answer)) w), sym (ap (λ (o : Outcome). o .reply) w))
+
+heading-named-requires : tie.Need-heading-named-requires
+heading-named-requires c κs = search needs
+
+is-simple-requires : tie.Need-is-simple-requires
+is-simple-requires c κs = search needs
+
+refused-requires-3 : tie.Need-refused-requires-3
+refused-requires-3 c κs = search needs
+
+returns-3 : tie.Need-returns-3
+returns-3 c =
+    let a = c .before .before .before .before .before .before .before .before .before .before .before .before .before .before .before .args in
+    let e = c .before .before .before .before .before .before .before .before .before .before .before .to-end in
+    let g = c .before .before .before .before .before .before .before .before .before .end .given in
+    let i = rw (c .before .before .before .before .before .inhibits-read .ensures) at (c .before .before .before .before .if1 .left) in
+    let h = c .before .before .before .heading-named in
+    let w = rds-reading (a .table .now) (a .line .now) (a .user) (a .name) (a .reply .now) ∙ reading-kind (a .table .now) (a .line .now) (a .user) (a .name) (a .reply .now) (e .result) (e .ensures) (λ h. simple (rec (a .table .now) h)) (fileText (a .table .now)) (g .0 .0) (g .0 .1 .0) (g .1) i (h .result .0) (h .ensures .0) (rw (c .before .before .is-simple .ensures) at (c .before .if2 .taken)) in
+    (c .refused3 .ensures ∙ sym (ap (λ (o : Outcome). shown (o .answer)) w), sym (ap (λ (o : Outcome). o .reply) w))
+
+text-length-requires : tie.Need-text-length-requires
+text-length-requires c κs = search needs
+
+refused-requires-4 : tie.Need-refused-requires-4
+refused-requires-4 c κs = search needs
+
+returns-4 : tie.Need-returns-4
+returns-4 c =
+    let a = c .before .before .before .before .before .before .before .before .before .before .before .before .before .before .before .before .before .args in
+    let e = c .before .before .before .before .before .before .before .before .before .before .before .before .before .to-end in
+    let g = c .before .before .before .before .before .before .before .before .before .before .before .end .given in
+    let i = rw (c .before .before .before .before .before .before .before .inhibits-read .ensures) at (c .before .before .before .before .before .before .if1 .left) in
+    let h = c .before .before .before .before .before .heading-named in
+    let b = rw (c .before .before .before .before .is-simple .ensures) at (c .before .before .before .if2 .left) in
+    let n = c .before .before .text-length in
+    let w = rds-reading (a .table .now) (a .line .now) (a .user) (a .name) (a .reply .now) ∙ reading-on (a .table .now) (a .line .now) (a .user) (a .name) (a .reply .now) (e .result) (e .ensures) (λ h. simple (rec (a .table .now) h)) (fileText (a .table .now)) (g .0 .0) (g .0 .1 .0) (g .1) i (h .result .0) (h .ensures .0) b ∙ text-short (a .table .now) (a .reply .now) (h .result .0) (n .result .0) (c .before .before .before .before .before .before .before .before .before .before .before .before .before .before .before .before .before .pre) b (n .ensures .0) (omega arith) in
+    (c .refused4 .ensures ∙ sym (ap (λ (o : Outcome). shown (o .answer)) w), sym (ap (λ (o : Outcome). o .reply) w))
+
+copy-text-requires : tie.Need-copy-text-requires
+copy-text-requires c κs =
+    let b = rw (c .before .before .before .before .is-simple .ensures) at (c .before .before .before .if2 .left) in
+    (c .before .before .before .before .before .before .before .before .before .before .before .before .before .before .before .before .before .pre, not-false _ b)
+
+cast-written : tie.Need-cast-written
+cast-written c = search needs
+
+written-requires : tie.Need-written-requires
+written-requires c κs = search needs
+
+same-length : tie.Need-same-length
+same-length c = search needs
+
+returns-5 : tie.Need-returns-5
+returns-5 c =
+    let a = c .before .before .before .before .before .before .before .before .before .before .before .before .before .before .before .before .before .before .before .before .before .args in
+    let e = c .before .before .before .before .before .before .before .before .before .before .before .before .before .before .before .before .before .to-end in
+    let g = c .before .before .before .before .before .before .before .before .before .before .before .before .before .before .before .end .given in
+    let i = rw (c .before .before .before .before .before .before .before .before .before .before .before .inhibits-read .ensures) at (c .before .before .before .before .before .before .before .before .before .before .if1 .left) in
+    let h = c .before .before .before .before .before .before .before .before .before .heading-named in
+    let b = rw (c .before .before .before .before .before .before .before .before .is-simple .ensures) at (c .before .before .before .before .before .before .before .if2 .left) in
+    let n = c .before .before .before .before .before .before .text-length in
+    let w = rds-reading (a .table .now) (a .line .now) (a .user) (a .name) (a .reply .now) ∙ reading-on (a .table .now) (a .line .now) (a .user) (a .name) (a .reply .now) (e .result) (e .ensures) (λ h. simple (rec (a .table .now) h)) (fileText (a .table .now)) (g .0 .0) (g .0 .1 .0) (g .1) i (h .result .0) (h .ensures .0) b in
+    (c .written .ensures ∙ sym (ap (λ (o : Outcome). shown (o .answer)) w ∙ ap shown (text-answer (a .table .now) (a .reply .now) (h .result .0) (n .result .0) (c .before .before .before .before .before .before .before .before .before .before .before .before .before .before .before .before .before .before .before .before .before .pre) b (n .ensures .0) (omega arith))), c .before .before .before .copy-text .ensures ∙ text-reply (a .table .now) (a .reply .now) (h .result .0) (n .result .0) (c .before .before .before .before .before .before .before .before .before .before .before .before .before .before .before .before .before .before .before .before .before .pre) b (n .ensures .0) (omega arith) ∙ sym (ap (λ (o : Outcome). o .reply) w))
+
+pub rds-spec : {M : Type 1} → statement M
+rds-spec =
+    tie.close
+    (tie.spec
+    to-end-requires
+    enum-known-end
+    enum-told
+    number-requires
+    refused-requires
+    returns
+    inhibits-read-requires
+    refused-requires-2
+    returns-2
+    heading-named-requires
+    is-simple-requires
+    refused-requires-3
+    returns-3
+    text-length-requires
+    refused-requires-4
+    returns-4
+    copy-text-requires
+    cast-written
+    written-requires
+    same-length
+    returns-5)

@@ -1,0 +1,136 @@
+-- Each return is one law: 1 to 3, 4 to 9, 10, or what `grant` promises. A refusal's place fits, since no line that is counted has more
+-- than eight arguments.
+use mathlib.Core.Path.{_≡_, sym, _∙_}
+use native.Mathlib.Omega.{arith}
+use borrow.Author.Needs.{needs}
+use borrow.Author.Tests.{lt-ltb, le-ltb}
+use Rattle.elephant.proofs.Asking.{no-text, its-text}
+use Rattle.elephant.proofs.Places.{place-near}
+use Rattle.elephant.proofs.Refused.{refused-out, refused-unread, refused-long, let-through}
+use Rattle.elephant.proofs.request.Statement.{statement}
+use Rattle.elephant.proofs.request.Tie as tie
+
+entrance-number-requires : tie.Need-entrance-number-requires
+entrance-number-requires c κs = search needs
+
+refused-requires : tie.Need-refused-requires
+refused-requires c κs = search needs
+
+same-length : tie.Need-same-length
+same-length c = search needs
+
+returns : tie.Need-returns
+returns c =
+    let s = c .before .before .before .before .before .before .before .before in
+    let n = c .before .before .entrance-number in
+    refused-out (s .args .table .now) (s .args .line .now) (s .args .text .now) (s .args .reply .now) (s .args .user) (s .args .stop) (n .result) (n .ensures) (c .before .if1 .taken) _ (c .refused .ensures)
+
+read-line-requires : tie.Need-read-line-requires
+read-line-requires c κs = search needs
+
+enum-known-read : tie.Need-enum-known-read
+enum-known-read c = search needs
+
+cast-refused : tie.Need-cast-refused
+cast-refused c =
+    let s = c .before .before .before .before .before .before .before .before .before .before .before .before in
+    let g = c .before .before .read .given in
+    omega (arith, place-near (s .args .line .now) (g .0 .0) (sym (g .1) ∙ c .before .before .before .before .read-line .ensures))
+
+refused-requires-2 : tie.Need-refused-requires-2
+refused-requires-2 c κs = search needs
+
+enum-known-read-2 : tie.Need-enum-known-read-2
+enum-known-read-2 c = search needs
+
+enum-told : tie.Need-enum-told
+enum-told c = search needs
+
+grant-requires : tie.Need-grant-requires
+grant-requires c κs =
+    let s = c .before .before .before .before .before .before .before .before .before .before .before .before .before .before in
+    let n = c .before .before .before .before .before .before .before .before .entrance-number in
+    let g = c .before .before .before .before .read2 .given in
+    let q = sym (g .1) ∙ c .before .before .before .before .before .before .read-line .ensures in
+    let-through (s .args .table .now) (s .args .line .now) (s .args .text .now) (s .args .reply .now) (s .args .user) (s .args .stop) (n .result) (n .ensures) (omega arith) (g .0 .0) q (no-text (s .args .line .now) (s .args .text .now) (g .0 .0) (c .before .before .match2 .keys2))
+
+same-length-2 : tie.Need-same-length-2
+same-length-2 c = search needs
+
+same-length-3 : tie.Need-same-length-3
+same-length-3 c = search needs
+
+returns-2 : tie.Need-returns-2
+returns-2 c = c .before .before .before .before .grant .ensures
+
+refused-requires-3 : tie.Need-refused-requires-3
+refused-requires-3 c κs = search needs
+
+same-length-4 : tie.Need-same-length-4
+same-length-4 c = search needs
+
+returns-3 : tie.Need-returns-3
+returns-3 c =
+    let s = c .before .before .before .before .before .before .before .before .before .before .before .before .before .before .before in
+    let n = c .before .before .before .before .before .before .before .before .before .entrance-number in
+    let g = c .before .before .before .before .before .read2 .given in
+    let q = sym (g .1) ∙ c .before .before .before .before .before .before .before .read-line .ensures in
+    let w = its-text (s .args .line .now) (s .args .text .now) (g .0 .0) _ _ _ _ (c .before .before .enum-told .given .1) in
+    refused-long (s .args .table .now) (s .args .line .now) (s .args .text .now) (s .args .reply .now) (s .args .user) (s .args .stop) (n .result) (n .ensures) (omega arith) (g .0 .0) q (w ∙ lt-ltb 24000 _ (c .before .if2 .taken)) _ (c .refused3 .ensures)
+
+grant-requires-2 : tie.Need-grant-requires-2
+grant-requires-2 c κs =
+    let s = c .before .before .before .before .before .before .before .before .before .before .before .before .before .before .before .before in
+    let n = c .before .before .before .before .before .before .before .before .before .before .entrance-number in
+    let g = c .before .before .before .before .before .before .read2 .given in
+    let q = sym (g .1) ∙ c .before .before .before .before .before .before .before .before .read-line .ensures in
+    let w = its-text (s .args .line .now) (s .args .text .now) (g .0 .0) _ _ _ _ (c .before .before .before .enum-told .given .1) in
+    let-through (s .args .table .now) (s .args .line .now) (s .args .text .now) (s .args .reply .now) (s .args .user) (s .args .stop) (n .result) (n .ensures) (omega arith) (g .0 .0) q (w ∙ le-ltb 24000 _ (c .before .before .if2 .left))
+
+same-length-5 : tie.Need-same-length-5
+same-length-5 c = search needs
+
+returns-4 : tie.Need-returns-4
+returns-4 c =
+    let s = c .before .before .before .before .before .before .before .before .before .before .before .before .before in
+    let n = c .before .before .before .before .before .before .before .entrance-number in
+    let g = c .before .before .before .read .given in
+    let q = sym (g .1) ∙ c .before .before .before .before .before .read-line .ensures in
+    refused-unread (s .args .table .now) (s .args .line .now) (s .args .text .now) (s .args .reply .now) (s .args .user) (s .args .stop) (n .result) (n .ensures) (omega arith) (g .0 .0) q _ (c .refused2 .ensures)
+
+same-length-6 : tie.Need-same-length-6
+same-length-6 c = search needs
+
+same-length-7 : tie.Need-same-length-7
+same-length-7 c = search needs
+
+returns-5 : tie.Need-returns-5
+returns-5 c = c .before .before .before .before .grant2 .ensures
+
+pub request-spec : {M : Type 1} → statement M
+request-spec =
+    tie.close
+    (tie.spec
+    entrance-number-requires
+    refused-requires
+    same-length
+    returns
+    read-line-requires
+    enum-known-read
+    cast-refused
+    refused-requires-2
+    enum-known-read-2
+    enum-told
+    grant-requires
+    same-length-2
+    same-length-3
+    returns-2
+    refused-requires-3
+    same-length-4
+    returns-3
+    grant-requires-2
+    same-length-5
+    returns-4
+    same-length-6
+    same-length-7
+    returns-5)

@@ -1,0 +1,24 @@
+-- The paper's request that a request of the reader stands for, by the words at its offsets in the line.
+use mathlib.Core.List.{List}
+use Prim.Native.Nat.{ℕ}
+use lib.ListN.{drop}
+use Rattle.paper.specs.Line.{words}
+use Rattle.paper.specs.Request as asked
+use Rattle.paper.specs.Request.{crd, wrs, rds, cpy, dup, chn, del, dpr, lst, lstBase}
+use Rattle.reader.specs.Given.{lifetimePart, levelPart, digitPart}
+use Rattle.reader.specs.declared.request.Request.{Request}
+use Rattle.reader.specs.declared.request.Request.the-variants.{Crd, Wrs, Rds, Cpy, Dup, Chn, Del, Dpr, Lst, LstBase}
+use Rattle.ends.specs.Shown.{wordAt}
+
+abbrev pub requestMeant : List ℕ → Request → asked.Request
+requestMeant line (Crd name level digit) = crd (wordAt line name) (levelPart level) (digitPart digit)
+requestMeant line (Wrs lifetime level digit name) = wrs lifetime (levelPart level) (digitPart digit) (wordAt line name)
+requestMeant line (Rds name) = rds (wordAt line name)
+requestMeant line (Cpy old new lifetime level digit) =
+    cpy (wordAt line old) (wordAt line new) (lifetimePart lifetime) (levelPart level) (digitPart digit)
+requestMeant line (Dup old new digit) = dup (wordAt line old) (wordAt line new) (digitPart digit)
+requestMeant line (Chn old link) = chn (wordAt line old) (wordAt line link)
+requestMeant line (Del first count) = del (drop 1 (words line))
+requestMeant line (Dpr name code) = dpr (wordAt line name) code
+requestMeant line (Lst name) = lst (wordAt line name)
+requestMeant line LstBase = lstBase

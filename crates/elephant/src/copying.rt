@@ -1,0 +1,126 @@
+// CPY: a new file with the text of an old one.
+use crate::making::file;
+use crate::reply::copy_text;
+use ends::answer::Answer;
+use ends::end::Both;
+use ends::end::to_both;
+use reader::declaration::Digit;
+use reader::declaration::Level;
+use reader::declaration::Lifetime;
+use records::bytes::Room;
+use records::bytes::part;
+use records::code::Code;
+use records::entry::heading_named;
+use records::heading::Heading;
+use records::heading::is_simple;
+use records::heading::level_of;
+use records::heading::lifetime_of;
+use records::heading::text_length;
+use walk::state::State;
+ghost use mathlib.Core.Bool.{true};
+ghost use mathlib.Core.List.{[], _∷_};
+ghost use mathlib.Core.Path.{_≡_};
+ghost use Rattle.paper.specs.Effect.{making, readInhibited, notSimple, cpyPlan};
+ghost use Rattle.paper.specs.Record.{simple};
+ghost use Rattle.paper.specs.Table.{rec};
+ghost use Rattle.paper.specs.Walk.{file};
+ghost use Rattle.reader.specs.Given.{lifetimePart, levelPart, digitPart};
+ghost use Rattle.walk.specs.Shown.{meant};
+ghost use Rattle.ends.specs.Shown.{wordAt};
+ghost use Rattle.ends.specs.Placing.{ending};
+ghost use Rattle.elephant.specs.Filing.{Did, Named, copied};
+
+// The text of a simple file filed under the new name in d, after 13, 14 and 15.
+fn copy(
+    table: &mut [u8],
+    line: &[u8],
+    new: usize,
+    d: State,
+    source: Room,
+    lifetime: Lifetime,
+    level: Level,
+    digit: Digit,
+    stop: u32,
+) -> Answer
+    requires { ⌜ Named (now table) (now line) new [] × (simple (rec (now table) (source .0)) ≡ true) ⌝ }
+    ensures { λ r. ⌜ Did (now (table .entry)) stop (ending (now (table .entry)) (copied (now (table .entry)) (wordAt (now (line .entry)) new) (meant d) (source .0) (lifetimePart lifetime) (levelPart level) (digitPart digit))) r (now (table .exit)) ⌝ }
+{
+    let mut text = [0u8; 24000];
+    copy_text(table, source, &mut text);
+    let length = text_length(table, source);
+    let code = Code(digit.or_else(0));
+    let heading = Heading {
+        ty: Heading::SIMPLE,
+        level: level.or_else(level_of(table, source)),
+        code: code,
+        lifetime: lifetime.or_else(lifetime_of(table, source)),
+        length: length,
+    }.laid();
+    file(
+        table,
+        line,
+        new,
+        d,
+        2,
+        code,
+        heading,
+        part(&text, 0, length.0),
+        stop,
+    )
+}
+
+// 13, 14 and 15 of a copy of the file f to d, and the copy.
+fn cpy_in(
+    table: &mut [u8],
+    line: &[u8],
+    new: usize,
+    d: State,
+    f: State,
+    lifetime: Lifetime,
+    level: Level,
+    digit: Digit,
+    stop: u32,
+) -> Answer
+    requires { ⌜ Named (now table) (now line) new [] ⌝ }
+    ensures { λ r. ⌜ Did (now (table .entry)) stop (making (now (table .entry)) (copied (now (table .entry)) (wordAt (now (line .entry)) new) (meant d) (file (now (table .entry)) (meant f)) (lifetimePart lifetime) (levelPart level) (digitPart digit)) (readInhibited 1 (meant f) ∷ []) (notSimple 1 (now (table .entry)) (meant f) ∷ [])) r (now (table .exit)) ⌝ }
+{
+    let read = f.code;
+    if read.inhibits_read() {
+        return Answer::refused(13, 1);
+    }
+    let written = d.code;
+    if written.inhibits_write() {
+        return Answer::refused(14, 2);
+    }
+    let source = heading_named(table, f.entry);
+    if !is_simple(table, source) {
+        return Answer::refused(15, 1);
+    }
+    copy(table, line, new, d, source, lifetime, level, digit, stop)
+}
+
+// "CPY may have M or L, else takes the source's. Level: given, else U (CPY: the source's). Code: given, else 0."
+pub(crate) fn cpy(
+    table: &mut [u8],
+    line: &[u8],
+    old: usize,
+    new: usize,
+    lifetime: Lifetime,
+    level: Level,
+    digit: Digit,
+    user: u32,
+    stop: u32,
+) -> Answer
+    requires { ⌜ Named (now table) (now line) new [] ⌝ }
+    ensures { λ r. ⌜ Did (now (table .entry)) stop (cpyPlan (now (table .entry)) user (wordAt (now (line .entry)) old) (wordAt (now (line .entry)) new) (lifetimePart lifetime) (levelPart level) (digitPart digit)) r (now (table .exit)) ⌝ }
+{
+    let both = to_both(table, line, old, new, user);
+    match both {
+        Both::Off {
+            number,
+            place,
+            link: _,
+        } => Answer::refused(number, place),
+        Both::At(f, d) => cpy_in(table, line, new, d, f, lifetime, level, digit, stop),
+    }
+}

@@ -1,0 +1,127 @@
+// DEL: name by name, an entry cleared and then its file, if no other entry names it.
+use effects::beside::is_named_beside;
+use effects::rooms::text_rooms;
+use effects::stage::clear_file;
+use effects::stage::put;
+use ends::answer::Answer;
+use ends::end::End;
+use ends::end::to_end;
+use ends::placing::is_directory_peopled;
+use records::block::blocks;
+use records::bytes::Room;
+use records::entry::heading_named;
+use records::heading::text_length;
+use words::line::next_word;
+ghost use mathlib.Core.List.{[], _∷_};
+ghost use mathlib.Core.Path.{_≡_};
+ghost use Prim.Native.Nat.{_<_};
+ghost use lib.ListN.{length, take, drop};
+ghost use Rattle.paper.specs.Answer.{deleting};
+ghost use Rattle.paper.specs.Effect.{freed, delPlan};
+ghost use Rattle.paper.specs.Line.{words, word};
+ghost use Rattle.paper.specs.Record.{byte};
+ghost use Rattle.paper.specs.Store.{clear, run};
+ghost use Rattle.paper.specs.Table.{rooms, rec};
+ghost use Rattle.ends.specs.Shown.{shown, wordAt, did};
+ghost use Rattle.ends.specs.Ends.{Fit};
+ghost use Rattle.elephant.specs.Deleted.{deletedShown, deletedAnswer};
+
+// What one name came to: the stores that it needs, or its number and place.
+pub(crate) enum Deleted {
+    Passed(usize),
+    Refused { number: u8, place: u32 },
+}
+
+impl Deleted {
+    // The answer, if it was refused.
+    fn refusal(self, names: u32, stores: u32) -> Answer
+        ensures { λ r. ⌜ r ≡ shown (deletedAnswer self names stores) ⌝ }
+    {
+        match self {
+            Deleted::Passed(_) => Answer::plain(0, 0, names, stores),
+            Deleted::Refused { number, place } => Answer::plain(
+                number as u32,
+                place,
+                names,
+                stores,
+            ),
+        }
+    }
+}
+
+// An entry and its file cleared, as many of the stores as are left; handed back, how many they are.
+fn clear_both(table: &mut [u8], entry: Room, heading: Room, left: usize) -> usize
+    requires { ⌜ Fit (now table) × (heading .0 < rooms (now table)) × (byte (rec (now table) (heading .0)) 0 ≡ 1) ⌝ }
+    ensures { λ r. ⌜ (r ≡ length (clear (entry .0) ∷ freed (now (table .entry)) (heading .0))) × (now (table .exit) ≡ run (now (table .entry)) (take left (clear (entry .0) ∷ freed (now (table .entry)) (heading .0)))) ⌝ }
+{
+    let mut rooms = [0u16; 1000];
+    text_rooms(table, heading, &mut rooms);
+    let count = blocks(text_length(table, heading)).0;
+    let rest = put(table, entry, [0u8; 32], left);
+    clear_file(table, heading, &rooms, count, rest);
+    count + 2
+}
+
+// One name of a DEL at this place, with so many stores left.
+fn delete_one(
+    table: &mut [u8],
+    line: &[u8],
+    p: usize,
+    user: u32,
+    place: u32,
+    left: usize,
+) -> Deleted
+    requires { ⌜ Fit (now table) ⌝ }
+    ensures { λ r. ⌜ (r ≡ deletedShown (delPlan (now (table .entry)) user place (wordAt (now (line .entry)) p))) × (now (table .exit) ≡ did (now (table .entry)) left (delPlan (now (table .entry)) user place (wordAt (now (line .entry)) p)) .table) ⌝ }
+{
+    let end = to_end(table, line, p, user);
+    let End::At(directory, file) = end else {
+        let number = end.number();
+        return Deleted::Refused { number, place };
+    };
+    let applied = directory.code;
+    let entry = file.entry;
+    if applied.inhibits_write() {
+        return Deleted::Refused { number: 14, place };
+    }
+    let heading = heading_named(table, entry);
+    if is_named_beside(table, heading, entry) {
+        put(table, entry, [0u8; 32], left);
+        return Deleted::Passed(1);
+    }
+    if is_directory_peopled(table, heading) {
+        return Deleted::Refused { number: 18, place };
+    }
+    Deleted::Passed(clear_both(table, entry, heading, left))
+}
+
+// "DEL does walk and end checks name by name and stops at the first refusal": the words from the first on, so many.
+pub(crate) fn del(
+    table: &mut [u8],
+    line: &[u8],
+    first: usize,
+    count: u32,
+    user: u32,
+    stop: u32,
+) -> Answer
+    requires { ⌜ Fit (now table) × (first ≡ word (now line) 1 .start) × (count ≡ length (drop 1 (words (now line)))) ⌝ }
+    ensures { λ r. ⌜ (r ≡ shown (deleting (now (table .entry)) user [] stop 0 0 (drop 1 (words (now (line .entry)))) .answer)) × (now (table .exit) ≡ deleting (now (table .entry)) user [] stop 0 0 (drop 1 (words (now (line .entry)))) .table) ⌝ }
+{
+    let mut p = first;
+    let mut names: u32 = 0;
+    let mut left = stop as usize;
+    while names < count {
+        let deleted = delete_one(table, line, p, user, names + 1, left);
+        let made = stop - left as u32;
+        let Deleted::Passed(n) = deleted else {
+            return deleted.refusal(names, made);
+        };
+        if left < n {
+            return Answer::plain(22, 0, names, stop);
+        }
+        left -= n;
+        names += 1;
+        p = next_word(line, p);
+    }
+    Answer::plain(0, 0, names, stop - left as u32)
+}

@@ -1,0 +1,73 @@
+// The way in: numbers 1 to 3 and 10, and then the function that the line asks for.
+use crate::change::chn;
+use crate::change::dpr;
+use crate::copying::cpy;
+use crate::delete::del;
+use crate::making::crd;
+use crate::making::dup;
+use crate::making::wrs;
+use crate::reply::lst;
+use crate::reply::lst_base;
+use crate::reply::rds;
+use ends::answer::Answer;
+use reader::request::Request;
+ghost use mathlib.Core.List.{[]};
+ghost use mathlib.Core.Path.{_≡_};
+ghost use Rattle.paper.specs.Answer.{entrance, requested};
+ghost use Rattle.paper.specs.Request.{textTooLong};
+ghost use Rattle.elephant.specs.Meant.{requestMeant};
+ghost use Rattle.elephant.specs.Entrance.{entranceNumber};
+ghost use Rattle.elephant.specs.Admitted.{Admitted};
+ghost use Rattle.elephant.specs.Promised.{Promised};
+
+// Number 1, 2 or 3, or 0: "table length no multiple of 32, or above 65,536", "table not sound", "user above 999,999".
+pub(crate) fn entrance_number(table: &[u8], user: u32) -> u8
+    ensures { λ r. ⌜ r ≡ entranceNumber (entrance (now (table .entry)) user) ⌝ }
+{
+    let judged = judge::judge(table);
+    if judged != 0 {
+        return judged;
+    }
+    if 999999 < user {
+        return 3;
+    }
+    0
+}
+
+// What was read, done by its function.
+pub(crate) fn grant(
+    table: &mut [u8],
+    line: &[u8],
+    text: &[u8],
+    reply: &mut [u8],
+    user: u32,
+    stop: u32,
+    asked: Request,
+) -> Answer
+    requires { ⌜ Admitted (now table) (now line) (now text) user asked ⌝ }
+    ensures { λ r. ⌜ Promised (requested (now (table .entry)) (now (line .entry)) (now (text .entry)) (now (reply .entry)) user stop) r (now (table .exit)) (now (reply .exit)) ⌝ }
+{
+    match asked {
+        Request::Crd { name, level, digit } => crd(table, line, name, level, digit, user, stop),
+        Request::Wrs {
+            lifetime,
+            level,
+            digit,
+            name,
+        } => wrs(table, line, text, lifetime, level, digit, name, user, stop),
+        Request::Rds { name } => rds(table, line, reply, name, user),
+        Request::Cpy {
+            old,
+            new,
+            lifetime,
+            level,
+            digit,
+        } => cpy(table, line, old, new, lifetime, level, digit, user, stop),
+        Request::Dup { old, new, digit } => dup(table, line, old, new, digit, user, stop),
+        Request::Chn { old, link } => chn(table, line, old, link, user, stop),
+        Request::Del { first, count } => del(table, line, first, count as u32, user, stop),
+        Request::Dpr { name, code } => dpr(table, line, name, code, user, stop),
+        Request::Lst { name } => lst(table, line, reply, name, user),
+        Request::LstBase => lst_base(table, reply, user),
+    }
+}

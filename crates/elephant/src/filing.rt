@@ -1,0 +1,110 @@
+// A new entry, and before it a new file where it names one: end checks 17 to 19, the stores, the answer.
+use effects::rooms::room_at;
+use effects::rooms::text_rooms;
+use effects::stage::put;
+use effects::stage::put_texts;
+use ends::answer::Answer;
+use ends::placing::Meets;
+use ends::placing::entry_refusal;
+use ends::placing::meet;
+use ends::placing::place_entry;
+use records::block::blocks;
+use records::bytes::Bytes;
+use records::bytes::Room;
+use records::code::Code;
+use records::entry::Entry;
+use scans::find;
+use walk::state::State;
+ghost use mathlib.Core.Path.{_≡_};
+ghost use Prim.Native.Nat.{_≤_};
+ghost use lib.ListN.{length};
+ghost use Rattle.effects.specs.Stage.{Made};
+ghost use Rattle.ends.specs.Placing.{ending};
+ghost use Rattle.elephant.specs.Filing.{fileCount, fileStores, neededBy, storesBy, makingOf, Did, Ready};
+
+// A new file's heading, or no new file.
+pub(crate) struct File {
+    pub new: bool,
+    pub heading: [u8; 32],
+}
+
+// How many stores a new file has.
+fn count_file(file: File, text: &[u8]) -> usize
+    requires { ⌜ length (now text) ≤ 24000 ⌝ }
+    ensures { λ r. ⌜ r ≡ fileCount file (now (text .entry)) ⌝ }
+{
+    if file.new {
+        return blocks(Bytes(text.len())).0 + 1;
+    }
+    0
+}
+
+// "heading, text by position"
+fn put_file(table: &mut [u8], file: File, rooms: &[u16; 1002], text: &[u8], left: usize) -> usize
+    ensures { λ r. ⌜ Made (now (table .entry)) (now (table .exit)) left r (fileStores file (now (rooms .entry)) (now (text .entry))) ⌝ }
+{
+    if !file.new {
+        return left;
+    }
+    let heading = file.heading;
+    let rest = put(table, room_at(rooms, 0), heading, left);
+    put_texts(table, rooms, text, rest)
+}
+
+// How many free records are needed.
+fn needed(first: usize, displaced: bool) -> usize
+    requires { ⌜ first ≤ 1001 ⌝ }
+    ensures { λ r. ⌜ r ≡ neededBy first displaced ⌝ }
+{
+    if displaced {
+        return first;
+    }
+    first + 1
+}
+
+// How many stores there are in all.
+fn count_stores(first: usize, meets: Meets) -> u32
+    requires { ⌜ (first ≤ 1001) × (meets .count ≤ 1000) ⌝ }
+    ensures { λ r. ⌜ r ≡ storesBy first meets ⌝ }
+{
+    if meets.lost {
+        return (first + (meets.count + 2)) as u32;
+    }
+    (first + 1) as u32
+}
+
+// The entry that names a heading under a name in d, and before it the new file if there is one, on the free records in `rooms`.
+pub(crate) fn make(
+    table: &mut [u8],
+    rooms: &[u16; 1002],
+    d: State,
+    name: &[u8],
+    code: Code,
+    named: Room,
+    place: u32,
+    file: File,
+    text: &[u8],
+    stop: u32,
+) -> Answer
+    requires { ⌜ Ready (now table) (now rooms) (now name) (now text) (named .0) ⌝ }
+    ensures { λ r. ⌜ Did (now (table .entry)) stop (ending (now (table .entry)) (makingOf (now (table .entry)) place d (now (name .entry)) (code .0) (named .0) file (now (text .entry)))) r (now (table .exit)) ⌝ }
+{
+    let holder = d.holder;
+    let first = count_file(file, text);
+    let found = find(table, holder, name);
+    let meets = meet(table, found, named, room_at(rooms, first));
+    let refusal = entry_refusal(table, holder, meets, needed(first, meets.displaced), place);
+    if refusal.number != 0 {
+        return Answer::refused(refusal.number, refusal.place);
+    }
+    let entry = Entry {
+        code: code,
+        holder: holder,
+        heading: named,
+    }.laid(name);
+    let mut texts = [0u16; 1000];
+    text_rooms(table, meets.heading, &mut texts);
+    let rest = put_file(table, file, rooms, text, stop as usize);
+    place_entry(table, entry, meets, &texts, rest);
+    Answer::stored(count_stores(first, meets), stop, meets.displaced)
+}

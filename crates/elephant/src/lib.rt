@@ -1,0 +1,63 @@
+// The file box: nine functions and mending, as document 01 has them. What a caller relies on is here: two equations.
+mod change;
+mod copying;
+mod delete;
+mod entrance;
+mod filing;
+mod making;
+mod reply;
+
+use crate::entrance::entrance_number;
+use crate::entrance::grant;
+use ends::answer::Answer;
+use reader::request::Read;
+use reader::request::Request;
+use reader::request::read_line;
+ghost use mathlib.Core.List.{[]};
+ghost use Rattle.paper.specs.Answer.{requested, mending};
+ghost use Rattle.elephant.specs.Promised.{Promised};
+
+// A request on a table, by its line, its text, its user and the stop number: the answer, with the table and the reply written.
+pub fn request(
+    table: &mut [u8],
+    line: &[u8],
+    text: &[u8],
+    reply: &mut [u8],
+    user: u32,
+    stop: u32,
+) -> Answer
+    ensures { λ r. ⌜ Promised (requested (now (table .entry)) (now (line .entry)) (now (text .entry)) (now (reply .entry)) user stop) r (now (table .exit)) (now (reply .exit)) ⌝ }
+{
+    let number = entrance_number(table, user);
+    if number != 0 {
+        return Answer::refused(number, 0);
+    }
+    let read = read_line(line);
+    match read {
+        Read::Refused(refusal) => Answer::refused(refusal.number, refusal.place as u32),
+        Read::Granted(asked) => {
+            let Request::Wrs {
+                lifetime: _,
+                level: _,
+                digit: _,
+                name: _,
+            } = asked
+            else {
+                return grant(table, line, text, reply, user, stop, asked);
+            };
+            if 24000 < text.len() {
+                return Answer::refused(10, 0);
+            }
+            grant(table, line, text, reply, user, stop, asked)
+        }
+    }
+}
+
+// A table mended: its records that belong to no file cleared, exactly the first `stop` of them. "Its answer has place, names and
+// bytes 0, displaced no, and the stores made."
+pub fn mend(table: &mut [u8], stop: u32) -> Answer
+    ensures { λ r. ⌜ Promised (mending (now (table .entry)) stop) r (now (table .exit)) [] ⌝ }
+{
+    let mended = mending::mend(table, stop);
+    Answer::plain(mended.number, 0, 0, mended.stores)
+}

@@ -1,0 +1,218 @@
+// CRD and WRS: a new file and its entry. DUP: another entry of a file.
+use crate::filing::File;
+use crate::filing::make;
+use effects::rooms::free_rooms;
+use effects::rooms::room_at;
+use ends::answer::Answer;
+use ends::end::Both;
+use ends::end::to_both;
+use reader::declaration::Digit;
+use reader::declaration::Level;
+use records::bytes::Bytes;
+use records::bytes::Room;
+use records::bytes::part;
+use records::code::Code;
+use records::entry::entry_code;
+use records::entry::heading_named;
+use records::heading::Heading;
+use walk::chain::Walked;
+use walk::chain::last_name;
+use walk::chain::to_directory;
+use walk::state::State;
+ghost use mathlib.Core.List.{[]};
+ghost use Rattle.paper.specs.Effect.{making, filing, crdPlan, wrsPlan, dupPlan};
+ghost use Rattle.reader.specs.Given.{levelPart, digitPart};
+ghost use Rattle.walk.specs.Shown.{meant};
+ghost use Rattle.ends.specs.Shown.{wordAt};
+ghost use Rattle.ends.specs.Placing.{ending};
+ghost use Rattle.elephant.specs.Filing.{Did, Named, second};
+
+// A new file under the last name of the chain at `name`, in d: 17 to 19, the stores and the answer.
+pub(crate) fn file(
+    table: &mut [u8],
+    line: &[u8],
+    name: usize,
+    d: State,
+    place: u32,
+    code: Code,
+    heading: [u8; 32],
+    text: &[u8],
+    stop: u32,
+) -> Answer
+    requires { ⌜ Named (now table) (now line) name (now text) ⌝ }
+    ensures { λ r. ⌜ Did (now (table .entry)) stop (ending (now (table .entry)) (filing (now (table .entry)) place (wordAt (now (line .entry)) name) (meant d) (code .0) heading (now (text .entry)))) r (now (table .exit)) ⌝ }
+{
+    let mut rooms = [0u16; 1002];
+    free_rooms(table, &mut rooms);
+    let named = room_at(&rooms, 0);
+    let file = File {
+        new: true,
+        heading: heading,
+    };
+    make(
+        table,
+        &rooms,
+        d,
+        last_name(line, name),
+        code,
+        named,
+        place,
+        file,
+        text,
+        stop,
+    )
+}
+
+// The same where 14 is the one check before them.
+fn file_in(
+    table: &mut [u8],
+    line: &[u8],
+    name: usize,
+    d: State,
+    place: u32,
+    code: Code,
+    heading: [u8; 32],
+    text: &[u8],
+    stop: u32,
+) -> Answer
+    requires { ⌜ Named (now table) (now line) name (now text) ⌝ }
+    ensures { λ r. ⌜ Did (now (table .entry)) stop (making (now (table .entry)) (filing (now (table .entry)) place (wordAt (now (line .entry)) name) (meant d) (code .0) heading (now (text .entry))) [] []) r (now (table .exit)) ⌝ }
+{
+    let applies = d.code;
+    if applies.inhibits_write() {
+        return Answer::refused(14, place);
+    }
+    file(table, line, name, d, place, code, heading, text, stop)
+}
+
+// "CRD: heading, entry."
+pub(crate) fn crd(
+    table: &mut [u8],
+    line: &[u8],
+    name: usize,
+    level: Level,
+    digit: Digit,
+    user: u32,
+    stop: u32,
+) -> Answer
+    requires { ⌜ Named (now table) (now line) name [] ⌝ }
+    ensures { λ r. ⌜ Did (now (table .entry)) stop (crdPlan (now (table .entry)) user (wordAt (now (line .entry)) name) (levelPart level) (digitPart digit)) r (now (table .exit)) ⌝ }
+{
+    let code = Code(digit.or_else(0));
+    let heading = Heading {
+        ty: Heading::DIRECTORY,
+        level: level.or_else(0),
+        code: code,
+        lifetime: 1,
+        length: Bytes(0),
+    }.laid();
+    let walked = to_directory(table, line, name, State::start(user));
+    match walked {
+        Walked::Stopped { number, link: _ } => Answer::refused(number, 1),
+        Walked::Reached(d) => file_in(
+            table,
+            line,
+            name,
+            d,
+            1,
+            code,
+            heading,
+            part(line, 0, 0),
+            stop,
+        ),
+    }
+}
+
+// "WRS, CPY: heading, text by position, entry."
+pub(crate) fn wrs(
+    table: &mut [u8],
+    line: &[u8],
+    text: &[u8],
+    lifetime: u8,
+    level: Level,
+    digit: Digit,
+    name: usize,
+    user: u32,
+    stop: u32,
+) -> Answer
+    requires { ⌜ Named (now table) (now line) name (now text) ⌝ }
+    ensures { λ r. ⌜ Did (now (table .entry)) stop (wrsPlan (now (table .entry)) user (now (text .entry)) lifetime (levelPart level) (digitPart digit) (wordAt (now (line .entry)) name)) r (now (table .exit)) ⌝ }
+{
+    let code = Code(digit.or_else(0));
+    let heading = Heading {
+        ty: Heading::SIMPLE,
+        level: level.or_else(0),
+        code: code,
+        lifetime: lifetime,
+        length: Bytes(text.len()),
+    }.laid();
+    let walked = to_directory(table, line, name, State::start(user));
+    match walked {
+        Walked::Stopped { number, link: _ } => Answer::refused(number, 2),
+        Walked::Reached(d) => file_in(table, line, name, d, 2, code, heading, text, stop),
+    }
+}
+
+// 14, and the entry of a file that another entry names, its code joined with the declared one.
+fn dup_in(
+    table: &mut [u8],
+    line: &[u8],
+    new: usize,
+    d: State,
+    entry: Room,
+    code: Code,
+    stop: u32,
+) -> Answer
+    requires { ⌜ Named (now table) (now line) new [] ⌝ }
+    ensures { λ r. ⌜ Did (now (table .entry)) stop (making (now (table .entry)) (second (now (table .entry)) (wordAt (now (line .entry)) new) (meant d) (entry .0) (code .0)) [] []) r (now (table .exit)) ⌝ }
+{
+    let applies = d.code;
+    if applies.inhibits_write() {
+        return Answer::refused(14, 2);
+    }
+    let named = heading_named(table, entry);
+    let both = entry_code(table, entry).joined(code);
+    let mut rooms = [0u16; 1002];
+    free_rooms(table, &mut rooms);
+    let file = File {
+        new: false,
+        heading: [0u8; 32],
+    };
+    make(
+        table,
+        &rooms,
+        d,
+        last_name(line, new),
+        both,
+        named,
+        2,
+        file,
+        part(line, 0, 0),
+        stop,
+    )
+}
+
+// "DUP: entry, its code the old entry's joined with the declared one."
+pub(crate) fn dup(
+    table: &mut [u8],
+    line: &[u8],
+    old: usize,
+    new: usize,
+    digit: Digit,
+    user: u32,
+    stop: u32,
+) -> Answer
+    requires { ⌜ Named (now table) (now line) new [] ⌝ }
+    ensures { λ r. ⌜ Did (now (table .entry)) stop (dupPlan (now (table .entry)) user (wordAt (now (line .entry)) old) (wordAt (now (line .entry)) new) (digitPart digit)) r (now (table .exit)) ⌝ }
+{
+    let code = Code(digit.or_else(0));
+    let both = to_both(table, line, old, new, user);
+    match both {
+        Both::Off {
+            number,
+            place,
+            link: _,
+        } => Answer::refused(number, place),
+        Both::At(f, d) => dup_in(table, line, new, d, f.entry, code, stop),
+    }
+}

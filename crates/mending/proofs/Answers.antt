@@ -1,0 +1,99 @@
+-- The four ways of mending, by the number that the judge gives for the table without the records that go and by the count of stores.
+-- Each way is one line of the definition, with the marks' table and stores for mending's own.
+use mathlib.Core.Bool.{true, false, cond}
+use mathlib.Core.List.{List, []}
+use mathlib.Core.Logic.{_⊎_, inl, inr, _≢_}
+use mathlib.Core.Path.{_≡_, ap, _∙_}
+use Prim.Native.Nat.{ℕ, _-_, _≤_, _<_}
+use native.Mathlib.Omega.{arith}
+use native.Mathlib.Nat.{sub-zero}
+use lib.ListN.{length, take}
+use lib.Seq.{take-all}
+use borrow.Author.Tests.{le-leb, lt-leb}
+use Rattle.paper.specs.Answer.{plain, mending, mendable}
+use Rattle.paper.specs.Check.{verdict}
+use Rattle.paper.specs.Mend.{mendStores, mended}
+use Rattle.paper.specs.Sound.{sound}
+use Rattle.paper.specs.Store.{run}
+use Rattle.paper.specs.Table.{sized, rooms}
+use Rattle.judge.specs.Judged.{judged}
+use Rattle.judge_laws.specs.Mask.{without}
+use Rattle.laws.proofs.Runs.{length-run}
+use Rattle.laws.proofs.Tests.{truth, false-by}
+use Rattle.judge_laws.proofs.Records.{sized-whole}
+use Rattle.demands.proofs.MendAnswered.{MendCame, unsized, unsound, whole, cutOff, mend-came}
+use Rattle.mending.specs.declared.Mended.{Mended}
+use Rattle.mending.specs.Counted.{Counted}
+use Rattle.mending.specs.Gone.{GoneBelow, goneStores}
+use Rattle.mending.specs.Shown.{mendShown}
+use Rattle.mending.proofs.Marks.{stores-by-marks, without-gone}
+
+-- what `mend` promises of its answer and of the table after it
+abbrev pub Mends : List ℕ → ℕ → Mended → List ℕ → Type 0
+Mends t k r u = (r ≡ mendShown (mending t k .answer)) × (u ≡ mending t k .table)
+
+pub mends-unsized : (t : List ℕ) (k : ℕ) → sized t ≡ false → Mends t k (record { number = 1; stores = 0 }) t
+unfolding mending mendable verdict
+mends-unsized t k e = (rw e, rw e)
+
+module _ (t gone : List ℕ) (k n : ℕ) (s : sized t ≡ true) (g : GoneBelow t gone (rooms t)) (e : n ≡ judged (without gone t)) where
+  number-mended : n ≡ cond (sound (mended t)) 0 2
+  unfolding judged
+  number-mended =
+      let z : sized (mended t) ≡ true = unfold mended in rw length-run s in
+      e ∙ rw (without-gone t gone (sized-whole t s .0) g, z)
+
+  sound-mended : n ≡ 0 → sound (mended t) ≡ true
+  sound-mended q = go (truth (sound (mended t)))
+    where
+      go : (sound (mended t) ≡ true) ⊎ (sound (mended t) ≡ false) → sound (mended t) ≡ true
+      go (inl y) = y
+      go (inr y) = let z : n ≡ 2 = number-mended ∙ rw y in let x : ⊥ = omega arith in absurd x
+
+  pub mends-refused : n ≢ 0 → Mends t k (record { number = 2; stores = 0 }) t
+  unfolding mending mendable verdict
+  mends-refused q =
+      let y : sound (mended t) ≡ false = false-by (sound (mended t)) (λ y. q (number-mended ∙ rw y)) in
+      (rw (s, y), rw (s, y))
+
+  module _ (q : n ≡ 0) (u : List ℕ) (m : ℕ) (c : Counted t u k 0 m (goneStores gone t)) where
+    stores-mended : goneStores gone t ≡ mendStores t
+    stores-mended = stores-by-marks t gone (sized-whole t s .0) g
+
+    count-mended : m ≡ length (mendStores t)
+    count-mended = let y = ap length stores-mended in omega (arith, c .count)
+
+    table-mended : u ≡ run t (take k (mendStores t))
+    table-mended = c .table ∙ rw (sub-zero, stores-mended)
+
+    pub mends-stopped : k < m → Mends t k (record { number = 22; stores = k }) u
+    unfolding mending mendable verdict
+    mends-stopped l =
+        let y = lt-leb (length (mendStores t)) k (omega (arith, count-mended)) in
+        (rw (s, sound-mended q, y), table-mended ∙ rw (s, sound-mended q, y))
+
+    pub mends-whole : m ≤ k → Mends t k (record { number = 0; stores = m }) u
+    unfolding mending mendable verdict
+    mends-whole l =
+        let b : length (mendStores t) ≤ k = omega (arith, count-mended) in
+        let y = le-leb (length (mendStores t)) k b in
+        (rw (s, sound-mended q, y, count-mended), table-mended ∙ rw (s, sound-mended q, y, take-all k (mendStores t) b))
+
+-- "Its answer has place, names and bytes 0, displaced no, and the stores made", and there is no reply
+pub mend-answer : (t : List ℕ) (k : ℕ) → mending t k .answer ≡ plain (mending t k .answer .number) 0 0 (mending t k .answer .stores)
+mend-answer t k = go (mend-came t k)
+  where
+    go : MendCame t k (mending t k) → mending t k .answer ≡ plain (mending t k .answer .number) 0 0 (mending t k .answer .stores)
+    go (unsized a e) = rw e
+    go (unsound a b e) = rw e
+    go (whole a b l e) = rw e
+    go (cutOff a b l e) = rw e
+
+pub mend-reply : (t : List ℕ) (k : ℕ) → [] ≡ mending t k .reply
+mend-reply t k = go (mend-came t k)
+  where
+    go : MendCame t k (mending t k) → [] ≡ mending t k .reply
+    go (unsized a e) = rw e
+    go (unsound a b e) = rw e
+    go (whole a b l e) = rw e
+    go (cutOff a b l e) = rw e

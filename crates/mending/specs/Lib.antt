@@ -1,0 +1,3 @@
+pub mod Gone
+pub mod Counted
+pub mod Shown
