@@ -1,0 +1,5 @@
+pub mod FirstWord
+pub mod Cut
+pub mod Keeping
+pub mod Steps
+pub mod Spelling

@@ -1,0 +1,68 @@
+-- Digits laid after the first bytes, and one byte after them: the bytes up to there are the first ones, the digits and that byte.
+use mathlib.Core.List.{List, _++_}
+use mathlib.Core.Path.{_≡_, ap, _∙_}
+use mathlib.Core.Bool.{true, false}
+use mathlib.Core.Logic.{_⊎_, inl, inr}
+use Prim.Native.Nat.{ℕ, _+_, _-_, _^_, _≤_, _<_}
+use native.Mathlib.Nat.{pow-le-pow-right}
+use lib.Dec.{leb}
+use borrow.Author.Tests.{leb-true, leb-false}
+use Rattle.laws.proofs.Tests.{truth}
+use native.Mathlib.Omega.{arith}
+use native.Mathlib.Numerals.{add-one}
+use lib.ListN.{length, take, set, drop, length-append}
+use lib.Seq.{sets, sets-eq, length-sets, take-suc-set, take-append-seam, length-take-le}
+use Rattle.io.specs.Digits.{digits, Fewest}
+use Rattle.ends.specs.declared.answer.Answer.{Answer}
+use Rattle.filebox.specs.Spelled.{Spelled, Line}
+
+-- a number of 32 bits has at most ten digits
+pub few-digits : (n k : ℕ) → n < 4294967296 → Fewest 10 1 n k → k ≤ 10
+few-digits n k l f = go (truth (leb k 10))
+  where
+    go : (leb k 10 ≡ true) ⊎ (leb k 10 ≡ false) → k ≤ 10
+    go (inl e) = leb-true k 10 e
+    go (inr e) =
+        let h : 10 < k = leb-false k 10 e in
+        let m : 10 ≤ k - 1 = omega arith in
+        let o : 0 < 10 = omega arith in
+        let p : 10 ^ 10 ≤ 10 ^ (k - 1) = pow-le-pow-right o m in
+        let q : 10 ^ (k - 1) ≤ n = f .2 (omega arith) in
+        let z : ⊥ = omega arith in
+        absurd z
+
+-- the first bytes and those laid after them
+laid : (l d : List ℕ) (at : ℕ) → at + length d ≤ length l → take (at + length d) (sets l at d) ≡ take at l ++ d
+laid l d at h =
+    let n : length (take at l ++ d) ≡ at + length d = length-append (take at l) d ∙ ap (λ (k : ℕ). k + length d) (length-take-le at l (omega arith)) in
+    rw (sets-eq d l at h, ← n) (take-append-seam (take at l ++ d) (drop (length (take at l ++ d)) l))
+
+pub spelled : (l d l₁ l₂ : List ℕ) (at n b k : ℕ) → at + 11 ≤ length l → k ≤ 10 → k ≡ length d → Fewest 10 1 n k → d ≡ digits 10 k n → l₁ ≡ sets l at d
+    → l₂ ≡ set l₁ (at + k) b → Spelled l at n b (at + k + 1) l₂
+spelled l d l₁ l₂ at n b k room few e f g p q =
+    record {
+      number = d;
+      decimal = record { places = k; fewest = f; digits = g };
+      text = rw (q, p, add-one, take-suc-set (sets l at d) (at + k) b (omega (arith, length-sets l at d)), e, laid l d at (omega arith));
+      end = omega arith;
+    }
+
+pub lined : (a : Answer) {l l₁ l₂ l₃ l₄ l₅ l₆ : List ℕ} {p₁ p₂ p₃ p₄ p₅ p₆ : ℕ} → Spelled l 0 (a .number) 32 p₁ l₁ → Spelled l₁ p₁ (a .place) 32 p₂ l₂
+    → Spelled l₂ p₂ (a .names) 32 p₃ l₃ → Spelled l₃ p₃ (a .displaced) 32 p₄ l₄ → Spelled l₄ p₄ (a .bytes) 32 p₅ l₅ → Spelled l₅ p₅ (a .stores) 10 p₆ l₆
+    → Line a (take p₆ l₆)
+lined a s₁ s₂ s₃ s₄ s₅ s₆ =
+    record {
+      number = s₁ .number;
+      place = s₂ .number;
+      names = s₃ .number;
+      displaced = s₄ .number;
+      bytes = s₅ .number;
+      stores = s₆ .number;
+      number-is = s₁ .decimal;
+      place-is = s₂ .decimal;
+      names-is = s₃ .decimal;
+      displaced-is = s₄ .decimal;
+      bytes-is = s₅ .decimal;
+      stores-is = s₆ .decimal;
+      text = rw (s₆ .text, s₅ .text, s₄ .text, s₃ .text, s₂ .text, s₁ .text);
+    }

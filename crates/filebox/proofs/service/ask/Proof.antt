@@ -1,0 +1,48 @@
+-- The request is made on what is held of the line and of its text,
+-- which is answered as the whole of them is; its answer is what is put into words.
+use mathlib.Core.Path.{refl}
+use Rattle.filebox.proofs.Steps.{request-tells}
+use borrow.Author.Needs.{needs}
+use Rattle.filebox.proofs.service.ask.Statement.{statement}
+use Rattle.filebox.proofs.service.ask.Tie as tie
+
+first-requires : tie.Need-first-requires
+first-requires c κs = search needs
+
+first-requires-2 : tie.Need-first-requires-2
+first-requires-2 c κs = search needs
+
+request-requires : tie.Need-request-requires
+request-requires c κs = search needs
+
+spell-answer-requires : tie.Need-spell-answer-requires
+spell-answer-requires c κs = search needs
+
+cast-t19 : tie.Need-cast-t19
+cast-t19 c = search needs
+
+same-length : tie.Need-same-length
+same-length c = search needs
+
+same-length-2 : tie.Need-same-length-2
+same-length-2 c = search needs
+
+same-length-3 : tie.Need-same-length-3
+same-length-3 c = search needs
+
+returns : tie.Need-returns
+returns c = let a = c .before .before .before .before .before .before .before .before .before .before .before .before .before .before .before .before .before .before .before .args in request-tells (a .table .now) (a .line .now) (a .text .now) (a .reply .now) (a .held) (c .before .before .before .before .before .before .before .before .before .before .before .before .first .ensures) (c .before .before .before .before .before .before .before .before .before .before .before .first2 .ensures) (c .before .before .before .before .before .before .before .before .before .request .ensures) (c .before .before .before .spell-answer .ensures) refl
+
+pub ask-spec : {M : Type 1} → statement M
+ask-spec =
+    tie.close
+    (tie.spec
+    first-requires
+    first-requires-2
+    request-requires
+    spell-answer-requires
+    cast-t19
+    same-length
+    same-length-2
+    same-length-3
+    returns)

@@ -1,0 +1,53 @@
+-- A text that ends is answered, and so is a line that takes none;
+-- a line whose first word is WRS waits for its text.
+use mathlib.Core.Logic.{inl, inr}
+use mathlib.Core.Path.{refl, sym, _∙_}
+use Rattle.filebox.proofs.Steps.{answer-ends, text-asked}
+use borrow.Author.Needs.{needs}
+use Rattle.filebox.proofs.service.end.Statement.{statement}
+use Rattle.filebox.proofs.service.end.Tie as tie
+
+answer-requires : tie.Need-answer-requires
+answer-requires c κs = tt
+
+same-length : tie.Need-same-length
+same-length c = search needs
+
+same-length-2 : tie.Need-same-length-2
+same-length-2 c = search needs
+
+returns : tie.Need-returns
+returns c = let a = c .before .before .before .before .before .before .before .before .before .before .before .before .args in answer-ends (a .table .now) (a .line .now) (a .text .now) (a .reply .now) (a .held) _ _ _ (inl (c .before .before .before .before .before .before .before .if1 .taken)) (c .before .before .before .before .answer .ensures)
+
+is-wrs-requires : tie.Need-is-wrs-requires
+is-wrs-requires c κs = tt
+
+returns-2 : tie.Need-returns-2
+returns-2 c = let a = c .before .before .before .before .before .before .before .args in text-asked (a .table .now) (a .line .now) (a .text .now) (a .reply .now) (a .held) _ (c .before .before .if1 .left) (sym (c .before .is-wrs .ensures) ∙ c .if2 .taken) refl refl refl refl
+
+answer-requires-2 : tie.Need-answer-requires-2
+answer-requires-2 c κs = tt
+
+same-length-3 : tie.Need-same-length-3
+same-length-3 c = search needs
+
+same-length-4 : tie.Need-same-length-4
+same-length-4 c = search needs
+
+returns-3 : tie.Need-returns-3
+returns-3 c = let a = c .before .before .before .before .before .before .before .before .before .before .before .before .before .before .args in answer-ends (a .table .now) (a .line .now) (a .text .now) (a .reply .now) (a .held) _ _ _ (inr (sym (c .before .before .before .before .before .before .before .before .is-wrs .ensures) ∙ c .before .before .before .before .before .before .before .if2 .left)) (c .before .before .before .before .answer2 .ensures)
+
+pub end-spec : {M : Type 1} → statement M
+end-spec =
+    tie.close
+    (tie.spec
+    answer-requires
+    same-length
+    same-length-2
+    returns
+    is-wrs-requires
+    returns-2
+    answer-requires-2
+    same-length-3
+    same-length-4
+    returns-3)

@@ -1,0 +1,49 @@
+-- A line that has begun, or waits for its text, is answered;
+-- else there is nothing to answer.
+use mathlib.Core.Logic.{inl, inr}
+use native.Mathlib.Omega.{arith}
+use Rattle.filebox.proofs.Steps.{answer-finishes, nothing-finishes}
+use borrow.Author.Needs.{needs}
+use Rattle.filebox.proofs.service.finish.Statement.{statement}
+use Rattle.filebox.proofs.service.finish.Tie as tie
+
+answer-requires : tie.Need-answer-requires
+answer-requires c κs = tt
+
+same-length : tie.Need-same-length
+same-length c = search needs
+
+same-length-2 : tie.Need-same-length-2
+same-length-2 c = search needs
+
+returns : tie.Need-returns
+returns c = let a = c .before .before .before .before .before .before .before .before .before .before .before .before .args in answer-finishes (a .table .now) (a .line .now) (a .text .now) (a .reply .now) (a .held) _ _ _ (inl (c .before .before .before .before .before .before .before .if1 .taken)) (c .before .before .before .before .answer .ensures)
+
+answer-requires-2 : tie.Need-answer-requires-2
+answer-requires-2 c κs = tt
+
+same-length-3 : tie.Need-same-length-3
+same-length-3 c = search needs
+
+same-length-4 : tie.Need-same-length-4
+same-length-4 c = search needs
+
+returns-2 : tie.Need-returns-2
+returns-2 c = let a = c .before .before .before .before .before .before .before .before .before .before .before .before .before .before .args in answer-finishes (a .table .now) (a .line .now) (a .text .now) (a .reply .now) (a .held) _ _ _ (inr (omega arith)) (c .before .before .before .before .answer2 .ensures)
+
+returns-3 : tie.Need-returns-3
+returns-3 c = let a = c .before .before .before .before .before .before .before .args in nothing-finishes (a .table .now) (a .line .now) (a .text .now) (a .reply .now) (a .held) (c .before .before .if1 .left) (omega arith)
+
+pub finish-spec : {M : Type 1} → statement M
+finish-spec =
+    tie.close
+    (tie.spec
+    answer-requires
+    same-length
+    same-length-2
+    returns
+    answer-requires-2
+    same-length-3
+    same-length-4
+    returns-2
+    returns-3)

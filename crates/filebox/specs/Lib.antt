@@ -1,0 +1,4 @@
+pub mod FirstWord
+pub mod Box
+pub mod Shows
+pub mod Spelled

@@ -1,0 +1,48 @@
+// An answer as it is written to standard output.
+use ends::answer::Answer;
+use libc::STDOUT_FILENO;
+use records::store::copy_in;
+ghost use mathlib.Core.Path.{_≡_};
+ghost use Prim.Native.Nat.{_+_, _≤_};
+ghost use lib.ListN.{length, take};
+ghost use Rattle.filebox.specs.Spelled.{Spelled, Line};
+
+// A number in decimal from a place on, and a byte after it; answers the place past them.
+fn spell(out: &mut [u8], at: usize, n: u32, after: u8) -> usize
+    requires { ⌜ at + 11 ≤ length (now out) ⌝ }
+    ensures { λ r. ⌜ Spelled (now (out .entry)) at n after r (now (out .exit)) ⌝ }
+{
+    let mut digits = [0u8; 20];
+    let k = io::decimal(n as u64, &mut digits);
+    copy_in(out, at, &digits[..k]);
+    let e = at + k;
+    out[e] = after;
+    e + 1
+}
+
+// "each answer's six numbers in decimal on a line, a blank between, displaced as 0 or 1"
+pub(crate) fn spell_answer(a: Answer, out: &mut [u8]) -> usize
+    requires { ⌜ length (now out) ≡ 66 ⌝ }
+    ensures { λ r. ⌜ Line a (take r (now (out .exit))) ⌝ }
+{
+    let place = spell(out, 0, a.number, b' ');
+    let names = spell(out, place, a.place, b' ');
+    let displaced = spell(out, names, a.names, b' ');
+    let bytes = spell(out, displaced, a.displaced, b' ');
+    let stores = spell(out, bytes, a.bytes, b' ');
+    spell(out, stores, a.stores, b'\n')
+}
+
+// How many bytes of an answer's line are to be written, and how many of the reply.
+pub(crate) struct Answered {
+    pub line: usize,
+    pub reply: usize,
+}
+
+// .. "then the reply bytes". Answers whether all of it was written.
+pub(crate) fn put(line: &[u8], reply: &[u8]) -> bool {
+    if !io::write_all(STDOUT_FILENO, line) {
+        return false;
+    }
+    io::write_all(STDOUT_FILENO, reply)
+}

@@ -1,0 +1,28 @@
+// The file box for C: include/filebox.h says what a caller owes and gets.
+use ends::answer::Answer;
+ghost use mathlib.Core.List.{[]};
+ghost use Rattle.paper.specs.Answer.{requested, mending};
+ghost use Rattle.elephant.specs.Promised.{Promised};
+
+// One request on a lent table.
+#[no_mangle]
+pub extern "C" fn filebox_request(
+    table: &mut [u8],
+    line: &[u8],
+    text: &[u8],
+    reply: &mut [u8],
+    user: u32,
+    stop: u32,
+) -> Answer
+    ensures { λ r. ⌜ Promised (requested (now (table .entry)) (now (line .entry)) (now (text .entry)) (now (reply .entry)) user stop) r (now (table .exit)) (now (reply .exit)) ⌝ }
+{
+    elephant::request(table, line, text, reply, user, stop)
+}
+
+// Mending, after a power cut.
+#[no_mangle]
+pub extern "C" fn filebox_mend(table: &mut [u8], stop: u32) -> Answer
+    ensures { λ r. ⌜ Promised (mending (now (table .entry)) stop) r (now (table .exit)) [] ⌝ }
+{
+    elephant::mend(table, stop)
+}

@@ -1,0 +1,62 @@
+//! The file box for a fixture's programmer: document 01's requests and mending, from the proved static library.
+//!
+//! [`request`] and [`mend`] are the library's two calls as they are: slices and numbers in, an [`Answer`] out. [`Table`]
+//! holds the bytes of a table, owned or lent, and has a method for each thing that a fixture asks. Every call ends and
+//! answers, for every table, line, text, user and stop number. A box keeps nothing between calls but the table's bytes.
+//!
+//! The build script links `libfilebox_c.a` from the folder that FILEBOX_LIB names (a full path), or from the repository's
+//! own `target/staticlib`.
+//!
+//! File a sheet and read it back:
+//!
+//! ```
+//! use filebox::{Refused, Table};
+//!
+//! fn main() -> Result<(), Refused> {
+//!     let mut table = Table::free(16);
+//!     table.ask(1, "CRD .R")?;
+//!     table.file(1, "M.P", ".R:LIMITS", b"5.0 V")?;
+//!     assert_eq!(table.sheet(1, ".R:LIMITS")?, b"5.0 V");
+//!     assert_eq!(table.list(1, ".R")?, b"FM.P0    LIMITS\r\n");
+//!     Ok(())
+//! }
+//! ```
+//!
+//! A refusal says the number, the argument and why, and leaves the table as it was:
+//!
+//! ```
+//! use filebox::{Number, Table};
+//!
+//! let mut table = Table::free(16);
+//! let before = table.clone();
+//! let refused = table.file(1, "M", ".R:LIMITS", b"5.0 V").unwrap_err();
+//! assert_eq!(refused.answer().number, Number::NameNotThere);
+//! assert_eq!(refused.to_string(), "11: name not there (argument 2)");
+//! assert_eq!(table, before);
+//! ```
+//!
+//! The power fails after one store, and mending makes it as if nothing had been asked:
+//!
+//! ```
+//! use filebox::{Number, Table};
+//!
+//! let mut table = Table::free(16);
+//! let before = table.clone();
+//! let answer = filebox::request(table.as_mut(), b"CRD .R", b"", &mut [], 1, 1);
+//! assert_eq!((answer.number, answer.stores), (Number::Stopped, 1));
+//! assert_ne!(table, before);
+//! let mended = table.mend().unwrap();
+//! assert_eq!(mended.stores, 1);
+//! assert_eq!(table, before);
+//! ```
+#![deny(unsafe_code)]
+
+mod answer;
+mod library;
+mod number;
+mod table;
+
+pub use answer::{Answer, Refused};
+pub use library::{mend, request};
+pub use number::{NoSuchNumber, Number};
+pub use table::{Table, LONGEST_TEXT, MOST_RECORDS, NO_STOP, RECORD_BYTES};

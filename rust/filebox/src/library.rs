@@ -1,0 +1,80 @@
+//! The two functions of the static library, and the only unsafe code.
+//!
+//! The declarations are those of the library's C interface: a lent slice is a pointer and a length, the answer comes by
+//! value. Nothing but reading checks them against the library.
+#![allow(unsafe_code)]
+
+use crate::answer::{Answer, SixNumbers};
+
+extern "C" {
+    fn filebox_request(
+        table: *mut u8,
+        table_len: usize,
+        line: *const u8,
+        line_len: usize,
+        text: *const u8,
+        text_len: usize,
+        reply: *mut u8,
+        reply_len: usize,
+        user: u32,
+        stop: u32,
+    ) -> SixNumbers;
+    fn filebox_mend(table: *mut u8, table_len: usize, stop: u32) -> SixNumbers;
+}
+
+/// Do the request of a line for a user: the table is changed, the text is read, the reply buffer is written. Exactly the
+/// first `stop` stores are made.
+///
+/// ```
+/// use filebox::{request, Number};
+///
+/// let mut table = [0; 64];
+/// let answer = request(&mut table, b"CRD .R", b"", &mut [], 1, 65_535);
+/// assert_eq!((answer.number, answer.names, answer.stores), (Number::Done, 1, 2));
+/// assert_eq!(&table[32..44], &[2, 0, 255, 255, 0, 0, 1, 0, 0, 2, b'.', b'R']);
+/// ```
+pub fn request(
+    table: &mut [u8],
+    line: &[u8],
+    text: &[u8],
+    reply: &mut [u8],
+    user: u32,
+    stop: u32,
+) -> Answer {
+    // Sound: each pointer is to as many bytes as the length beside it says, readable, and writable where the slice is lent
+    // `mut`; no two of the slices overlap, since two are lent `mut` and the others are only read. The library keeps no
+    // pointer after the call. The pointer of an empty slice is never followed.
+    let six = unsafe {
+        filebox_request(
+            table.as_mut_ptr(),
+            table.len(),
+            line.as_ptr(),
+            line.len(),
+            text.as_ptr(),
+            text.len(),
+            reply.as_mut_ptr(),
+            reply.len(),
+            user,
+            stop,
+        )
+    };
+    Answer::from(six)
+}
+
+/// Mend a table: clear the headings that no entry names, then the text of no simple file. Exactly the first `stop` stores
+/// are made; a mend that was cut is run again.
+///
+/// ```
+/// use filebox::{mend, request, Number};
+///
+/// let mut table = [0; 64];
+/// request(&mut table, b"CRD .R", b"", &mut [], 1, 1);
+/// assert_eq!(mend(&mut table, 0).number, Number::Stopped);
+/// assert_eq!(mend(&mut table, 65_535).stores, 1);
+/// assert_eq!(table, [0; 64]);
+/// ```
+pub fn mend(table: &mut [u8], stop: u32) -> Answer {
+    // Sound: as above; the one slice is lent `mut`.
+    let six = unsafe { filebox_mend(table.as_mut_ptr(), table.len(), stop) };
+    Answer::from(six)
+}

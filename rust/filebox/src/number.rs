@@ -1,0 +1,186 @@
+//! Document 01's reply numbers.
+
+use std::error::Error;
+use std::fmt;
+
+/// A reply number, shown in document 01's words.
+///
+/// ```
+/// use filebox::Number;
+///
+/// assert_eq!(Number::CodeLacksBit.code(), 21);
+/// assert_eq!(Number::try_from(2), Ok(Number::TableNotSound));
+/// assert_eq!(Number::TableNotSound.to_string(), "table not sound");
+/// assert!(Number::try_from(23).is_err());
+/// ```
+#[derive(Debug, Clone, Copy, PartialEq, Eq, PartialOrd, Ord, Hash)]
+#[repr(u32)]
+pub enum Number {
+    /// Done.
+    Done = 0,
+    /// Table length no multiple of 32, or above 65,536.
+    TableLength = 1,
+    /// Table not sound.
+    TableNotSound = 2,
+    /// User above 999,999.
+    UserAbove = 3,
+    /// Line too long, or a byte outside 32..95.
+    LineUnfit = 4,
+    /// No such function, empty line.
+    NoSuchFunction = 5,
+    /// Wrong count of arguments.
+    WrongCount = 6,
+    /// Malformed name or chain.
+    MalformedName = 7,
+    /// Illegal base name (also CHN's link for a base file).
+    IllegalBaseName = 8,
+    /// Declaration malformed or unfit.
+    DeclarationUnfit = 9,
+    /// WRS text above 24,000 bytes.
+    TextAbove = 10,
+    /// Name not there.
+    NameNotThere = 11,
+    /// Name before the last is no directory.
+    NoDirectoryBefore = 12,
+    /// Read inhibited.
+    ReadInhibited = 13,
+    /// Write inhibited.
+    WriteInhibited = 14,
+    /// RDS, CPY: not simple; LST: no directory.
+    WrongType = 15,
+    /// CHN: new name borne by an entry there, itself included.
+    NameBorne = 16,
+    /// Directory or base list full, nothing displaced.
+    ListFull = 17,
+    /// File losing its last entry is a directory with entries.
+    DirectoryWithEntries = 18,
+    /// Fewer free records than the request needs.
+    FewerFreeRecords = 19,
+    /// Reply buffer too short.
+    ReplyTooShort = 20,
+    /// DPR: new code lacks a bit of the heading's.
+    CodeLacksBit = 21,
+    /// Stop number reached; the stores made stand.
+    Stopped = 22,
+}
+
+impl Number {
+    /// All numbers, from 0 to 22.
+    pub const ALL: [Number; 23] = [
+        Number::Done,
+        Number::TableLength,
+        Number::TableNotSound,
+        Number::UserAbove,
+        Number::LineUnfit,
+        Number::NoSuchFunction,
+        Number::WrongCount,
+        Number::MalformedName,
+        Number::IllegalBaseName,
+        Number::DeclarationUnfit,
+        Number::TextAbove,
+        Number::NameNotThere,
+        Number::NoDirectoryBefore,
+        Number::ReadInhibited,
+        Number::WriteInhibited,
+        Number::WrongType,
+        Number::NameBorne,
+        Number::ListFull,
+        Number::DirectoryWithEntries,
+        Number::FewerFreeRecords,
+        Number::ReplyTooShort,
+        Number::CodeLacksBit,
+        Number::Stopped,
+    ];
+
+    /// The number itself.
+    pub fn code(self) -> u32 {
+        self as u32
+    }
+
+    /// What document 01's list says of it.
+    fn given_when(self) -> &'static str {
+        match self {
+            Number::Done => "done",
+            Number::TableLength => "table length no multiple of 32, or above 65,536",
+            Number::TableNotSound => "table not sound",
+            Number::UserAbove => "user above 999,999",
+            Number::LineUnfit => "line too long, or a byte outside 32..95",
+            Number::NoSuchFunction => "no such function, empty line",
+            Number::WrongCount => "wrong count of arguments",
+            Number::MalformedName => "malformed name or chain",
+            Number::IllegalBaseName => "illegal base name (also CHN's link for a base file)",
+            Number::DeclarationUnfit => "declaration malformed or unfit",
+            Number::TextAbove => "WRS text above 24,000 bytes",
+            Number::NameNotThere => "name not there",
+            Number::NoDirectoryBefore => "name before the last is no directory",
+            Number::ReadInhibited => "read inhibited",
+            Number::WriteInhibited => "write inhibited",
+            Number::WrongType => "RDS, CPY: not simple; LST: no directory",
+            Number::NameBorne => "CHN: new name borne by an entry there, itself included",
+            Number::ListFull => "directory or base list full, nothing displaced",
+            Number::DirectoryWithEntries => {
+                "file losing its last entry is a directory with entries"
+            }
+            Number::FewerFreeRecords => "fewer free records than the request needs",
+            Number::ReplyTooShort => "reply buffer too short",
+            Number::CodeLacksBit => "DPR: new code lacks a bit of the heading's",
+            Number::Stopped => "stop number reached; the stores made stand",
+        }
+    }
+}
+
+impl fmt::Display for Number {
+    fn fmt(&self, f: &mut fmt::Formatter) -> fmt::Result {
+        f.write_str(self.given_when())
+    }
+}
+
+/// No reply number: document 01 has 0 to 22.
+#[derive(Debug, Clone, Copy, PartialEq, Eq)]
+pub struct NoSuchNumber(pub u32);
+
+impl fmt::Display for NoSuchNumber {
+    fn fmt(&self, f: &mut fmt::Formatter) -> fmt::Result {
+        write!(f, "{} is no reply number", self.0)
+    }
+}
+
+impl Error for NoSuchNumber {}
+
+impl TryFrom<u32> for Number {
+    type Error = NoSuchNumber;
+
+    fn try_from(code: u32) -> Result<Number, NoSuchNumber> {
+        let at = usize::try_from(code).ok();
+        let number = at.and_then(|at| Number::ALL.get(at));
+        number.copied().ok_or(NoSuchNumber(code))
+    }
+}
+
+#[cfg(test)]
+mod tests {
+    use super::*;
+
+    #[test]
+    fn each_number_is_its_place_in_the_list() {
+        for (code, number) in (0..).zip(Number::ALL) {
+            assert_eq!(number.code(), code);
+            assert_eq!(Number::try_from(code), Ok(number));
+        }
+    }
+
+    #[test]
+    fn no_other_number_is_one() {
+        for code in [23, 255, 256, u32::MAX] {
+            assert_eq!(Number::try_from(code), Err(NoSuchNumber(code)));
+        }
+    }
+
+    #[test]
+    fn no_two_numbers_are_shown_alike() {
+        let mut shown: Vec<String> = Number::ALL.iter().map(Number::to_string).collect();
+        shown.sort();
+        shown.dedup();
+        assert_eq!(shown.len(), Number::ALL.len());
+    }
+}

@@ -1,0 +1,122 @@
+//! A table of records, owned or lent, and what a fixture asks of it.
+
+use crate::answer::{Answer, Refused};
+use crate::library::{mend, request};
+
+/// "The table is records of 32 bytes".
+pub const RECORD_BYTES: usize = 32;
+/// "0 to 2,048 of them".
+pub const MOST_RECORDS: usize = 2_048;
+/// The longest text of a file, in bytes.
+pub const LONGEST_TEXT: usize = 24_000;
+/// A stop number that no call reaches: a call stores no record twice, so it makes 2,048 stores at most.
+pub const NO_STOP: u32 = u32::MAX;
+
+/// The bytes of the longest listing: 112 lines of a name of ten characters.
+const LONGEST_LISTING: usize = 112 * 21;
+
+/// A table: `Table` owns its bytes, `Table<&mut [u8]>` has them lent. Any bytes will do; a table that is not sound, or of
+/// a length that does not fit, is refused by every request.
+///
+/// ```
+/// use filebox::Table;
+///
+/// let mut memory = [0; 64];
+/// let mut lent = Table::of(&mut memory[..]);
+/// lent.ask(1, "CRD .R").unwrap();
+/// assert_eq!(memory[0], 1);
+/// ```
+#[derive(Debug, Clone, PartialEq, Eq, Hash)]
+pub struct Table<B = Vec<u8>> {
+    bytes: B,
+}
+
+impl Table {
+    /// So many records, all free.
+    pub fn free(records: usize) -> Table {
+        Table::of(vec![0; records * RECORD_BYTES])
+    }
+}
+
+impl<B> Table<B> {
+    /// The table of these bytes, given or lent.
+    pub fn of(bytes: B) -> Table<B> {
+        Table { bytes }
+    }
+
+    /// The bytes, handed back.
+    pub fn into_bytes(self) -> B {
+        self.bytes
+    }
+}
+
+impl<B: AsRef<[u8]>> AsRef<[u8]> for Table<B> {
+    fn as_ref(&self) -> &[u8] {
+        self.bytes.as_ref()
+    }
+}
+
+impl<B: AsMut<[u8]>> AsMut<[u8]> for Table<B> {
+    fn as_mut(&mut self) -> &mut [u8] {
+        self.bytes.as_mut()
+    }
+}
+
+impl<B: AsMut<[u8]>> Table<B> {
+    /// A request as it is, with no stop number.
+    pub fn request(&mut self, user: u32, line: &str, text: &[u8], reply: &mut [u8]) -> Answer {
+        request(self.as_mut(), line.as_bytes(), text, reply, user, NO_STOP)
+    }
+
+    /// A request that takes no text and gives no reply bytes: CRD, CPY, DUP, CHN, DEL, DPR.
+    ///
+    /// A DEL that is refused midway has done the names before:
+    ///
+    /// ```
+    /// use filebox::{Number, Table};
+    ///
+    /// let mut table = Table::free(2);
+    /// table.ask(1, "CRD .R").unwrap();
+    /// let answer = table.ask(1, "DEL .R .R").unwrap_err().answer();
+    /// assert_eq!((answer.number, answer.place, answer.names), (Number::NameNotThere, 2, 1));
+    /// assert_eq!(table, Table::free(2));
+    /// ```
+    pub fn ask(&mut self, user: u32, line: &str) -> Result<Answer, Refused> {
+        self.request(user, line, b"", &mut []).granted()
+    }
+
+    /// WRS: file a sheet under a name, as declared.
+    pub fn file(
+        &mut self,
+        user: u32,
+        declaration: &str,
+        name: &str,
+        text: &[u8],
+    ) -> Result<Answer, Refused> {
+        let line = format!("WRS {declaration} {name}");
+        self.request(user, &line, text, &mut []).granted()
+    }
+
+    /// RDS: the text of a sheet.
+    pub fn sheet(&mut self, user: u32, name: &str) -> Result<Vec<u8>, Refused> {
+        self.reply(user, &format!("RDS {name}"), LONGEST_TEXT)
+    }
+
+    /// LST: the lines of a directory; with a lone point, of the user's base files other than `.W`.
+    pub fn list(&mut self, user: u32, name: &str) -> Result<Vec<u8>, Refused> {
+        self.reply(user, &format!("LST {name}"), LONGEST_LISTING)
+    }
+
+    /// Mend the table, as the first thing after the power is back.
+    pub fn mend(&mut self) -> Result<Answer, Refused> {
+        mend(self.as_mut(), NO_STOP).granted()
+    }
+
+    /// The reply bytes of a request that gives no more than so many.
+    fn reply(&mut self, user: u32, line: &str, most: usize) -> Result<Vec<u8>, Refused> {
+        let mut reply = vec![0; most];
+        let answer = self.request(user, line, b"", &mut reply).granted()?;
+        reply.truncate(answer.bytes as usize);
+        Ok(reply)
+    }
+}
