@@ -1,42 +1,39 @@
 //! The proved judge on full tables of three shapes, as a ratio to one byte-by-byte pass over the same table in the same run.
 //! Prints a line for each shape and size, or for the one shape that is named; fails if a table is not found sound or a ratio at 2,048 records is above 4.
 use std::hint::black_box;
-use std::time::Instant;
 
 use bench_judge::{judge, tables};
+use turns::{least, nanoseconds};
 
-/// One pass that takes the bytes one by one, in order.
-fn pass(table: &[u8]) -> u64 {
-    let mut sum = 0u64;
-    for byte in table {
-        sum += u64::from(unsafe { std::ptr::read_volatile(byte) });
-    }
-    sum
-}
+/// A full table of so many records.
+type Shape = fn(usize) -> Vec<u8>;
 
-/// The nanoseconds of one run.
-fn nanoseconds(run: impl FnOnce()) -> f64 {
-    let start = Instant::now();
-    run();
-    start.elapsed().as_nanos() as f64
-}
-
-/// The least time of the judge and of the pass, in turns, so that what else the machine does falls on both.
-fn least(table: &[u8]) -> (f64, f64) {
-    let mut times = (f64::MAX, f64::MAX);
-    for _ in 0..2000 {
-        times.0 = times.0.min(nanoseconds(|| {
+/// The least time of the judge and of the pass.
+fn judge_and_pass(table: &[u8]) -> (f64, f64) {
+    least(2000, table, || {
+        nanoseconds(|| {
             black_box(judge(black_box(table)));
-        }));
-        times.1 = times.1.min(nanoseconds(|| {
-            black_box(pass(black_box(table)));
-        }));
-    }
-    times
+        })
+    })
+}
+
+/// The time on names that all fall into one bucket.
+fn show_worst() {
+    let worst = tables::collided(2048);
+    assert_eq!(judge(&worst), 0, "names that collide are sound");
+    let runs = (0..20).map(|_| {
+        nanoseconds(|| {
+            black_box(judge(black_box(&worst)));
+        })
+    });
+    println!(
+        "names chosen to collide, 2048 records: {:.0} ns",
+        runs.fold(f64::MAX, f64::min)
+    );
 }
 
 fn main() {
-    let shapes: [(&str, fn(usize) -> Vec<u8>); 3] = [
+    let shapes: [(&str, Shape); 3] = [
         ("long files", tables::long_files),
         ("small files", tables::small_files),
         ("directories", tables::directories),
@@ -54,23 +51,13 @@ fn main() {
         for records in [256, 512, 1024, 2048] {
             let table = shape(records);
             assert_eq!(judge(&table), 0, "{name} of {records} records is sound");
-            let (judged, passed) = least(&table);
+            let (judged, passed) = judge_and_pass(&table);
             let ratio = judged / passed;
             println!("{name:<12} {records:>7} {judged:>10.0} {passed:>10.0} {ratio:>6.2}");
             fit &= records < 2048 || ratio <= 4.0;
         }
     }
-    let worst = tables::collided(2048);
-    assert_eq!(judge(&worst), 0, "names that collide are sound");
-    let runs = (0..20).map(|_| {
-        nanoseconds(|| {
-            black_box(judge(black_box(&worst)));
-        })
-    });
-    println!(
-        "names chosen to collide, 2048 records: {:.0} ns",
-        runs.fold(f64::MAX, f64::min)
-    );
+    show_worst();
     if !fit {
         eprintln!("above the bar of 4 at 2,048 records");
         std::process::exit(1);

@@ -2,10 +2,7 @@
 //! `cases SEED TABLES CASES [wrong]`. The checker accepts it only where the definitions give every answer, every byte of
 //! the table and of the reply alike. With `wrong`, one number of one expected answer is off by one: it must be refused.
 
-mod lines;
-mod random;
-
-use random::Random;
+use random::{lines, Random};
 use std::fmt::Write;
 
 const HEAD: &str = "-- Random cases: the second program's outcomes, held against the definitions.
@@ -53,10 +50,11 @@ impl Story {
         ));
     }
 
+    /// One request on the table, now and then damaged first; what it left is mended.
     fn request(&mut self, random: &mut Random) {
         let line = lines::line(random);
         let length = random.pick(&[0, 1, 5, 24, 25, 30, 48]);
-        let text: Vec<u8> = (0..length).map(|_| random.below(256) as u8).collect();
+        let text = random.bytes(length);
         let reply = vec![7; random.pick(&[0, 10, 40, 60, 80])];
         let user = random.pick(&[1, 1, 1, 1, 1, 1, 1, 2, 0, 1_000_000]);
         let stop = if random.once_in(3) {
@@ -74,18 +72,9 @@ impl Story {
         let answer = beside::request(&mut after, &line, &text, &mut replied, user, stop);
         let frequent = matches!(answer.number, 2 | 3 | 7 | 8 | 9 | 11);
         if !frequent || random.once_in(6) {
-            self.met[answer.number as usize] += 1;
-            self.cases.push(format!(
-                "asks {} {} {} {} {user} {stop} {} {} {}",
-                list(&before),
-                list(&line),
-                list(&text),
-                list(&reply),
-                six(answer, self.off),
-                list(&after),
-                list(&replied)
-            ));
-            self.off = 0;
+            let lent = [before, line, text, reply].map(|bytes| list(&bytes));
+            let left = [&after, &replied].map(|bytes| list(bytes));
+            self.asks(lent.join(" "), user, stop, answer, left.join(" "));
         }
         if damaged || answer.number == 22 {
             self.mend(&after, random.pick(&[0, 1, 2, 3, 99]));
@@ -94,6 +83,35 @@ impl Story {
             beside::mend(&mut after, 65_535);
             self.table = after;
         }
+    }
+
+    /// One more case: what is lent, the answer, and what is left.
+    fn asks(&mut self, lent: String, user: u32, stop: u32, answer: beside::Answer, left: String) {
+        self.met[answer.number as usize] += 1;
+        let six = six(answer, self.off);
+        self.cases
+            .push(format!("asks {lent} {user} {stop} {six} {left}"));
+        self.off = 0;
+    }
+}
+
+/// A story on a table of few records, begun with up to four of the same requests.
+fn story(random: &mut Random, met: [u32; 23], off: u32) -> Story {
+    let rooms = if random.once_in(8) {
+        random.below(3)
+    } else {
+        4 + random.below(9)
+    };
+    let mut table = vec![0; rooms * 32];
+    let first = ["CRD .R", "CRD .W", "WRS M .R:A", "DUP .R .R:B"];
+    for line in first.iter().take(random.below(5)) {
+        beside::request(&mut table, line.as_bytes(), b"sheet", &mut [], 1, 65_535);
+    }
+    Story {
+        table,
+        cases: Vec::new(),
+        met,
+        off,
     }
 }
 
@@ -109,31 +127,8 @@ fn main() {
     let mut met = [0; 23];
     println!("{HEAD}");
     for table in 0..number(1) {
-        let rooms = if random.once_in(8) {
-            random.below(3)
-        } else {
-            4 + random.below(9)
-        };
         let off = u32::from(table == 0 && words.len() > 3);
-        let mut story = Story {
-            table: vec![0; rooms * 32],
-            cases: Vec::new(),
-            met,
-            off,
-        };
-        for line in ["CRD .R", "CRD .W", "WRS M .R:A", "DUP .R .R:B"]
-            .iter()
-            .take(random.below(5))
-        {
-            beside::request(
-                &mut story.table,
-                line.as_bytes(),
-                b"sheet",
-                &mut [],
-                1,
-                65_535,
-            );
-        }
+        let mut story = story(&mut random, met, off);
         while story.cases.len() < number(2) as usize {
             story.request(&mut random);
         }

@@ -1,6 +1,6 @@
 //! Random request lines: mostly well-formed, over few names, so that they meet each other in a small table.
 
-use crate::random::Random;
+use crate::Random;
 
 const GOOD: [&str; 11] = [
     ".R", ".W", "A", ".R:A", ".R:B", ".R:A:B", ".R:A:A", "A:B", ".G", ".ABC", ".R:-",

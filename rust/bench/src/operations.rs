@@ -1,0 +1,177 @@
+//! What is timed: calls on a table, which is set right before each turn.
+
+use filebox::{mend, request, Number, LONGEST_TEXT, NO_STOP};
+
+use crate::tables::{cut, hundred, long_text, with_long_file, with_room_for_another, USER};
+
+/// One call of the library.
+enum Call {
+    Mend,
+    Request { line: &'static str, text: Vec<u8> },
+}
+
+/// What is timed together, and on which table.
+pub struct Operation {
+    /// On the command line.
+    pub name: &'static str,
+    /// In the table that is printed.
+    pub title: &'static str,
+    /// The passes that it may take at 2,048 records.
+    pub bar: Option<f64>,
+    table: fn(usize) -> Vec<u8>,
+    calls: fn(usize) -> Vec<Call>,
+}
+
+fn asks(line: &'static str) -> Call {
+    files(line, 0)
+}
+
+fn files(line: &'static str, bytes: usize) -> Call {
+    let text = vec![b'N'; bytes];
+    Call::Request { line, text }
+}
+
+pub const OPERATIONS: [Operation; 8] = [
+    Operation {
+        name: "rds",
+        title: "RDS of 24 bytes",
+        bar: Some(5.0),
+        table: hundred,
+        calls: |_| vec![asks("RDS .R:F12")],
+    },
+    Operation {
+        name: "rds-long",
+        title: "RDS of 24,000 bytes",
+        bar: Some(6.0),
+        table: with_long_file,
+        calls: |_| vec![asks("RDS .R:LONG")],
+    },
+    Operation {
+        name: "wrs-del",
+        title: "WRS of 24 bytes, then DEL",
+        bar: Some(12.0),
+        table: hundred,
+        calls: |_| vec![files("WRS M .R:NEW", 24), asks("DEL .R:NEW")],
+    },
+    Operation {
+        name: "wrs-over",
+        title: "WRS over a file of 24,000 bytes",
+        bar: Some(12.0),
+        table: with_room_for_another,
+        calls: |records| vec![files("WRS M .R:LONG", long_text(records).len())],
+    },
+    Operation {
+        name: "lst",
+        title: "LST of 25 names",
+        bar: Some(5.0),
+        table: hundred,
+        calls: |_| vec![asks("LST .R")],
+    },
+    Operation {
+        name: "dup",
+        title: "DUP",
+        bar: Some(5.0),
+        table: hundred,
+        calls: |_| vec![asks("DUP .R:F12 .W:NEW")],
+    },
+    Operation {
+        name: "mend",
+        title: "mending a sound table",
+        bar: None,
+        table: hundred,
+        calls: |_| vec![Call::Mend],
+    },
+    Operation {
+        name: "mend-cut",
+        title: "mending a cut table",
+        bar: None,
+        table: cut,
+        calls: |_| vec![Call::Mend],
+    },
+];
+
+/// An operation, ready to be timed again and again.
+pub struct Ready {
+    pub before: Vec<u8>,
+    table: Vec<u8>,
+    reply: Vec<u8>,
+    calls: Vec<Call>,
+}
+
+impl Operation {
+    pub fn ready(&self, records: usize) -> Ready {
+        let before = (self.table)(records);
+        Ready {
+            table: before.clone(),
+            before,
+            reply: vec![0; LONGEST_TEXT],
+            calls: (self.calls)(records),
+        }
+    }
+}
+
+impl Ready {
+    /// The part that is timed: each call must be granted.
+    #[inline(never)]
+    pub fn timed(&mut self) {
+        for call in &self.calls {
+            let answer = match call {
+                Call::Mend => mend(&mut self.table, NO_STOP),
+                Call::Request { line, text } => {
+                    let (table, reply) = (&mut self.table, &mut self.reply);
+                    request(table, line.as_bytes(), text, reply, USER, NO_STOP)
+                }
+            };
+            assert_eq!(answer.number, Number::Done);
+        }
+    }
+
+    /// The table as it was, outside the timed part.
+    pub fn set_right(&mut self) {
+        self.table.copy_from_slice(&self.before);
+    }
+}
+
+#[cfg(test)]
+mod tests {
+    use super::*;
+    use filebox::Table;
+
+    fn after(name: &str, records: usize) -> (Ready, Table) {
+        let found = OPERATIONS.iter().find(|operation| operation.name == name);
+        let mut ready = found.expect("an operation").ready(records);
+        ready.timed();
+        let table = Table::of(ready.table.clone());
+        (ready, table)
+    }
+
+    #[test]
+    fn what_is_read_is_as_long_as_said() {
+        for records in [256, 512, 1024, 2048] {
+            let (_, mut table) = after("rds", records);
+            assert_eq!(table.sheet(USER, ".R:F12").map(|text| text.len()), Ok(24));
+            assert_eq!(table.list(USER, ".R").map(|list| list.len()), Ok(25 * 14));
+        }
+        let (_, mut table) = after("rds-long", 2048);
+        let long = table.sheet(USER, ".R:LONG");
+        assert_eq!(long.map(|text| text.len()), Ok(24_000));
+    }
+
+    #[test]
+    fn what_is_changed_is_as_said() {
+        for records in [256, 512, 1024, 2048] {
+            for name in ["rds", "rds-long", "lst", "wrs-del", "mend"] {
+                let (ready, table) = after(name, records);
+                assert!(table.as_ref() == ready.before, "{name}");
+            }
+            for name in ["wrs-over", "dup"] {
+                let (mut ready, table) = after(name, records);
+                assert!(table.as_ref() != ready.before, "{name}");
+                ready.set_right();
+                ready.timed();
+                assert!(table.as_ref() == ready.table, "{name}");
+            }
+            assert!(after("mend-cut", records).1.as_ref() == hundred(records));
+        }
+    }
+}

@@ -1,0 +1,186 @@
+//! A case: one call, made by the proved library and by the second program, and compared byte for byte.
+
+use crate::met::Met;
+
+/// The byte that fills a reply buffer before the call.
+pub const UNTOUCHED: u8 = 0xEE;
+
+/// What is lent and given in a request, but for the table and the stop number.
+#[derive(Debug, Clone)]
+pub struct Asked {
+    pub line: Vec<u8>,
+    pub text: Vec<u8>,
+    /// The length of the reply buffer.
+    pub reply: usize,
+    pub user: u32,
+}
+
+/// One call: a request, or mending where nothing is asked.
+#[derive(Debug, Clone)]
+pub struct Case {
+    pub table: Vec<u8>,
+    pub asked: Option<Asked>,
+    pub stop: u32,
+}
+
+/// What a call answered and left: number, place, names, displaced, bytes, stores; each byte of the table and of the reply.
+#[derive(Debug, Clone, PartialEq, Eq)]
+pub struct Outcome {
+    pub answer: [u32; 6],
+    pub table: Vec<u8>,
+    pub reply: Vec<u8>,
+}
+
+impl Outcome {
+    pub fn number(&self) -> u32 {
+        self.answer[0]
+    }
+
+    pub fn names(&self) -> u32 {
+        self.answer[2]
+    }
+
+    pub fn bytes(&self) -> usize {
+        self.answer[4] as usize
+    }
+
+    pub fn stores(&self) -> u32 {
+        self.answer[5]
+    }
+}
+
+impl Case {
+    /// A request that is not stopped.
+    pub fn request(table: &[u8], asked: Asked) -> Case {
+        Case {
+            table: table.to_vec(),
+            asked: Some(asked),
+            stop: filebox::NO_STOP,
+        }
+    }
+
+    /// Mending.
+    pub fn mend(table: &[u8], stop: u32) -> Case {
+        Case {
+            table: table.to_vec(),
+            asked: None,
+            stop,
+        }
+    }
+
+    /// The same with another stop number.
+    pub fn stopped(&self, stop: u32) -> Case {
+        Case {
+            stop,
+            ..self.clone()
+        }
+    }
+
+    /// The outcome of a call on a copy of the table and a fresh reply buffer.
+    fn outcome(&self, call: impl Fn(&mut [u8], &mut [u8]) -> [u32; 6]) -> Outcome {
+        let mut table = self.table.clone();
+        let room = self.asked.as_ref().map_or(0, |asked| asked.reply);
+        let mut reply = vec![UNTOUCHED; room];
+        let answer = call(&mut table, &mut reply);
+        Outcome {
+            answer,
+            table,
+            reply,
+        }
+    }
+
+    /// By the proved library.
+    fn proved(&self) -> Outcome {
+        self.outcome(|table, reply| {
+            let answer = match &self.asked {
+                None => filebox::mend(table, self.stop),
+                Some(Asked {
+                    line, text, user, ..
+                }) => filebox::request(table, line, text, reply, *user, self.stop),
+            };
+            [
+                answer.number.code(),
+                answer.place,
+                answer.names,
+                answer.displaced.into(),
+                answer.bytes,
+                answer.stores,
+            ]
+        })
+    }
+
+    /// By the second program.
+    pub fn beside(&self) -> Outcome {
+        self.outcome(|table, reply| {
+            let answer = match &self.asked {
+                None => beside::mend(table, self.stop),
+                Some(Asked {
+                    line, text, user, ..
+                }) => beside::request(table, line, text, reply, *user, self.stop),
+            };
+            [
+                answer.number,
+                answer.place,
+                answer.names,
+                answer.displaced,
+                answer.bytes,
+                answer.stores,
+            ]
+        })
+    }
+}
+
+/// A case that is not as it should be: what is wrong, and both outcomes.
+#[derive(Debug)]
+pub struct Difference {
+    pub case: Case,
+    pub wrong: &'static str,
+    pub proved: Outcome,
+    pub beside: Outcome,
+}
+
+/// What was compared so far.
+#[derive(Default)]
+pub struct Comparison {
+    pub met: Met,
+    /// The requests of the stories.
+    pub requests: u64,
+    /// The calls made by both: these requests again and again, and mending.
+    pub calls: u64,
+    /// The calls that were cut and then mended.
+    pub cuts: u64,
+}
+
+impl Comparison {
+    /// Make the call with both; the outcome that they agree on.
+    pub fn compare(&mut self, case: &Case) -> Result<Outcome, Box<Difference>> {
+        let (proved, beside) = (case.proved(), case.beside());
+        self.calls += 1;
+        let wrong = if proved.answer != beside.answer {
+            "the answers differ"
+        } else if proved.table != beside.table {
+            "the tables differ"
+        } else if proved.reply != beside.reply {
+            "the replies differ"
+        } else {
+            self.met.count(case, proved.number());
+            return Ok(proved);
+        };
+        Err(Box::new(Difference {
+            case: case.clone(),
+            wrong,
+            proved,
+            beside,
+        }))
+    }
+}
+
+/// Both agree on this outcome, and yet it must not be.
+pub fn must_not_be(case: &Case, wrong: &'static str, outcome: &Outcome) -> Box<Difference> {
+    Box::new(Difference {
+        case: case.clone(),
+        wrong,
+        proved: outcome.clone(),
+        beside: outcome.clone(),
+    })
+}

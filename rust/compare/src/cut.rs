@@ -1,0 +1,109 @@
+//! "Cut after any number of stores, then mended: the table before, or the table after (for DEL, after some first part of
+//! its names), byte for byte."
+
+use random::Random;
+
+use crate::case::{must_not_be, Case, Comparison, Difference, Outcome};
+
+/// Every stop number below this is tried; of the others, some.
+const ALL_BELOW: u32 = 40;
+
+/// The tables that a cut may be mended to: the table before and, for each name done, the table then. By the second
+/// program: after the least stores with so many names done.
+fn stations(case: &Case, uncut: &Outcome) -> Vec<Vec<u8>> {
+    let mut stations = vec![case.table.clone()];
+    for names in 1..uncut.names() {
+        let (mut fewer, mut enough) = (0, uncut.stores());
+        while enough - fewer > 1 {
+            let middle = fewer + (enough - fewer) / 2;
+            match case.stopped(middle).beside().names() < names {
+                true => fewer = middle,
+                false => enough = middle,
+            }
+        }
+        stations.push(case.stopped(enough).beside().table);
+    }
+    stations.push(uncut.table.clone());
+    stations
+}
+
+/// The stop numbers to try, from 0 up to the stores needed, less one.
+fn stops(random: &mut Random, needed: u32) -> Vec<u32> {
+    let mut stops: Vec<u32> = (0..needed.min(ALL_BELOW)).collect();
+    if needed > ALL_BELOW {
+        let beyond = (needed - ALL_BELOW) as usize;
+        stops.extend((0..8).map(|_| ALL_BELOW + random.below(beyond) as u32));
+        stops.extend(needed.saturating_sub(3)..needed);
+    }
+    stops.sort();
+    stops.dedup();
+    stops
+}
+
+/// Cut a storing request on a sound table at its stop numbers, and mend each cut. The stop numbers that cut nothing give
+/// what no stop number gives.
+pub fn cut_everywhere(
+    comparison: &mut Comparison,
+    random: &mut Random,
+    case: &Case,
+    uncut: &Outcome,
+) -> Result<(), Box<Difference>> {
+    let needed = uncut.stores();
+    let stations = stations(case, uncut);
+    for stop in stops(random, needed) {
+        cut_once(comparison, random, &case.stopped(stop), &stations)?;
+    }
+    for stop in [needed, needed + 1] {
+        let case = case.stopped(stop);
+        let enough = comparison.compare(&case)?;
+        if enough != *uncut {
+            return Err(must_not_be(&case, "not as with no stop number", &enough));
+        }
+    }
+    Ok(())
+}
+
+/// Cut a request once: mended, it is the table after the names done, or after one name more.
+fn cut_once(
+    comparison: &mut Comparison,
+    random: &mut Random,
+    case: &Case,
+    stations: &[Vec<u8>],
+) -> Result<(), Box<Difference>> {
+    let cut = comparison.compare(case)?;
+    if (cut.number(), cut.stores()) != (22, case.stop) {
+        return Err(must_not_be(case, "not cut at the stop number", &cut));
+    }
+    let mended = mend(comparison, random, &cut.table)?;
+    let done = cut.names() as usize;
+    let mut fit = stations[done..].iter().take(2);
+    if !fit.any(|station| *station == mended) {
+        let wrong = "mended to neither the table before nor after";
+        return Err(must_not_be(case, wrong, &cut));
+    }
+    comparison.cuts += 1;
+    Ok(())
+}
+
+/// Mend a cut table; and cut the mending itself and mend again, which must end alike.
+fn mend(
+    comparison: &mut Comparison,
+    random: &mut Random,
+    table: &[u8],
+) -> Result<Vec<u8>, Box<Difference>> {
+    let case = Case::mend(table, u32::MAX);
+    let mended = comparison.compare(&case)?;
+    if mended.number() != 0 {
+        return Err(must_not_be(&case, "a cut table is not mended", &mended));
+    }
+    if mended.stores() > 0 {
+        let stop = random.below(mended.stores() as usize) as u32;
+        let cut = comparison.compare(&case.stopped(stop))?;
+        let again = comparison.compare(&Case::mend(&cut.table, u32::MAX))?;
+        if again.table != mended.table {
+            let wrong = "mended again, it ends otherwise";
+            return Err(must_not_be(&case.stopped(stop), wrong, &cut));
+        }
+    }
+    Ok(mended.table)
+}

@@ -1,0 +1,66 @@
+//! How often each reply number was met, by function.
+
+use std::fmt;
+
+use crate::case::Case;
+
+const ROWS: [&str; 11] = [
+    "CRD", "WRS", "RDS", "CPY", "DUP", "CHN", "DEL", "DPR", "LST", "none", "mend",
+];
+const NONE: usize = 9;
+const MEND: usize = 10;
+const NUMBERS: usize = 23;
+/// How often each number must be met.
+const ENOUGH: u64 = 100;
+
+/// A count for each function and number; lines of no function, and mending, have rows of their own.
+#[derive(Default)]
+pub struct Met([[u64; NUMBERS]; ROWS.len()]);
+
+impl Met {
+    /// One more answer with this number.
+    pub fn count(&mut self, case: &Case, number: u32) {
+        let row = match &case.asked {
+            None => MEND,
+            Some(asked) => function(&asked.line),
+        };
+        self.0[row][number as usize] += 1;
+    }
+
+    fn total(&self, number: usize) -> u64 {
+        self.0.iter().map(|row| row[number]).sum()
+    }
+
+    /// The numbers met too seldom, by all calls together or, of mending's own four, by mending.
+    pub fn missed(&self) -> Vec<usize> {
+        let mending = |number| matches!(number, 0 | 1 | 2 | 22) && self.0[MEND][number] < ENOUGH;
+        let missed = |number: &usize| self.total(*number) < ENOUGH || mending(*number);
+        (0..NUMBERS).filter(missed).collect()
+    }
+}
+
+/// The row of the line's first word.
+fn function(line: &[u8]) -> usize {
+    let words = beside::words(line);
+    let first = words.first().and_then(|word| word.whole());
+    let is_first = |name: &&str| first == Some(name.as_bytes());
+    ROWS[..NONE].iter().position(is_first).unwrap_or(NONE)
+}
+
+impl fmt::Display for Met {
+    fn fmt(&self, f: &mut fmt::Formatter) -> fmt::Result {
+        write!(f, "{:>4}", "")?;
+        for row in ROWS {
+            write!(f, " {row:>7}")?;
+        }
+        writeln!(f, " {:>8}", "all")?;
+        for number in 0..NUMBERS {
+            write!(f, "{number:>4}")?;
+            for row in &self.0 {
+                write!(f, " {:>7}", row[number])?;
+            }
+            writeln!(f, " {:>8}", self.total(number))?;
+        }
+        Ok(())
+    }
+}

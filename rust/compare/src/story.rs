@@ -1,0 +1,125 @@
+//! A story: one table, the requests of several users on it, and what befalls it on the way.
+
+use random::{requests, Random};
+
+use crate::case::{must_not_be, Asked, Case, Comparison, Difference};
+use crate::cut::cut_everywhere;
+use crate::tables::{shuffled, spoiled, Start};
+
+type Told = Result<(), Box<Difference>>;
+
+/// Users that are near each other in one of the three bytes, and the highest.
+const USERS: [u32; 7] = [1, 2, 0, 257, 65_537, 999_999, 999_743];
+const TOO_HIGH: [u32; 4] = [1_000_000, 16_777_217, 0x8000_0001, u32::MAX];
+
+pub struct Story<'a> {
+    comparison: &'a mut Comparison,
+    random: &'a mut Random,
+    table: Vec<u8>,
+    long_texts: bool,
+    /// Those who ask besides user 1.
+    others: [u32; 2],
+}
+
+impl<'a> Story<'a> {
+    pub fn new(comparison: &'a mut Comparison, random: &'a mut Random, start: Start) -> Self {
+        let others = [random.pick(&USERS), random.pick(&USERS)];
+        Story {
+            comparison,
+            random,
+            table: start.table,
+            long_texts: start.long_texts,
+            others,
+        }
+    }
+
+    /// So many requests, one after the other.
+    pub fn tell(&mut self, requests: u64) -> Told {
+        for _ in 0..requests {
+            self.comparison.requests += 1;
+            if self.random.once_in(12) {
+                self.table = shuffled(self.random, &self.table);
+            }
+            let asked = self.asked();
+            match self.random.once_in(5) {
+                true => self.on_a_spoiled_table(asked)?,
+                false => self.on_the_sound_table(asked)?,
+            }
+        }
+        Ok(())
+    }
+
+    /// What is asked next, mostly by user 1.
+    fn asked(&mut self) -> Asked {
+        let random = &mut *self.random;
+        let user = match random.below(40) {
+            0 => random.pick(&TOO_HIGH),
+            1..=12 => random.pick(&self.others),
+            _ => 1,
+        };
+        let length = match random.below(32) {
+            0 => random.pick(&[24_000, 24_001, 24_024, 65_560]),
+            1..=20 if self.long_texts => random.pick(&[24_000, 24_000, 23_999, 12_000]),
+            1..=12 => random.pick(&[0, 1, 23, 24, 25, 48, 49]),
+            _ => random.below(120),
+        };
+        Asked {
+            line: requests::line(random, &self.table, user),
+            text: random.bytes(length),
+            reply: random.pick(&[0, 10, 17, 33, 100, 24_000, 24_000, 24_000]),
+            user,
+        }
+    }
+
+    /// A stop number: none, a small one, or one of the highest.
+    fn stop(&mut self) -> u32 {
+        let small = self.random.below(8) as u32;
+        self.random.pick(&[small, small, 65_535, u32::MAX])
+    }
+
+    /// The request and mending, on a copy of the table that something befell.
+    fn on_a_spoiled_table(&mut self, asked: Asked) -> Told {
+        let table = spoiled(self.random, &self.table, asked.user);
+        let case = Case::request(&table, asked).stopped(self.stop());
+        let seen = self.comparison.compare(&case)?;
+        let stop = self.stop();
+        for mend in [
+            Case::mend(&table, stop),
+            Case::mend(&table, u32::MAX),
+            Case::mend(&seen.table, u32::MAX),
+        ] {
+            self.comparison.compare(&mend)?;
+        }
+        Ok(())
+    }
+
+    /// The request, with no stop number and with all; the table after it is the story's.
+    fn on_the_sound_table(&mut self, asked: Asked) -> Told {
+        let case = Case::request(&self.table, asked);
+        let uncut = self.comparison.compare(&case)?;
+        if uncut.bytes() > 0 {
+            self.in_a_tight_reply(&case, uncut.bytes())?;
+        }
+        if uncut.stores() > 0 {
+            cut_everywhere(self.comparison, self.random, &case, &uncut)?;
+        }
+        let mend = Case::mend(&uncut.table, self.stop());
+        if self.comparison.compare(&mend)?.answer != [0; 6] {
+            return Err(must_not_be(&case, "not sound after the request", &uncut));
+        }
+        self.table = uncut.table;
+        Ok(())
+    }
+
+    /// A reply buffer of just the bytes that are written, and one byte less.
+    fn in_a_tight_reply(&mut self, case: &Case, bytes: usize) -> Told {
+        for room in [bytes, bytes - 1] {
+            let mut tight = case.clone();
+            if let Some(asked) = &mut tight.asked {
+                asked.reply = room;
+            }
+            self.comparison.compare(&tight)?;
+        }
+        Ok(())
+    }
+}

@@ -1,0 +1,178 @@
+//! Tables to begin with, and what befalls a table.
+
+use random::damage::{damage, litter};
+use random::{requests, Random};
+
+/// Make these requests of user 1 on a table, each with this text; each must be granted.
+fn grow(table: &mut [u8], lines: impl IntoIterator<Item = String>, text: &[u8]) {
+    for line in lines {
+        let answer = beside::request(table, line.as_bytes(), text, &mut [], 1, u32::MAX);
+        assert_eq!(answer.number, 0, "{line}");
+    }
+}
+
+/// A directory with so many entries, most of them loops.
+fn crowded_directory(entries: usize) -> Vec<u8> {
+    let mut table = vec![0; 140 * 32];
+    let links = (1..entries).map(|n| format!("DUP .R .R:N{n}"));
+    grow(
+        &mut table,
+        ["CRD .R", "CRD .W", "WRS M .R:A"].map(String::from),
+        b"",
+    );
+    grow(&mut table, links, b"");
+    table
+}
+
+/// A base list with so many files.
+fn crowded_base_list(files: usize) -> Vec<u8> {
+    let mut table = vec![0; 120 * 32];
+    let letter = |n: usize| char::from(b'A' + n as u8);
+    let links = (1..files).map(|n| format!("DUP .R .Z{}{}", letter(n / 10), letter(n % 10)));
+    grow(
+        &mut table,
+        ["CRD .R", "WRS M .R:A"].map(String::from),
+        b"LIMITS",
+    );
+    grow(&mut table, links, b"");
+    table
+}
+
+/// A file as long as it may be and two short ones, in so many records.
+fn long_file(records: usize) -> Vec<u8> {
+    let mut table = vec![0; records * 32];
+    let text: Vec<u8> = (0..24_000).map(|at| (at % 249) as u8).collect();
+    grow(
+        &mut table,
+        ["CRD .R", "CRD .W", "WRS L .R:A"].map(String::from),
+        &text,
+    );
+    grow(
+        &mut table,
+        ["WRS M .R:B", "WRS M A"].map(String::from),
+        b"5.0 V",
+    );
+    table
+}
+
+/// A table to begin with.
+pub struct Start {
+    pub table: Vec<u8>,
+    /// How many requests are to be made on it: a large table takes as long as many small ones.
+    pub requests: u64,
+    /// Are the texts of its requests mostly as long as they may be?
+    pub long_texts: bool,
+}
+
+/// The tables that take long to grow.
+pub struct Starts {
+    crowded: [Vec<u8>; 4],
+    long: [Vec<u8>; 3],
+}
+
+impl Starts {
+    pub fn new() -> Starts {
+        Starts {
+            crowded: [
+                crowded_directory(112),
+                crowded_directory(111),
+                crowded_base_list(100),
+                crowded_base_list(99),
+            ],
+            long: [1_020, 2_030, 2_048].map(long_file),
+        }
+    }
+
+    /// One of these, or records that are all free.
+    pub fn start(&self, random: &mut Random) -> Start {
+        let free = |records: usize| vec![0; records * 32];
+        let (table, requests, long_texts) = match random.below(64) {
+            0 => (self.long[random.below(3)].clone(), 6, true),
+            1..=32 => (self.crowded[random.below(4)].clone(), 12, false),
+            33..=46 => (free(random.below(13)), 40, false),
+            47 => (free(200 + random.below(1_849)), 20, false),
+            _ => (free(13 + random.below(50)), 160, false),
+        };
+        Start {
+            table,
+            requests,
+            long_texts,
+        }
+    }
+}
+
+/// The same table with its records in another order: sound too, and with texts that do not stand by position.
+pub fn shuffled(random: &mut Random, table: &[u8]) -> Vec<u8> {
+    let mut moved: Vec<usize> = (0..table.len() / 32).collect();
+    for at in (1..moved.len()).rev() {
+        moved.swap(at, random.below(at + 1));
+    }
+    let mut shuffled = vec![0; table.len()];
+    for (number, record) in table.chunks(32).enumerate() {
+        let after = &mut shuffled[moved[number] * 32..][..32];
+        after.copy_from_slice(record);
+        // where the record has a record's number
+        let fields: &[usize] = [&[][..], &[], &[2, 4], &[2]][usize::from(record[0])];
+        for field in fields {
+            let named = u16::from_le_bytes([record[*field], record[*field + 1]]);
+            if let Some(number) = moved.get(usize::from(named)) {
+                after[*field..*field + 2].copy_from_slice(&(*number as u16).to_le_bytes());
+            }
+        }
+    }
+    shuffled
+}
+
+/// The table left by a request that is stopped early.
+fn cut(random: &mut Random, table: &[u8], user: u32) -> Vec<u8> {
+    let mut cut = table.to_vec();
+    let line = requests::granted(random, table, user);
+    let (text, stop) = (random.bytes(60), 1 + random.below(4) as u32);
+    beside::request(&mut cut, line.as_bytes(), &text, &mut [], user, stop);
+    cut
+}
+
+/// A table that is likely not sound: damaged, littered, cut, of an odd length, too long, or rubbish.
+pub fn spoiled(random: &mut Random, table: &[u8], user: u32) -> Vec<u8> {
+    let mut spoiled = table.to_vec();
+    match random.below(16) {
+        0 => spoiled.truncate(random.below(table.len() + 1)),
+        1 => spoiled.resize(table.len() + 1 + random.below(40), 0),
+        2 => spoiled.resize(random.pick(&[65_537, 65_567, 65_568, 70_000]), 0),
+        3 => spoiled = random.bytes(table.len()),
+        4 => spoiled
+            .iter_mut()
+            .for_each(|byte| *byte = random.pick(&[0, 1, 2, 3])),
+        5..=7 => spoiled = cut(random, table, user),
+        8..=10 => litter(random, &mut spoiled),
+        _ => (0..=random.below(3)).for_each(|_| damage(random, &mut spoiled)),
+    }
+    spoiled
+}
+
+#[cfg(test)]
+mod tests {
+    use super::*;
+
+    #[test]
+    fn every_start_is_sound_in_any_order() {
+        let mut random = Random::new(1);
+        let starts = Starts::new();
+        for table in starts.crowded.iter().chain(&starts.long) {
+            assert!(beside::sound(table));
+            let other = shuffled(&mut random, table);
+            assert!(beside::sound(&other) && other != *table);
+        }
+    }
+
+    #[test]
+    fn full_lists_are_full() {
+        let refused = |mut table: Vec<u8>, line: &[u8]| {
+            beside::request(&mut table, line, b"", &mut [], 1, u32::MAX).number == 17
+        };
+        assert!(refused(crowded_directory(112), b"CRD .R:NEW"));
+        assert!(!refused(crowded_directory(111), b"CRD .R:NEW"));
+        assert!(refused(crowded_base_list(100), b"CRD .NEW"));
+        assert!(!refused(crowded_base_list(99), b"CRD .NEW"));
+    }
+}

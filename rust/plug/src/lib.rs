@@ -1,0 +1,14 @@
+//! The plug pulled for real. A host keeps its table in a file and makes every request store by store, each store one write
+//! to the file; its fixture kills it at random moments and looks at what the file holds.
+//!
+//! What is cut is the host, by SIGKILL: the file keeps every write that was made. A store is one write of one record,
+//! which is what document 01 asks of the machine below.
+
+pub mod fixture;
+pub mod host;
+mod kept;
+mod seen;
+mod sent;
+mod wire;
+
+pub use fixture::{pull, Counts};

@@ -1,0 +1,60 @@
+//! Chains of names that stand in a table, and chains that could be new there.
+
+use crate::Random;
+
+const BASE_FILE: usize = 65_535;
+
+/// Two bytes of a record as a number.
+fn two(record: &[u8], at: usize) -> usize {
+    usize::from(u16::from_le_bytes([record[at], record[at + 1]]))
+}
+
+/// The entries of a directory, or of a user's base list.
+fn entries(table: &[u8], directory: usize, user: u32) -> Vec<&[u8]> {
+    let user = if directory == BASE_FILE { user } else { 0 };
+    let user = &user.to_le_bytes()[..3];
+    let stands_there = |r: &&[u8]| r[0] == 2 && two(r, 2) == directory && &r[6..9] == user;
+    table.chunks_exact(32).filter(stands_there).collect()
+}
+
+/// A chain down from the user's base list, some way, by entries that are there; a base name where there is none.
+pub fn old(random: &mut Random, table: &[u8], user: u32) -> String {
+    let mut directory = BASE_FILE;
+    let mut names: Vec<String> = Vec::new();
+    for _ in 0..=random.below(5) {
+        let there = entries(table, directory, user);
+        if there.is_empty() || random.once_in(40) {
+            break;
+        }
+        let entry = random.pick(&there);
+        let length = usize::from(entry[9]).min(10);
+        names.push(String::from_utf8_lossy(&entry[10..10 + length]).into_owned());
+        directory = two(entry, 4);
+    }
+    match names.is_empty() {
+        true => base(random).to_string(),
+        false => names.join(":"),
+    }
+}
+
+/// A chain that could be new: a name after a chain that is there, or instead of its last name, or that chain itself.
+pub fn new(random: &mut Random, table: &[u8], user: u32) -> String {
+    let old = old(random, table, user);
+    let link = link(random);
+    match (random.below(8), old.rsplit_once(':')) {
+        (0, _) => base(random).to_string(),
+        (1..=3, Some((before, _))) => format!("{before}:{link}"),
+        (4, _) => old,
+        _ => format!("{old}:{link}"),
+    }
+}
+
+/// A link name, of few, so that they meet each other.
+pub fn link(random: &mut Random) -> &'static str {
+    random.pick(&["A", "B", "C", "AB", "B.", "-", "LONGNAME10", "_"])
+}
+
+/// A base name, of few; `A` is `.W:A`.
+pub fn base(random: &mut Random) -> &'static str {
+    random.pick(&[".R", ".W", ".W", ".G", ".T", ".AB", ".A.", "A"])
+}

@@ -1,0 +1,73 @@
+//! What the random tests share: a repeatable source of numbers, request lines, and damage to a table.
+
+pub mod chains;
+pub mod damage;
+pub mod lines;
+pub mod requests;
+
+/// A small repeatable source of numbers (xorshift), from a seed.
+pub struct Random(u64);
+
+impl Random {
+    /// The source of this seed; near seeds give unlike numbers.
+    pub fn new(seed: u64) -> Self {
+        let mut random = Random(seed.wrapping_mul(0x9E37_79B9_7F4A_7C15) | 1);
+        for _ in 0..16 {
+            random.below(2);
+        }
+        random
+    }
+
+    /// A number below `n`.
+    pub fn below(&mut self, n: usize) -> usize {
+        self.0 ^= self.0 << 13;
+        self.0 ^= self.0 >> 7;
+        self.0 ^= self.0 << 17;
+        ((self.0 >> 11) % n as u64) as usize
+    }
+
+    /// True once in `n` times.
+    pub fn once_in(&mut self, n: usize) -> bool {
+        self.below(n) == 0
+    }
+
+    /// One of these.
+    pub fn pick<T: Copy>(&mut self, from: &[T]) -> T {
+        from[self.below(from.len())]
+    }
+
+    /// So many bytes, each any.
+    pub fn bytes(&mut self, length: usize) -> Vec<u8> {
+        (0..length).map(|_| self.below(256) as u8).collect()
+    }
+}
+
+#[cfg(test)]
+mod tests {
+    use super::*;
+
+    #[test]
+    fn a_seed_gives_the_same_again_and_another_gives_others() {
+        let bytes = |seed| Random::new(seed).bytes(64);
+        assert_eq!(bytes(1971), bytes(1971));
+        assert_ne!(bytes(1971), bytes(1972));
+    }
+
+    #[test]
+    fn every_number_below_the_bound_comes() {
+        let mut random = Random::new(1);
+        let mut met = [false; 23];
+        (0..1_000).for_each(|_| met[random.below(23)] = true);
+        assert_eq!(met, [true; 23]);
+    }
+
+    #[test]
+    fn damage_changes_a_table_and_leaves_an_empty_one() {
+        let mut random = Random::new(1);
+        let mut table = random.bytes(96);
+        let before = table.clone();
+        (0..20).for_each(|_| damage::damage(&mut random, &mut table));
+        assert_ne!(table, before);
+        damage::damage(&mut random, &mut []);
+    }
+}

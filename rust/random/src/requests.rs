@@ -1,0 +1,105 @@
+//! Request lines that meet a table: well-formed and often granted, nearly well-formed, and rubbish.
+
+use crate::chains::{base, link, new, old};
+use crate::lines;
+use crate::Random;
+
+/// A declaration with this lifetime, now and then with a level, and with a digit that seldom inhibits.
+fn declaration(random: &mut Random, lifetime: &str) -> String {
+    let level = random.pick(&["", "", "U", "P", "A", "S"]);
+    let digit = match random.below(24) {
+        0 => "1",
+        1 => "2",
+        2..=5 => "4",
+        6..=8 => "0",
+        9 => random.pick(&["3", "5", "6", "7"]),
+        _ => "",
+    };
+    format!("{lifetime}.{level}{digit}")
+}
+
+/// A well-formed line of one of the nine functions over chains of the table.
+pub fn granted(random: &mut Random, table: &[u8], user: u32) -> String {
+    let (one, other) = (old(random, table, user), new(random, table, user));
+    match random.below(35) {
+        0..=5 => format!("CRD {other} {}", declaration(random, "")),
+        6..=10 => {
+            let lifetime = random.pick(&["M", "L"]);
+            format!("WRS {} {other}", declaration(random, lifetime))
+        }
+        11..=13 => {
+            let lifetime = random.pick(&["", "", "M", "L"]);
+            format!("CPY {one} {other} {}", declaration(random, lifetime))
+        }
+        14 => format!("CPY {one} {one}"),
+        15..=19 => format!("DUP {one} {other} {}", random.pick(&["-", ".", ".4", ".1"])),
+        20 => format!("DUP {one} {one}"),
+        21..=23 => format!("CHN {one} {}", renamed(random, &one)),
+        24..=26 => format!("DPR {one} .{}", random.pick(&[0, 4, 4, 6, 7, 1, 2, 3])),
+        27 => format!("DEL {one}"),
+        28 | 29 => {
+            let more = (0..random.below(8)).map(|_| old(random, table, user));
+            format!("DEL {one} {}", more.collect::<Vec<String>>().join(" "))
+        }
+        30 | 31 => format!("RDS {one}"),
+        32 | 33 => format!("LST {one}"),
+        _ => "LST .".to_string(),
+    }
+}
+
+/// A new link for the chain: for a base file mostly a base name, now and then the one that it has.
+fn renamed<'a>(random: &mut Random, chain: &'a str) -> &'a str {
+    match (random.below(8), chain.rsplit_once(':')) {
+        (0, Some((_, last))) => last,
+        (0, None) => chain,
+        (1..=5, None) => base(random),
+        _ => link(random),
+    }
+}
+
+/// The line with one to three slips: a byte left out, doubled, changed or put in, or a word taken away.
+fn slipped(random: &mut Random, line: &mut Vec<u8>) {
+    for _ in 0..=random.below(3) {
+        let at = random.below(line.len() + 1);
+        let byte = random.pick(b" :.-@:  AR017MD_`a");
+        match random.below(6) {
+            0 if at < line.len() => drop(line.remove(at)),
+            1 if at < line.len() => line.insert(at, line[at]),
+            2 if at < line.len() => line[at] = byte,
+            3 => {
+                let end = line.iter().rposition(|byte| *byte == b' ');
+                line.truncate(end.unwrap_or(line.len()));
+            }
+            _ => line.insert(at, byte),
+        }
+    }
+}
+
+/// Bytes without a meaning, or blanks and colons, or a line that is too long.
+fn rubbish(random: &mut Random) -> Vec<u8> {
+    let length = random.pick(&[0, 1, 2, 3, 9, 40, 255, 256, 257, 300]);
+    match random.below(4) {
+        0 => random.bytes(length),
+        1 => (0..length).map(|_| random.pick(b" :.A")).collect(),
+        2 => (0..length).map(|_| 32 + random.below(64) as u8).collect(),
+        _ => {
+            let mut line = lines::line(random);
+            line.resize(line.len().max(length), b' ');
+            line
+        }
+    }
+}
+
+/// A line: mostly one that is often granted, now and then nearly one, over names that are not there, or rubbish.
+pub fn line(random: &mut Random, table: &[u8], user: u32) -> Vec<u8> {
+    match random.below(16) {
+        0 => rubbish(random),
+        1 | 2 => lines::line(random),
+        3 => {
+            let mut line = granted(random, table, user).into_bytes();
+            slipped(random, &mut line);
+            line
+        }
+        _ => granted(random, table, user).into_bytes(),
+    }
+}
