@@ -1,7 +1,7 @@
 -- A refusal's promise, and a function's: made without the reply or without the stop number, it is `granted`'s for each of three kinds of
 -- request, those that store, those that write, and DEL.
 use mathlib.Core.List.{List, []}
-use mathlib.Core.Path.{_≡_, refl, sym, ap, _∙_}
+use mathlib.Core.Path.{_≡_, sym, ap, _∙_}
 use Prim.Native.Nat.{ℕ}
 use Rattle.paper.specs.Line.{Word}
 use Rattle.paper.specs.Effect.{Planned}

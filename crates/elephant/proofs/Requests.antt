@@ -3,22 +3,22 @@
 use mathlib.Core.Bool.{true, false, _&&_}
 use mathlib.Core.List.{List, [], _∷_}
 use mathlib.Core.Path.{_≡_, refl, sym, ap, _∙_, subst}
-use Prim.Native.Nat.{ℕ, suc, _≤_, _<_}
+use Prim.Native.Nat.{ℕ, _≤_}
 use native.Mathlib.Omega.{arith}
 use lib.Dec.{leb}
 use lib.ListN.{length, getD, drop}
 use borrow.Author.Tests.{leb-true}
-use Rattle.paper.specs.Check.{Refusal, Verdict, passed, refused, check, verdict}
+use Rattle.paper.specs.Check.{Refusal, passed, refused, check}
 use Rattle.paper.specs.Line.{Word, words, word}
 use Rattle.paper.specs.Request as paper
 use Rattle.paper.specs.Request.{crd, wrs, rds, cpy, dup, chn, del, dpr, lst, lstBase, request, unread, read, textTooLong, readAs, withText, asked}
-use Rattle.paper.specs.Answer.{Outcome, refusing, admitted, acted, granted, requested, entrance}
+use Rattle.paper.specs.Answer.{refusing, acted, granted, requested, entrance}
 use Rattle.paper.specs.Name.{all, inName, linkName}
 use Rattle.paper.specs.Walk.{lastName}
 use Rattle.laws.proofs.Tests.{and-left, and-right, clash}
 use Rattle.demands.proofs.Read.{Told, Right, read-right}
-use Rattle.reader.specs.Asked.{firstStart, shownRequest, shownRefusal, shownRead}
-use Rattle.reader.specs.Tied.{Tied, TiedRead}
+use Rattle.reader.specs.Asked.{firstStart, shownRefusal, shownRead}
+use Rattle.reader.specs.Tied.{TiedRead}
 use Rattle.reader.specs.declared.request.Request.{Request}
 use Rattle.reader.specs.declared.request.Request.the-variants.{Del}
 use Rattle.reader.specs.declared.request.Refusal as given

@@ -1,18 +1,16 @@
 -- One name of a DEL: refused, cut by the stop number, or done; then what is left of the names, with what is left of the stores, is the
 -- whole. A name done leaves the table sound, so the next one may be tried.
-use mathlib.Core.Bool.{Bool, true, false, cond}
 use mathlib.Core.List.{List, [], _∷_}
-use mathlib.Core.Path.{_≡_, refl, sym, ap, _∙_}
+use mathlib.Core.Path.{_≡_, refl, sym, _∙_}
 use Prim.Native.Nat.{ℕ, suc, _+_, _-_, _≤_, _<_}
 use native.Mathlib.Omega.{arith}
 use native.Mathlib.Numerals.{add-one}
-use lib.ListN.{length, take, drop, drop-of-length-le}
-use lib.Seq.{take-all, drop-cons}
+use lib.ListN.{length, drop, drop-of-length-le}
+use lib.Seq.{drop-cons}
 use borrow.Author.Tests.{le-leb, lt-leb}
 use Rattle.paper.specs.Check.{Verdict, passed, refused, verdict}
 use Rattle.paper.specs.Line.{Word, words, word}
-use Rattle.paper.specs.Store.{run}
-use Rattle.paper.specs.Effect.{Plan, Planned, plan, halted, delPlan}
+use Rattle.paper.specs.Effect.{Planned, plan, halted, delPlan}
 use Rattle.paper.specs.Answer.{Outcome, plain, stores, ran, oneName, deleting}
 use Rattle.words.specs.Place.{nextWord}
 use Rattle.words.proofs.Words.{word-here, word-next}

@@ -2,9 +2,8 @@
 -- With no reply the answer is `stored`, and the table after is the first k stores, all of them where they are no more than k.
 use mathlib.Core.Bool.{Bool, true, false, cond}
 use mathlib.Core.List.{List, [], _∷_, _++_}
-use mathlib.Core.Path.{_≡_, refl, sym, ap, _∙_}
+use mathlib.Core.Path.{_≡_, refl, ap, _∙_}
 use Prim.Native.Nat.{ℕ, _≤_, _<_}
-use native.Mathlib.Omega.{arith}
 use lib.Dec.{leb}
 use lib.ListN.{length, take, drop}
 use lib.Seq.{take-all}
@@ -12,7 +11,7 @@ use borrow.Author.Tests.{leb-true, lt-ltb, le-ltb}
 use Rattle.paper.specs.Check.{Refusal, Check, Verdict, passed, refused, verdict}
 use Rattle.paper.specs.Store.{Store, run}
 use Rattle.paper.specs.Effect.{Plan, plan, tooShort, storing, writing}
-use Rattle.paper.specs.Answer.{Outcome, plain, stores, ran, single, refusing}
+use Rattle.paper.specs.Answer.{plain, stores, ran, single, refusing}
 use Rattle.ends.specs.Shown.{stored, written, did}
 
 -- ---- checks

@@ -13,7 +13,7 @@ use Rattle.paper.specs.Store.{Store}
 use Rattle.paper.specs.Code.{noWrite}
 use Rattle.paper.specs.Line.{Word}
 use Rattle.paper.specs.Walk as W
-use Rattle.paper.specs.Walk.{start, toDirectory, stopped}
+use Rattle.paper.specs.Walk.{start, toDirectory}
 use Rattle.paper.specs.Answer.{Outcome, plain, single, stores, done, cut}
 use Rattle.paper.specs.Effect.{Plan, Planned, plan, Making, making, toHolder, chainOf}
 use Rattle.laws.proofs.Lists.{length-each, getD-each}

@@ -6,7 +6,7 @@ use lib.Dec.{eqb, ltb}
 use lib.ListN.{length}
 use Rattle.paper.specs.Record.{headingNamed, directory}
 use Rattle.paper.specs.Table.{rec, frees}
-use Rattle.paper.specs.Check.{Check, check, Verdict, passed, refused, verdict}
+use Rattle.paper.specs.Check.{Check, check, Verdict, passed, refused}
 use Rattle.paper.specs.Entry.{Holder, full, peopled}
 use Rattle.paper.specs.Block.{blocksOf}
 use Rattle.paper.specs.Store.{Store, puts}

@@ -1,9 +1,7 @@
 // "An answer has: number; place ..; names done; displaced or not; bytes written; stores made."
-ghost use mathlib.Core.Bool.{cond};
 ghost use mathlib.Core.Path.{_≡_};
 ghost use Prim.Native.Nat.{_<_};
-ghost use lib.Dec.{leb};
-ghost use Rattle.paper.specs.Answer.{plain, yesNo};
+ghost use Rattle.paper.specs.Answer.{plain};
 ghost use Rattle.ends.specs.Shown.{shown, stored, written};
 
 #[repr(C)]

@@ -40,17 +40,28 @@ fn stops(random: &mut Random, needed: u32) -> Vec<u32> {
     stops
 }
 
-/// Cut a storing request on a sound table at its stop numbers, and mend each cut. The stop numbers that cut nothing give
-/// what no stop number gives.
+/// Cut a storing request on a sound table at its stop numbers, and mend each cut.
 pub fn cut_everywhere(
     comparison: &mut Comparison,
     random: &mut Random,
     case: &Case,
     uncut: &Outcome,
 ) -> Result<(), Box<Difference>> {
+    let chosen = stops(random, uncut.stores());
+    cut_at(comparison, random, case, uncut, &chosen)
+}
+
+/// Cut it at these stop numbers. Those that cut nothing give what no stop number gives.
+fn cut_at(
+    comparison: &mut Comparison,
+    random: &mut Random,
+    case: &Case,
+    uncut: &Outcome,
+    chosen: &[u32],
+) -> Result<(), Box<Difference>> {
     let needed = uncut.stores();
     let stations = stations(case, uncut);
-    for stop in stops(random, needed) {
+    for &stop in chosen {
         cut_once(comparison, random, &case.stopped(stop), &stations)?;
     }
     for stop in [needed, needed + 1] {
@@ -106,4 +117,36 @@ fn mend(
         }
     }
     Ok(mended.table)
+}
+
+#[cfg(test)]
+mod tests {
+    use super::*;
+    use crate::case::Asked;
+    use crate::tables::long_file;
+
+    /// The most stores that a request can need: a file as long as it may be, written over one as long.
+    #[test]
+    fn the_longest_request_is_cut_at_every_store() {
+        let mut comparison = Comparison::default();
+        let asked = Asked {
+            line: b"WRS M .R:A".to_vec(),
+            text: vec![b'X'; 24_000],
+            reply: 0,
+            user: 1,
+        };
+        let case = Case::request(&long_file(2048), asked);
+        let uncut = comparison.compare(&case).expect("both do the same");
+        assert_eq!((uncut.number(), uncut.stores()), (0, 2003));
+        let every: Vec<u32> = (0..uncut.stores()).collect();
+        cut_at(
+            &mut comparison,
+            &mut Random::new(1971),
+            &case,
+            &uncut,
+            &every,
+        )
+        .expect("every cut is mended to the table before or after");
+        assert_eq!(comparison.cuts, 2003);
+    }
 }

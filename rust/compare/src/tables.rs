@@ -39,7 +39,7 @@ fn crowded_base_list(files: usize) -> Vec<u8> {
 }
 
 /// A file as long as it may be and two short ones, in so many records.
-fn long_file(records: usize) -> Vec<u8> {
+pub fn long_file(records: usize) -> Vec<u8> {
     let mut table = vec![0; records * 32];
     let text: Vec<u8> = (0..24_000).map(|at| (at % 249) as u8).collect();
     grow(

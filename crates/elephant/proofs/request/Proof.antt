@@ -1,6 +1,6 @@
 -- Each return is one law: 1 to 3, 4 to 9, 10, or what `grant` promises. A refusal's place fits, since no line that is counted has more
 -- than eight arguments.
-use mathlib.Core.Path.{_≡_, sym, _∙_}
+use mathlib.Core.Path.{sym, _∙_}
 use native.Mathlib.Omega.{arith}
 use borrow.Author.Needs.{needs}
 use borrow.Author.Tests.{lt-ltb, le-ltb}

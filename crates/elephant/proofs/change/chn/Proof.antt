@@ -1,6 +1,6 @@
 -- Each return is one case of `chnPlan`: the walk stopped, number 14, number 16, or the one store made. The entry is in the table,
 -- since the walk found it, so its record laid again is whole; and a name of ten bytes at most is kept whole.
-use mathlib.Core.Path.{_≡_, sym, ap, _∙_}
+use mathlib.Core.Path.{sym, ap, _∙_}
 use borrow.Author.Needs.{needs}
 use Rattle.paper.specs.Answer.{Outcome}
 use Rattle.ends.specs.Shown.{shown}

@@ -1,6 +1,6 @@
 -- Each return is one case of `dprPlan`: the walk stopped, number 14, number 21, or the one store made. The heading that the last
 -- entry names is in the table, since the table is sound, so its record laid again is whole.
-use mathlib.Core.Path.{_≡_, sym, ap, _∙_}
+use mathlib.Core.Path.{sym, ap, _∙_}
 use borrow.Author.Needs.{needs}
 use Rattle.paper.specs.Answer.{Outcome}
 use Rattle.ends.specs.Shown.{shown}

@@ -1,7 +1,5 @@
 -- The entry is one stage and its file the next: joined they are the entry cleared and the file freed. A sound table's file has at most
 -- 1,000 blocks, whose rooms are listed before the first store.
-use mathlib.Core.Path.{_≡_, sym, ap, _∙_}
-use native.Mathlib.Omega.{arith}
 use borrow.Author.Needs.{needs}
 use Rattle.paper.specs.Record.{blank}
 use Rattle.elephant.proofs.Clearings.{cleared-length, cleared-table}

@@ -1,12 +1,10 @@
 -- What is left of the names is the whole: a name done leaves the table sound, and the word after it is the next name.
 -- The measure is the names not yet done.
-use mathlib.Core.Path.{_≡_, sym, ap, _∙_}
-use Prim.Native.Nat.{_-_, _+_, _≤_, _<_}
+use mathlib.Core.Path.{sym, ap, _∙_}
+use Prim.Native.Nat.{_-_}
 use native.Mathlib.Omega.{arith}
-use lib.ListN.{length, drop}
 use borrow.Author.Needs.{needs}
 use Rattle.paper.specs.Answer.{Outcome}
-use Rattle.paper.specs.Line.{words}
 use Rattle.ends.specs.Shown.{shown}
 use Rattle.elephant.proofs.Turns.{Deleting, deleting-start, deleting-end, deleting-refused, deleting-cut, deleting-on}
 use Rattle.elephant.proofs.delete.del.Statement.{statement}

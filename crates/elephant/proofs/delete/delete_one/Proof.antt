@@ -1,9 +1,7 @@
 -- Each return is one case of `delPlan`: the walk stopped, 14, another entry names the file, 18, or the file is cleared too.
 -- The entry and the heading that it names are in the table, since the walk found the one and the table is sound.
-use mathlib.Core.Path.{_≡_, sym, ap, _∙_}
 use borrow.Author.Needs.{needs}
 use Rattle.paper.specs.Record.{blank}
-use Rattle.elephant.specs.declared.delete.Deleted.the-variants.{Refused}
 use Rattle.ends.proofs.Reached.{fit-reached}
 use Rattle.elephant.proofs.Clearings.{del-off, del-write, del-kept, del-peopled, del-freed}
 use Rattle.elephant.proofs.delete.delete_one.Statement.{statement}

@@ -1,6 +1,5 @@
 -- The judge's number where it is not 0, then the user's test: the first of the three checks that holds.
 -- Assumes nothing.
-use mathlib.Core.Path.{_≡_, sym, ap, _∙_}
 use native.Mathlib.Omega.{arith}
 use borrow.Author.Needs.{needs}
 use Rattle.elephant.proofs.Entering.{entered-judged, entered-over, entered-user}

@@ -1,6 +1,5 @@
 -- Each arm: what was read gives what its function requires, and that function's promise is the request's.
 -- The laws stand in `Granted`, one of each kind for a function.
-use mathlib.Core.Path.{_≡_, sym, _∙_}
 use native.Mathlib.Omega.{arith}
 use borrow.Author.Needs.{needs}
 use Rattle.elephant.proofs.Granted.{crd-ready, wrs-ready, cpy-ready, dup-ready, chn-ready, del-ready, crd-done, wrs-done, rds-done, cpy-done, dup-done, chn-done, del-done, dpr-done, lst-done, lst-base-done}

@@ -1,6 +1,6 @@
 -- The lines do not fit, or they are written to the front: the two cases of `writing`, chosen by the same test.
 -- On a sound table what is written is what document 01 lists.
-use mathlib.Core.Path.{_≡_, sym, ap, _∙_}
+use mathlib.Core.Path.{sym, ap, _∙_}
 use Prim.Native.Nat.{_≤_}
 use native.Mathlib.Omega.{arith}
 use lib.ListN.{length}

@@ -1,7 +1,6 @@
 -- Each return is one case of `lstPlan`: the walk stopped, 13, 15, or what the listing of that directory answers.
 -- Assumes nothing.
-use mathlib.Core.Path.{_≡_, sym, ap, _∙_}
-use native.Mathlib.Omega.{arith}
+use mathlib.Core.Path.{sym, ap, _∙_}
 use borrow.Author.Needs.{needs}
 use Rattle.paper.specs.Answer.{Outcome}
 use Rattle.paper.specs.Record.{directory}

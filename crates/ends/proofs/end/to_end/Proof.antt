@@ -1,6 +1,6 @@
 -- Each return is one end of the walk: stopped before the directory, stopped at the last name, or at the file.
 -- Assumes nothing.
-use mathlib.Core.Path.{sym, ap, _∙_}
+use mathlib.Core.Path.{sym, _∙_}
 use borrow.Author.Needs.{needs}
 use Rattle.ends.proofs.Reached.{ended-before, ended-last, ended-at}
 use Rattle.ends.proofs.end.to_end.Statement.{statement}

@@ -1,6 +1,5 @@
 -- Each kind of end is one case of `deletedAnswer`.
 -- Assumes nothing.
-use mathlib.Core.Path.{_≡_, sym, ap, _∙_}
 use borrow.Author.Needs.{needs}
 use Rattle.elephant.proofs.delete.Deleted.refusal.Statement.{statement}
 use Rattle.elephant.proofs.delete.Deleted.refusal.Tie as tie
