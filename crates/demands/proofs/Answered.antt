@@ -1,5 +1,7 @@
 -- Demand 1 over the definitions, for every input: a request is refused before it is tried, tried by one plan, or a DEL name by name.
 -- Each way fixes the answer's numbers; what a refusal or a cut leaves of the table and the reply stands in the answer's definition.
+pub mod Numbered
+pub mod ByName
 use mathlib.Core.Bool.{Bool, true, false, cond, true≢false}
 use mathlib.Core.List.{List}
 use mathlib.Core.Logic.{_≢_}
@@ -18,11 +20,11 @@ use Rattle.paper.specs.Store.{Store, run}
 use Rattle.paper.specs.Effect.{Plan, Planned, plan, crdPlan, wrsPlan, rdsPlan, cpyPlan, dupPlan, chnPlan, delPlan, dprPlan, lstPlan, lstBasePlan}
 use Rattle.paper.specs.Answer.{Outcome, plain, refusing, done, stores, ran, single, deleting, granted, requested}
 use Rattle.laws.proofs.Runs.{length-run}
-use Rattle.demands.proofs.Fair.{placeless, Fair, verdict-idle}
-use Rattle.demands.proofs.Course.{Course, untried, tried, course}
-use Rattle.demands.proofs.Ended.{Passed, ran-by, passes, cuts}
-use Rattle.demands.proofs.Numbered.{FairPlan, FairPlanned, fair-crdPlan, fair-wrsPlan, fair-rdsPlan, fair-cpyPlan, fair-dupPlan, fair-chnPlan, fair-delPlan, fair-dprPlan, fair-lstPlan, fair-lstBasePlan, fair-refused}
-use Rattle.demands.proofs.Deleted.{Deleted, whole, halts, stops, front-none, deleted, Leaves, DelStopped, deleted-leaves, deleted-stops}
+use Rattle.demands.proofs.Request.Fair.{placeless, Fair, verdict-idle}
+use Rattle.demands.proofs.Request.Course.{Course, untried, tried, course}
+use Rattle.demands.proofs.Request.Ended.{Passed, ran-by, passes, cuts}
+use Rattle.demands.proofs.Answered.Numbered.{FairPlan, FairPlanned, fair-crdPlan, fair-wrsPlan, fair-rdsPlan, fair-cpyPlan, fair-dupPlan, fair-chnPlan, fair-delPlan, fair-dprPlan, fair-lstPlan, fair-lstBasePlan, fair-refused}
+use Rattle.demands.proofs.Answered.ByName.{Deleted, whole, halts, stops, front-none, deleted, Leaves, DelStopped, deleted-leaves, deleted-stops}
 
 -- what every outcome keeps: the table and the reply that were lent, and the answer's numbers
 pub record Answered (t reply : List ℕ) (k : ℕ) (o : Outcome) : Type 0 where

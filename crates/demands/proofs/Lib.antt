@@ -1,54 +1,25 @@
--- soundness as a record of clauses
-pub mod Clauses
-pub mod Points
--- reading and walking, and how a plan ends
-pub mod Formed
-pub mod Fair
-pub mod Read
-pub mod Course
-pub mod Steps
-pub mod Walked
-pub mod Ended
--- building
-pub mod Built
--- filing: a new file, then its entry
-pub mod Grown
-pub mod Filed
-pub mod FiledSound
-pub mod Placed
-pub mod Made
--- settling: an entry displaced or cleared, then its file
-pub mod Cleared
-pub mod Freed
-pub mod Settled
--- laid again: a heading with its new code, an entry with its new name
-pub mod Alike
-pub mod Recoded
-pub mod Renamed
--- soundness kept
-pub mod Kept
-pub mod Keeping
-pub mod SoundKept
--- mending
-pub mod Wipe
-pub mod Debris
-pub mod Again
-pub mod Mending
--- the power cut
-pub mod Cut
-pub mod Losing
-pub mod Littering
-pub mod Plans
-pub mod Tried
-pub mod Landed
-pub mod PowerCut
--- demand 1
-pub mod Numbered
-pub mod Deleted
+-- The theorems, each in a file; what it stands on is in the folder of its name.
+-- demand 1: `answered`, `refusal-lends`, `names-done`, `stop-cuts`, `del-leaves`, `del-stops`
 pub mod Answered
+-- demand 1 of mending: `mend-answered`
 pub mod MendAnswered
+-- the stop number matters only where it is reached: `stop-same`
 pub mod Stops
--- one answer
+-- demand 2: `one-answer`, `one-mending`
 pub mod OneAnswer
--- the listing
+-- a sound table stays sound: `sound-kept`
+pub mod SoundKept
+-- mending: `mend-nothing`, `mend-sound`, `mend-again`
+pub mod Mending
+-- demand 3: `demand-three`
+pub mod PowerCut
+-- the listing: `directory-listing`, `base-listing`
 pub mod Listed
+
+-- What several of them stand on.
+-- soundness as a record of clauses
+pub mod Sound
+-- a request read, walked and ended
+pub mod Request
+-- a request tried on a sound table, where soundness kept and the power cut meet
+pub mod Tried

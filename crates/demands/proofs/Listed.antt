@@ -12,7 +12,7 @@ use Rattle.paper.specs.Listing.{listed}
 use Rattle.laws.proofs.Tests.{and-left}
 use Rattle.laws.proofs.Entries.{stands-true, bears-by}
 use Rattle.laws.proofs.Orders.{Listing, listing}
-use Rattle.demands.proofs.Clauses.{SoundBut}
+use Rattle.demands.proofs.Sound.Clauses.{SoundBut}
 
 -- two entries that stand in d and bear one name are one
 apart-names : (o : ℕ) (t : List ℕ) → SoundBut o t → (d : Holder) (i j : ℕ) → i < rooms t → j < rooms t → stands d (rec t i) ≡ true

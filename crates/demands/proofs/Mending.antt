@@ -1,5 +1,8 @@
 -- Where mending ends: it judges the uncut result first, so what it answers 0 or 22 on has a sound end, and a mend cut anywhere
 -- has the end of the table that it began with; a sound table has nothing to mend.
+pub mod Wipe
+pub mod Debris
+pub mod Again
 use mathlib.Core.Bool.{true, false}
 use mathlib.Core.List.{List, []}
 use mathlib.Core.Logic.{_⊎_, inl, inr}
@@ -18,9 +21,9 @@ use Rattle.paper.specs.Answer.{Outcome, plain, mendable, mendRun, mending}
 use Rattle.laws.proofs.Tests.{truth, and-left}
 use Rattle.laws.proofs.Lay.{Whole}
 use Rattle.laws.proofs.Runs.{length-run}
-use Rattle.demands.proofs.Clauses.{sound-clauses}
-use Rattle.demands.proofs.Debris.{nothing-to-mend, mended-kept, sound-keeps, mended-sound}
-use Rattle.demands.proofs.Again.{again}
+use Rattle.demands.proofs.Sound.Clauses.{sound-clauses}
+use Rattle.demands.proofs.Mending.Debris.{nothing-to-mend, mended-kept, sound-keeps, mended-sound}
+use Rattle.demands.proofs.Mending.Again.{again}
 use Rattle.demands.proofs.MendAnswered.{MendCame, unsized, unsound, whole, cutOff, mend-came, mend-answered}
 
 -- a mend that is not cut

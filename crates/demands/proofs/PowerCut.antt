@@ -1,5 +1,12 @@
 -- Demand 3: a request cut after any number of stores and then mended is the table before or the table after, for DEL after some first
 -- part of its names. What is refused changes nothing; what is granted is one plan of the right shape, or DEL, name by name.
+-- the shape that a list of stores must have, and its parts
+pub mod Cut
+pub mod Littering
+pub mod Losing
+-- each function has it, and so each cut lands
+pub mod Plans
+pub mod Landing
 use mathlib.Core.Bool.{true}
 use mathlib.Core.List.{List}
 use mathlib.Core.Logic.{_⊎_, inl, inr}
@@ -14,11 +21,11 @@ use Rattle.paper.specs.Sound.{sound}
 use Rattle.paper.specs.Effect.{Planned}
 use Rattle.paper.specs.Mend.{mendStores, mended}
 use Rattle.paper.specs.Answer.{Outcome, ran, single, granted, requested, mending}
-use Rattle.demands.proofs.Clauses.{Sound, sound-clauses, clauses-sound}
-use Rattle.demands.proofs.Debris.{mended-sound}
+use Rattle.demands.proofs.Sound.Clauses.{Sound, sound-clauses, clauses-sound}
+use Rattle.demands.proofs.Mending.Debris.{mended-sound}
 use Rattle.demands.proofs.Mending.{mendedWhole, mend-whole}
 use Rattle.demands.proofs.Tried.{Tried, lent, by-plan, by-names, ways}
-use Rattle.demands.proofs.Landed.{Done, single-cut, del-cut}
+use Rattle.demands.proofs.PowerCut.Landing.{Done, single-cut, del-cut}
 use Rattle.demands.proofs.Stops.{Uncut, deleting-same, stop-same}
 
 -- where a cut request is once it is mended: the table before; the table after; for DEL, the table after some first part of its names

@@ -1,5 +1,23 @@
 -- Sound tables stay sound: a request whose stop number is not reached leaves the table as lent, or after one plan that keeps soundness,
 -- or after some names of a DEL, each of which keeps it.
+-- a new file, then its entry
+pub mod Built
+pub mod Grown
+pub mod Filed
+pub mod FiledSound
+pub mod Placed
+pub mod Made
+-- an entry displaced or cleared, then its file
+pub mod Cleared
+pub mod Freed
+pub mod Settled
+-- laid again: a heading with its new code, an entry with its new name
+pub mod Alike
+pub mod Recoded
+pub mod Renamed
+-- each function keeps it
+pub mod Kept
+pub mod Keeping
 use mathlib.Core.Bool.{true}
 use mathlib.Core.List.{List}
 use mathlib.Core.Path.{_≡_}
@@ -7,8 +25,8 @@ use Prim.Native.Nat.{ℕ}
 use Rattle.paper.specs.Table.{sized}
 use Rattle.paper.specs.Sound.{sound}
 use Rattle.paper.specs.Answer.{requested}
-use Rattle.demands.proofs.Clauses.{Sound, sound-clauses, clauses-sound}
-use Rattle.demands.proofs.Kept.{single-sound, deleting-sound}
+use Rattle.demands.proofs.Sound.Clauses.{Sound, sound-clauses, clauses-sound}
+use Rattle.demands.proofs.SoundKept.Kept.{single-sound, deleting-sound}
 use Rattle.demands.proofs.Tried.{Tried, lent, by-plan, by-names, ways}
 use Rattle.demands.proofs.Stops.{Uncut}
 

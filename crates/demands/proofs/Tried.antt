@@ -8,13 +8,13 @@ use Rattle.paper.specs.Check.{Refusal}
 use Rattle.paper.specs.Request.{Request, crd, wrs, rds, cpy, dup, chn, del, dpr, lst, lstBase, request, asked}
 use Rattle.paper.specs.Effect.{Planned, crdPlan, wrsPlan, rdsPlan, cpyPlan, dupPlan, chnPlan, dprPlan, lstPlan, lstBasePlan}
 use Rattle.paper.specs.Answer.{refusing, ran, single, deleting, granted, requested}
-use Rattle.demands.proofs.Clauses.{Sound, sound-clauses}
-use Rattle.demands.proofs.Formed.{named-last}
-use Rattle.demands.proofs.Read.{Told}
-use Rattle.demands.proofs.Course.{Course, untried, tried, course}
-use Rattle.demands.proofs.Kept.{Keeps, dpr-keeps, rds-keeps, lst-keeps, lstBase-keeps}
-use Rattle.demands.proofs.Keeping.{crd-keeps, wrs-keeps, cpy-keeps, dup-keeps, chn-kept}
-use Rattle.demands.proofs.Plans.{Safe, crd-safe, wrs-safe, cpy-safe, dup-safe, chn-safe, dpr-safe, rds-safe, lst-safe, lst-base-safe}
+use Rattle.demands.proofs.Sound.Clauses.{Sound, sound-clauses}
+use Rattle.demands.proofs.Request.Formed.{named-last}
+use Rattle.demands.proofs.Request.Read.{Told}
+use Rattle.demands.proofs.Request.Course.{Course, untried, tried, course}
+use Rattle.demands.proofs.SoundKept.Kept.{Keeps, dpr-keeps, rds-keeps, lst-keeps, lstBase-keeps}
+use Rattle.demands.proofs.SoundKept.Keeping.{crd-keeps, wrs-keeps, cpy-keeps, dup-keeps, chn-kept}
+use Rattle.demands.proofs.PowerCut.Plans.{Safe, crd-safe, wrs-safe, cpy-safe, dup-safe, chn-safe, dpr-safe, rds-safe, lst-safe, lst-base-safe}
 
 pub data Tried (t line text reply : List ℕ) (u : ℕ) : Type 0 where
   lent : (f : Refusal) → ((k : ℕ) → requested t line text reply u k ≡ refusing t reply f) → Tried t line text reply u

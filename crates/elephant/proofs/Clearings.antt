@@ -15,7 +15,7 @@ use Rattle.paper.specs.Table.{rooms, rec}
 use Rattle.paper.specs.Block.{blocks, blocksOf}
 use Rattle.paper.specs.Store.{Store, clear, run}
 use Rattle.paper.specs.Effect.{Planned, writeInhibited, stillPeopled, lost, losing, settled, storing, freed, delPlan}
-use Rattle.demands.proofs.Clauses.{sound-clauses, length-most}
+use Rattle.demands.proofs.Sound.Clauses.{sound-clauses, length-most}
 use Rattle.effects.specs.Listed.{textRooms}
 use Rattle.effects.specs.Stage.{Made, clearStores}
 use Rattle.effects.proofs.Stages.{made-both}

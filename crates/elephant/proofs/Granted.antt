@@ -18,9 +18,9 @@ use Rattle.reader.specs.declared.declaration.Digit.{Digit}
 use Rattle.reader.specs.declared.request.Request.{Request}
 use Rattle.reader.specs.declared.request.Request.the-variants.{Crd, Wrs, Rds, Cpy, Dup, Chn, Del, Dpr, Lst, LstBase}
 use Rattle.reader.specs.declared.request.Read.the-variants.{Granted}
-use Rattle.demands.proofs.Read.{Told}
-use Rattle.demands.proofs.Formed as formed
-use Rattle.demands.proofs.Formed.{named-last}
+use Rattle.demands.proofs.Request.Read.{Told}
+use Rattle.demands.proofs.Request.Formed as formed
+use Rattle.demands.proofs.Request.Formed.{named-last}
 use Rattle.ends.specs.Shown.{shown, wordAt, did}
 use Rattle.elephant.specs.Filing.{Did, Named}
 use Rattle.elephant.specs.Meant.{requestMeant}

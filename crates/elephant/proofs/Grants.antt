@@ -15,7 +15,7 @@ use Rattle.paper.specs.Effect.{Planned, plan, halted, Making, making, crdPlan, 
 use Rattle.paper.specs.Answer.{Outcome, Ran, refusedBy, done, cut, stores, ran, single, oneName, deleting}
 use Rattle.paper.specs.Store.{run}
 use Rattle.words.proofs.Words.{word-here}
-use Rattle.demands.proofs.Steps.{holder-by, end-by}
+use Rattle.demands.proofs.Request.Steps.{holder-by, end-by}
 use Rattle.ends.specs.Shown.{wordAt}
 
 -- the word at the offset of a word of the line

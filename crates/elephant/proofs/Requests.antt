@@ -16,7 +16,7 @@ use Rattle.paper.specs.Answer.{refusing, acted, granted, requested, entrance}
 use Rattle.paper.specs.Name.{all, inName, linkName}
 use Rattle.paper.specs.Walk.{lastName}
 use Rattle.laws.proofs.Tests.{and-left, and-right, clash}
-use Rattle.demands.proofs.Read.{Told, Right, read-right}
+use Rattle.demands.proofs.Request.Read.{Told, Right, read-right}
 use Rattle.reader.specs.Asked.{firstStart, shownRefusal, shownRead}
 use Rattle.reader.specs.Tied.{TiedRead}
 use Rattle.reader.specs.declared.request.Request.{Request}

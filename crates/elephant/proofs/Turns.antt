@@ -16,8 +16,8 @@ use Rattle.words.specs.Place.{nextWord}
 use Rattle.words.proofs.Words.{word-here, word-next}
 use Rattle.reader.proofs.Ties.{rest-word}
 use Rattle.laws.proofs.Tests.{clash}
-use Rattle.demands.proofs.Clauses.{Sound, sound-clauses, clauses-sound}
-use Rattle.demands.proofs.Kept.{Keeps, del-keeps}
+use Rattle.demands.proofs.Sound.Clauses.{Sound, sound-clauses, clauses-sound}
+use Rattle.demands.proofs.SoundKept.Kept.{Keeps, del-keeps}
 use Rattle.ends.specs.Shown.{wordAt, did}
 use Rattle.ends.specs.Ends.{Fit}
 use Rattle.elephant.specs.Deleted.{deletedBy, deletedShown, deletedAnswer}

@@ -17,7 +17,7 @@ use Rattle.paper.specs.Sound.{sound}
 use Rattle.paper.specs.Effect.{Making, placing, settled, losing, displacing}
 use Rattle.laws.proofs.Lay.{within}
 use Rattle.laws.proofs.Entries.{found-stands}
-use Rattle.demands.proofs.Clauses.{sound-clauses, length-most}
+use Rattle.demands.proofs.Sound.Clauses.{sound-clauses, length-most}
 use Rattle.effects.specs.Listed.{textRooms}
 use Rattle.effects.proofs.Naming.{lost-entry}
 use Rattle.effects.proofs.Papers.{file-freed}

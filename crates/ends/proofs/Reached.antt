@@ -11,9 +11,9 @@ use Rattle.walk.specs.Shown.{meant, shown, walkedShown}
 use Rattle.walk.specs.declared.state.State.{State}
 use Rattle.walk.specs.declared.chain.Walked.the-variants.{Reached, Stopped}
 use Rattle.laws.proofs.Tests.{clash}
-use Rattle.demands.proofs.Clauses.{sound-clauses}
-use Rattle.demands.proofs.Walked as walked
-use Rattle.demands.proofs.Walked.{walk-reached}
+use Rattle.demands.proofs.Sound.Clauses.{sound-clauses}
+use Rattle.demands.proofs.Request.Walked as walked
+use Rattle.demands.proofs.Request.Walked.{walk-reached}
 use Rattle.ends.specs.Shown.{wordAt}
 use Rattle.ends.specs.Ends.{endNumber, Ended, BothEnded, Fit}
 use Rattle.ends.specs.declared.end.End.{End}

@@ -19,7 +19,7 @@ use Rattle.paper.specs.Scan.{allBelow, anyBelow}
 use Rattle.paper.specs.Sound.{implies, noneCrowded}
 use Rattle.paper.specs.Store.{run}
 use Rattle.paper.specs.Table.{sized, rooms, rec}
-use Rattle.demands.proofs.Wipe.{rec-wiped, clears-none}
+use Rattle.demands.proofs.Mending.Wipe.{rec-wiped, clears-none}
 use Rattle.laws.proofs.Counts.{count-cong}
 use Rattle.laws.proofs.Lay.{Whole, rec-past}
 use Rattle.laws.proofs.Runs.{length-run}

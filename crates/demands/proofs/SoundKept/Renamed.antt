@@ -23,8 +23,8 @@ use Rattle.laws.proofs.Scans.{any-here, first-nowhere}
 use Rattle.laws.proofs.Fields.{name-size, name-zeros, name-padded, name-total, name-there}
 use Rattle.laws.proofs.Entries.{link-short}
 use Rattle.laws.proofs.Lay.{length-rec, within}
-use Rattle.demands.proofs.Clauses.{EntryOwn, Own, Sound}
-use Rattle.demands.proofs.Alike.{Like, replaced-sound}
+use Rattle.demands.proofs.Sound.Clauses.{EntryOwn, Own, Sound}
+use Rattle.demands.proofs.SoundKept.Alike.{Like, replaced-sound}
 
 module _ (r n : List ℕ) (s : length r ≡ 32) (k : byte r 0 ≡ 2) (b : length n ≤ 10) where
   front : length (take 9 r) ≡ 9

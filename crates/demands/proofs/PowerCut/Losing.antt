@@ -20,10 +20,10 @@ use Rattle.laws.proofs.Scans.{any-true, any-here}
 use Rattle.laws.proofs.Lists.{Every, every-each}
 use Rattle.laws.proofs.Lay.{Whole, lay-same, lay-other, rooms-lay, length-blank, within, kinds-apart}
 use Rattle.laws.proofs.Runs.{Lays, run-each, rooms-run}
-use Rattle.demands.proofs.Clauses.{Sound}
-use Rattle.demands.proofs.Freed.{text-found}
-use Rattle.demands.proofs.Debris.{Kept, Goes, heading, text, sound-keeps}
-use Rattle.demands.proofs.Cut.{Litters, Sweeps, counted, run-counted, rooms-counted, Cut, power-cut}
+use Rattle.demands.proofs.Sound.Clauses.{Sound}
+use Rattle.demands.proofs.SoundKept.Freed.{text-found}
+use Rattle.demands.proofs.Mending.Debris.{Kept, Goes, heading, text, sound-keeps}
+use Rattle.demands.proofs.PowerCut.Cut.{Litters, Sweeps, counted, run-counted, rooms-counted, Cut, power-cut}
 
 -- what is not free is left by stores of debris
 stays : (t : List ℕ) (pre : List Store) → Whole t → Every (Litters t) pre

@@ -22,11 +22,11 @@ use Rattle.laws.proofs.Fields.{text-size, text-heading, text-position}
 use Rattle.laws.proofs.Entries.{bears-stands, typed-by, TextAt, text-true, text-by}
 use Rattle.laws.proofs.Runs.{length-run, rooms-run}
 use Rattle.laws.proofs.Blocks.{length-block, share-least, share-most}
-use Rattle.demands.proofs.Clauses.{Own, SoundBut, Sound, simple-by, named-by}
-use Rattle.demands.proofs.Points.{holder-stays, text-points}
-use Rattle.demands.proofs.Built.{own-text}
-use Rattle.demands.proofs.Grown.{Grown, grown-stays, grown-entry, grown-named, grown-crowd, grown-text}
-use Rattle.demands.proofs.Filed.{Roomy, filed, textNew, Look, new-heading, new-text, old, heading-there, text-there, look, room-in, was-free, text-kind, small, filed-grown}
+use Rattle.demands.proofs.Sound.Clauses.{Own, SoundBut, Sound, simple-by, named-by}
+use Rattle.demands.proofs.Sound.Points.{holder-stays, text-points}
+use Rattle.demands.proofs.SoundKept.Built.{own-text}
+use Rattle.demands.proofs.SoundKept.Grown.{Grown, grown-stays, grown-entry, grown-named, grown-crowd, grown-text}
+use Rattle.demands.proofs.SoundKept.Filed.{Roomy, filed, textNew, Look, new-heading, new-text, old, heading-there, text-there, look, room-in, was-free, text-kind, small, filed-grown}
 
 -- ---- clauses that speak of entries stay in a grown table
 

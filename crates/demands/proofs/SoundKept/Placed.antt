@@ -19,8 +19,8 @@ use Rattle.laws.proofs.Scans.{any-true, any-here, any-false, first-nowhere}
 use Rattle.laws.proofs.Counts.{count-cong, count-more-at}
 use Rattle.laws.proofs.Entries.{Stands, stands-true, stands-holder, bears-stands, bears-both, bears-back, names-kind, names-heading, names-by, text-true}
 use Rattle.laws.proofs.Lay.{lay-same, lay-other, rooms-lay, length-lay, within}
-use Rattle.demands.proofs.Clauses.{Own, SoundBut, Sound}
-use Rattle.demands.proofs.Points.{holder-stays, text-points}
+use Rattle.demands.proofs.Sound.Clauses.{Own, SoundBut, Sound}
+use Rattle.demands.proofs.Sound.Points.{holder-stays, text-points}
 
 -- entry r may be laid at e in t, where o is the heading that no entry need name before, and o′ the one after
 pub record Placing (o o′ : ℕ) (t : List ℕ) (e : ℕ) (r : List ℕ) : Type 0 where

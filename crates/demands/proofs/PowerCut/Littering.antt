@@ -16,11 +16,11 @@ use Rattle.laws.proofs.Fields.{text-heading}
 use Rattle.laws.proofs.Lay.{length-rec}
 use Rattle.laws.proofs.Runs.{Lays}
 use Rattle.laws.proofs.Rooms.{room-below, room-kind, free-blank}
-use Rattle.demands.proofs.Clauses.{Sound}
-use Rattle.demands.proofs.Points.{no-heading-unnamed}
-use Rattle.demands.proofs.Filed.{Roomy, Laid, each-laid, was-free, text-kind, small}
-use Rattle.demands.proofs.Debris.{Goes, heading, text}
-use Rattle.demands.proofs.Cut.{Litters}
+use Rattle.demands.proofs.Sound.Clauses.{Sound}
+use Rattle.demands.proofs.Sound.Points.{no-heading-unnamed}
+use Rattle.demands.proofs.SoundKept.Filed.{Roomy, Laid, each-laid, was-free, text-kind, small}
+use Rattle.demands.proofs.Mending.Debris.{Goes, heading, text}
+use Rattle.demands.proofs.PowerCut.Cut.{Litters}
 
 module _ (t : List ℕ) (c : Sound t) where
   free : (m : ℕ) → m < length (frees t) → rec t (room t m) ≡ blank

@@ -18,7 +18,7 @@ use Rattle.paper.specs.Sound.{entryAsAbove, textAsAbove, userRight, nameLegal}
 use Rattle.laws.proofs.Tests.{and-both, implies-by}
 use Rattle.laws.proofs.Fields.{heading-length, entry-record-kind, entry-code, entry-size, entry-name, entry-padded, entry-rest, entry-holder, entry-user, text-record-kind, text-size, text-gap, text-rest}
 use Rattle.laws.proofs.Entries.{link-short}
-use Rattle.demands.proofs.Clauses.{Own, HeadingOwn, EntryOwn}
+use Rattle.demands.proofs.Sound.Clauses.{Own, HeadingOwn, EntryOwn}
 
 -- ---- what a record owes by itself is what its own kind owes
 

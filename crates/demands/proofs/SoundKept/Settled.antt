@@ -21,10 +21,10 @@ use Rattle.laws.proofs.Lists.{join-cong}
 use Rattle.laws.proofs.Entries.{Stands, stands-true, stands-by, found-stands, names-kind, text-true}
 use Rattle.laws.proofs.Lay.{Whole, lay-same, lay-other, length-lay, length-blank, within, kinds-apart}
 use Rattle.laws.proofs.Runs.{run-append}
-use Rattle.demands.proofs.Clauses.{SoundBut, Sound}
-use Rattle.demands.proofs.Grown.{New, Grown, grown-none, grown-stays, new-entry, new-text}
-use Rattle.demands.proofs.Cleared.{entry-cleared}
-use Rattle.demands.proofs.Freed.{freed-sound, named-sound}
+use Rattle.demands.proofs.Sound.Clauses.{SoundBut, Sound}
+use Rattle.demands.proofs.SoundKept.Grown.{New, Grown, grown-none, grown-stays, new-entry, new-text}
+use Rattle.demands.proofs.SoundKept.Cleared.{entry-cleared}
+use Rattle.demands.proofs.SoundKept.Freed.{freed-sound, named-sound}
 
 -- record r in place of the entry a: an entry that stands where a stood, or no entry
 pub record Instead (a r : List ℕ) : Type 0 where

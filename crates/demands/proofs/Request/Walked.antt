@@ -15,8 +15,8 @@ use Rattle.paper.specs.Entry.{Holder, inDirectory}
 use Rattle.paper.specs.Walk.{State, start, applies, file, Step, on, off, look, enter, then, follow, reached, linked, toDirectory, lastName, toLast}
 use Rattle.laws.proofs.Tests.{clash}
 use Rattle.laws.proofs.Lay.{within}
-use Rattle.demands.proofs.Clauses.{SoundBut, EntryOwn, HeadingFields, heading-fields, entry-code}
-use Rattle.demands.proofs.Steps.{Looked, look-on, last-looked, enter-on}
+use Rattle.demands.proofs.Sound.Clauses.{SoundBut, EntryOwn, HeadingFields, heading-fields, entry-code}
+use Rattle.demands.proofs.Request.Steps.{Looked, look-on, last-looked, enter-on}
 
 -- three bits joined with three bits
 pub joined-code : (a b : ℕ) → a ≤ 7 → b ≤ 7 → joined a b ≤ 7

@@ -10,8 +10,8 @@ use Rattle.paper.specs.Check.{Refusal, Verdict, passed, refused}
 use Rattle.paper.specs.Request.{Request, Read, request, unread, asked}
 use Rattle.paper.specs.Sound.{sound}
 use Rattle.paper.specs.Answer.{refusing, granted, entrance, requested}
-use Rattle.demands.proofs.Fair.{Fair, verdict-idle, verdict-fair, fair-line}
-use Rattle.demands.proofs.Read.{Told, Right, read-right}
+use Rattle.demands.proofs.Request.Fair.{Fair, verdict-idle, verdict-fair, fair-line}
+use Rattle.demands.proofs.Request.Read.{Told, Right, read-right}
 
 -- what the entrance let through, and the reader gave
 pub record Admitted (t line text : List ℕ) (u : ℕ) (r : Request) : Type 0 where

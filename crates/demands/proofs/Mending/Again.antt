@@ -21,8 +21,8 @@ use Rattle.laws.proofs.Scans.{any-cong}
 use Rattle.laws.proofs.Lists.{take-past}
 use Rattle.laws.proofs.Lay.{Whole, rec-past}
 use Rattle.laws.proofs.Runs.{run-append, length-run, rooms-run, run-each}
-use Rattle.demands.proofs.Wipe.{rec-wiped, wiped-by, clears-none, Blanks, every-clears, cut-wipe}
-use Rattle.demands.proofs.Debris.{mended-is}
+use Rattle.demands.proofs.Mending.Wipe.{rec-wiped, wiped-by, clears-none, Blanks, every-clears, cut-wipe}
+use Rattle.demands.proofs.Mending.Debris.{mended-is}
 
 -- a is b with some records cleared that pass the test, all of them of kind c
 record Less (c : ℕ) (p : ℕ → Bool) (b a : List ℕ) : Type 0 where

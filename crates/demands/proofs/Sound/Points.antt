@@ -12,7 +12,7 @@ use Rattle.paper.specs.Sound.{isBase, holderThere}
 use Rattle.laws.proofs.Tests.{and-left, or-cases, or-left, or-right, false-by}
 use Rattle.laws.proofs.Scans.{any-none}
 use Rattle.laws.proofs.Entries.{names-kind, names-heading, typed-kind}
-use Rattle.demands.proofs.Clauses.{SoundBut}
+use Rattle.demands.proofs.Sound.Clauses.{SoundBut}
 
 -- an entry's directory is there where every heading stays
 pub holder-stays : (t f : List ℕ) → ((h : ℕ) → byte (rec t h) 0 ≡ 1 → rec f h ≡ rec t h) → (i : ℕ) (r : List ℕ)

@@ -13,8 +13,8 @@ use Rattle.paper.specs.Store.{run}
 use Rattle.paper.specs.Effect.{Plan, Planned, delPlan}
 use Rattle.paper.specs.Answer.{Outcome, plain, ran, oneName, deleting}
 use Rattle.laws.proofs.Runs.{length-run}
-use Rattle.demands.proofs.Ended.{Refused, Passed, ran-by, passes}
-use Rattle.demands.proofs.Numbered.{fair-refused, fair-delPlan}
+use Rattle.demands.proofs.Request.Ended.{Refused, Passed, ran-by, passes}
+use Rattle.demands.proofs.Answered.Numbered.{fair-refused, fair-delPlan}
 
 -- names done, with so many stores
 abbrev pub finished : ℕ → ℕ → List ℕ → List ℕ → Outcome

@@ -13,9 +13,9 @@ use Rattle.paper.specs.Check.{Refusal, Check}
 use Rattle.paper.specs.Walk.{State}
 use Rattle.paper.specs.Effect.{Plan, Planned, plan, halted, toHolder, toEnd, Making, making, writing, readInhibited, notSimple, noDirectory, writeInhibited, tooShort, crdPlan, wrsPlan, rdsPlan, cpyPlan, dupPlan, chnPlan, delPlan, dprPlan, lstPlan, lstBasePlan}
 use Rattle.laws.proofs.Lists.{Every, every-append, every-parts}
-use Rattle.demands.proofs.Fair.{Idle, Fair, FairCheck, verdict-fair, fair-line, fair-at}
-use Rattle.demands.proofs.Steps.{Walks, holder-by, end-by}
-use Rattle.demands.proofs.Ended.{Refused, walking, checked}
+use Rattle.demands.proofs.Request.Fair.{Idle, Fair, FairCheck, verdict-fair, fair-line, fair-at}
+use Rattle.demands.proofs.Request.Steps.{Walks, holder-by, end-by}
+use Rattle.demands.proofs.Request.Ended.{Refused, walking, checked}
 
 -- a plan's refusals are fair, and what it writes fits the reply buffer where no check holds
 pub record FairPlan (reply : List ℕ) (p : Plan) : Type 0 where

@@ -19,8 +19,8 @@ use Rattle.laws.proofs.Scans.{any-cong}
 use Rattle.laws.proofs.Counts.{count-cong}
 use Rattle.laws.proofs.Entries.{bears-stands, bears-back, typed}
 use Rattle.laws.proofs.Lay.{rec-past, lay-same, lay-other, length-lay}
-use Rattle.demands.proofs.Clauses.{Own, SoundBut}
-use Rattle.demands.proofs.Points.{text-points}
+use Rattle.demands.proofs.Sound.Clauses.{Own, SoundBut}
+use Rattle.demands.proofs.Sound.Points.{text-points}
 
 pub record LikeHeading (a b : List ℕ) : Type 0 where
   pub type : headingType b ≡ headingType a

@@ -18,8 +18,8 @@ use Rattle.laws.proofs.Tests.{and-left}
 use Rattle.laws.proofs.Scans.{any-cong}
 use Rattle.laws.proofs.Lay.{Whole, ext-table, rec-past}
 use Rattle.laws.proofs.Runs.{run-append, length-run, rooms-run}
-use Rattle.demands.proofs.Clauses.{Sound, named-by}
-use Rattle.demands.proofs.Wipe.{rec-wiped, clears-none}
+use Rattle.demands.proofs.Sound.Clauses.{Sound, named-by}
+use Rattle.demands.proofs.Mending.Wipe.{rec-wiped, clears-none}
 
 -- the two clauses of soundness that mending looks after
 pub record Kept (t : List ℕ) : Type 0 where

@@ -16,8 +16,8 @@ use Rattle.paper.specs.Effect.{recoded}
 use Rattle.laws.proofs.Numbers.{number-cong}
 use Rattle.laws.proofs.Scans.{all-cong}
 use Rattle.laws.proofs.Lay.{length-rec, within}
-use Rattle.demands.proofs.Clauses.{HeadingOwn, Own, heading-fields, Sound}
-use Rattle.demands.proofs.Alike.{Like, replaced-sound}
+use Rattle.demands.proofs.Sound.Clauses.{HeadingOwn, Own, heading-fields, Sound}
+use Rattle.demands.proofs.SoundKept.Alike.{Like, replaced-sound}
 
 module _ (r : List ℕ) (code : ℕ) (s : length r ≡ 32) (k : byte r 0 ≡ 1) where
   byte-same : (j : ℕ) → j ≢ 3 → byte (recoded r code) j ≡ byte r j

@@ -23,15 +23,15 @@ use Rattle.paper.specs.Store.{puts, run}
 use Rattle.paper.specs.Effect.{Making, borne, losing, settled, chainOf, making, filing, readInhibited, notSimple, crdPlan, wrsPlan, cpyPlan, dupPlan, chnPlan}
 use Rattle.laws.proofs.Entries.{Stands, found-stands}
 use Rattle.laws.proofs.Blocks.{file-most}
-use Rattle.demands.proofs.Clauses.{Sound, entry-code, length-most}
-use Rattle.demands.proofs.Formed.{Named, Last, named-last, named-some, Within, within-else}
-use Rattle.demands.proofs.Read.{CrdRead, WrsRead, CpyRead, DupRead, ChnRead}
-use Rattle.demands.proofs.Walked.{Ends, base, inside, joined-code, walk-ends, ends-base, walk-reached}
-use Rattle.demands.proofs.Built.{NewHeading, NewEntry}
-use Rattle.demands.proofs.Filed.{length-file}
-use Rattle.demands.proofs.Made.{Made, Entered, made-sound, made-over, displaced-same, new-file, filing-made, linking, linking-made}
-use Rattle.demands.proofs.Settled.{instead-found, displaced-sound}
-use Rattle.demands.proofs.Kept.{Keeps, holder-keeps, end-keeps, making-keeps, chn-keeps}
+use Rattle.demands.proofs.Sound.Clauses.{Sound, entry-code, length-most}
+use Rattle.demands.proofs.Request.Formed.{Named, Last, named-last, named-some, Within, within-else}
+use Rattle.demands.proofs.Request.Read.{CrdRead, WrsRead, CpyRead, DupRead, ChnRead}
+use Rattle.demands.proofs.Request.Walked.{Ends, base, inside, joined-code, walk-ends, ends-base, walk-reached}
+use Rattle.demands.proofs.SoundKept.Built.{NewHeading, NewEntry}
+use Rattle.demands.proofs.SoundKept.Filed.{length-file}
+use Rattle.demands.proofs.SoundKept.Made.{Made, Entered, made-sound, made-over, displaced-same, new-file, filing-made, linking, linking-made}
+use Rattle.demands.proofs.SoundKept.Settled.{instead-found, displaced-sound}
+use Rattle.demands.proofs.SoundKept.Kept.{Keeps, holder-keeps, end-keeps, making-keeps, chn-keeps}
 
 -- a declared number, or the one taken where it is not given
 at-most : (b d : ℕ) (p : Part) → Within 0 b p → d ≤ b → orElse p d ≤ b

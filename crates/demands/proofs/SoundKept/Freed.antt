@@ -23,9 +23,9 @@ use Rattle.laws.proofs.Counts.{once-there, once-only}
 use Rattle.laws.proofs.Entries.{stands-by, names-kind, names-by, typed-kind, text-true, text-by, TextAt}
 use Rattle.laws.proofs.Lay.{lay-same, lay-other, length-lay, length-blank, within, kinds-apart}
 use Rattle.laws.proofs.Runs.{length-run, clears-each}
-use Rattle.demands.proofs.Clauses.{SoundBut, Sound, simple-by}
-use Rattle.demands.proofs.Points.{text-points}
-use Rattle.demands.proofs.Cleared.{Cleared, Spared, cleared-sound}
+use Rattle.demands.proofs.Sound.Clauses.{SoundBut, Sound, simple-by}
+use Rattle.demands.proofs.Sound.Points.{text-points}
+use Rattle.demands.proofs.SoundKept.Cleared.{Cleared, Spared, cleared-sound}
 
 -- the text at a position that is there once stands in its room, and nowhere else
 module _ (t : List ℕ) (h p : ℕ) (o : countBelow (λ i. textAt h p (rec t i)) (rooms t) ≡ 1) where

@@ -11,12 +11,12 @@ use Rattle.paper.specs.Store.{run}
 use Rattle.paper.specs.Effect.{Plan, Planned, plan, delPlan}
 use Rattle.paper.specs.Mend.{mended}
 use Rattle.paper.specs.Answer.{Outcome, Ran, ran, single, oneName, deleting}
-use Rattle.demands.proofs.Clauses.{Sound}
-use Rattle.demands.proofs.Ended.{Passed, ran-by, passes}
-use Rattle.demands.proofs.Kept.{Keeps, passed-sound, del-keeps}
-use Rattle.demands.proofs.Debris.{sound-keeps, mended-sound}
-use Rattle.demands.proofs.Cut.{Cut}
-use Rattle.demands.proofs.Plans.{Safe, del-safe}
+use Rattle.demands.proofs.Sound.Clauses.{Sound}
+use Rattle.demands.proofs.Request.Ended.{Passed, ran-by, passes}
+use Rattle.demands.proofs.SoundKept.Kept.{Keeps, passed-sound, del-keeps}
+use Rattle.demands.proofs.Mending.Debris.{sound-keeps, mended-sound}
+use Rattle.demands.proofs.PowerCut.Cut.{Cut}
+use Rattle.demands.proofs.PowerCut.Plans.{Safe, del-safe}
 
 -- x is the table after, of outcomes by stop number: at some stop number the answer is 0 and the table x
 pub record Done (o : ℕ → Outcome) (x : List ℕ) : Type 0 where

@@ -21,14 +21,14 @@ use Rattle.laws.proofs.Lists.{Every, every-parts}
 use Rattle.laws.proofs.Fields.{length-entry}
 use Rattle.laws.proofs.Entries.{found-stands}
 use Rattle.laws.proofs.Lay.{length-blank}
-use Rattle.demands.proofs.Clauses.{Sound}
-use Rattle.demands.proofs.Fair.{Idle, verdict-idle}
-use Rattle.demands.proofs.Steps.{last-looked, holder-by, end-by}
-use Rattle.demands.proofs.Filed.{roomy, length-file}
-use Rattle.demands.proofs.Debris.{Kept, sound-keeps, mended-sound}
-use Rattle.demands.proofs.Cut.{Litters, Cut, power-cut}
-use Rattle.demands.proofs.Losing.{losing-cut}
-use Rattle.demands.proofs.Littering.{littering}
+use Rattle.demands.proofs.Sound.Clauses.{Sound}
+use Rattle.demands.proofs.Request.Fair.{Idle, verdict-idle}
+use Rattle.demands.proofs.Request.Steps.{last-looked, holder-by, end-by}
+use Rattle.demands.proofs.SoundKept.Filed.{roomy, length-file}
+use Rattle.demands.proofs.Mending.Debris.{Kept, sound-keeps, mended-sound}
+use Rattle.demands.proofs.PowerCut.Cut.{Litters, Cut, power-cut}
+use Rattle.demands.proofs.PowerCut.Losing.{losing-cut}
+use Rattle.demands.proofs.PowerCut.Littering.{littering}
 
 -- a plan that a power cut leaves whole: the table before or the table after
 abbrev pub Safe : List ℕ → Planned → Type 0

@@ -21,8 +21,8 @@ use Rattle.laws.proofs.Scans.{any-true, any-here}
 use Rattle.laws.proofs.Counts.{count-cong, count-mono}
 use Rattle.laws.proofs.Entries.{stands-true, bears-stands, names-heading, typed-kind, text-true}
 use Rattle.laws.proofs.Lay.{Whole, rec-past, lay-same, lay-other, length-lay, length-blank, kinds-apart}
-use Rattle.demands.proofs.Clauses.{Own, SoundBut, Sound}
-use Rattle.demands.proofs.Points.{text-points}
+use Rattle.demands.proofs.Sound.Clauses.{Own, SoundBut, Sound}
+use Rattle.demands.proofs.Sound.Points.{text-points}
 
 pub own-blank : Own blank
 unfolding blank zeros allBelow

@@ -22,13 +22,13 @@ use Rattle.paper.specs.Answer.{Outcome, ran, single, oneName, deleting}
 use Rattle.laws.proofs.Tests.{implies-by}
 use Rattle.laws.proofs.Lists.{every-parts}
 use Rattle.laws.proofs.Entries.{stands-holder}
-use Rattle.demands.proofs.Clauses.{Sound}
-use Rattle.demands.proofs.Fair.{Idle, verdict-idle}
-use Rattle.demands.proofs.Steps.{last-looked, holder-by, end-by}
-use Rattle.demands.proofs.Ended.{Passed, ran-by}
-use Rattle.demands.proofs.Settled.{deleted-sound}
-use Rattle.demands.proofs.Recoded.{recoded-sound}
-use Rattle.demands.proofs.Renamed.{renamed-sound}
+use Rattle.demands.proofs.Sound.Clauses.{Sound}
+use Rattle.demands.proofs.Request.Fair.{Idle, verdict-idle}
+use Rattle.demands.proofs.Request.Steps.{last-looked, holder-by, end-by}
+use Rattle.demands.proofs.Request.Ended.{Passed, ran-by}
+use Rattle.demands.proofs.SoundKept.Settled.{deleted-sound}
+use Rattle.demands.proofs.SoundKept.Recoded.{recoded-sound}
+use Rattle.demands.proofs.SoundKept.Renamed.{renamed-sound}
 
 -- the plan's stores keep the table sound where its checks pass
 abbrev pub Keeps : List ℕ → Planned → Type 0

@@ -24,12 +24,12 @@ use Rattle.laws.proofs.Entries.{link-short, found-bears, found-stands}
 use Rattle.laws.proofs.Lay.{within}
 use Rattle.laws.proofs.Runs.{run-append, rooms-run}
 use Rattle.laws.proofs.Rooms.{room-below, room-kind}
-use Rattle.demands.proofs.Clauses.{SoundBut, Sound}
-use Rattle.demands.proofs.Built.{NewHeading, NewEntry, own-heading, own-entry}
-use Rattle.demands.proofs.Grown.{Grown, grown-none, grown-stays, grown-find, grown-crowd}
-use Rattle.demands.proofs.Filed.{roomy, length-file, heading-there, small, still-free, filed-grown}
-use Rattle.demands.proofs.FiledSound.{grown-holder, NewFile, filed-sound}
-use Rattle.demands.proofs.Placed.{Fits, placed-free, placed-over}
+use Rattle.demands.proofs.Sound.Clauses.{SoundBut, Sound}
+use Rattle.demands.proofs.SoundKept.Built.{NewHeading, NewEntry, own-heading, own-entry}
+use Rattle.demands.proofs.SoundKept.Grown.{Grown, grown-none, grown-stays, grown-find, grown-crowd}
+use Rattle.demands.proofs.SoundKept.Filed.{roomy, length-file, heading-there, small, still-free, filed-grown}
+use Rattle.demands.proofs.SoundKept.FiledSound.{grown-holder, NewFile, filed-sound}
+use Rattle.demands.proofs.SoundKept.Placed.{Fits, placed-free, placed-over}
 
 -- the stores before a new entry, which is to name heading o if that is new
 pub record Before (o : ℕ) (t : List ℕ) (first : List Store) : Type 0 where

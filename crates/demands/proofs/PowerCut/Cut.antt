@@ -15,7 +15,7 @@ use Rattle.paper.specs.Mend.{mended}
 use Rattle.laws.proofs.Lists.{Every, every-take, every-drop}
 use Rattle.laws.proofs.Lay.{Whole, rooms-lay, length-lay}
 use Rattle.laws.proofs.Runs.{Lays, run-each, run-append, length-run, rooms-run}
-use Rattle.demands.proofs.Debris.{Kept, Goes, Part, same, loose, debris}
+use Rattle.demands.proofs.Mending.Debris.{Kept, Goes, Part, same, loose, debris}
 
 -- a store that lays debris in a free record of t
 abbrev pub Litters : List ℕ → Store → Type 0

@@ -17,7 +17,7 @@ use Rattle.laws.proofs.Lay.{lay-same, rooms-lay, length-lay}
 use Rattle.laws.proofs.Runs.{length-run, Lays, run-each, stores, each-there}
 use Rattle.laws.proofs.Rooms.{room-below, room-kind, room-apart}
 use Rattle.laws.proofs.Blocks.{block-most}
-use Rattle.demands.proofs.Grown.{New, Grown}
+use Rattle.demands.proofs.SoundKept.Grown.{New, Grown}
 
 -- what is laid: a heading, and room for it and the text
 pub record Roomy (t heading text : List ℕ) : Type 0 where

@@ -18,8 +18,8 @@ use Rattle.paper.specs.Request.{declaredAt, partsAt, Request, crd, wrs, rds, cp
 use Rattle.paper.specs.Walk.{lastName, start}
 use Rattle.laws.proofs.Tests.{and-left, and-right, and-parts, either}
 use Rattle.laws.proofs.Lists.{Every, every-at, every-append, every-parts, every-both}
-use Rattle.demands.proofs.Formed.{Named, Within, within-else, lettered-at, fits-parts, medium-long, may-medium-long}
-use Rattle.demands.proofs.Fair.{Idle, verdict-idle, Fair, FairCheck, verdict-fair, fair-line, fair-at}
+use Rattle.demands.proofs.Request.Formed.{Named, Within, within-else, lettered-at, fits-parts, medium-long, may-medium-long}
+use Rattle.demands.proofs.Request.Fair.{Idle, verdict-idle, Fair, FairCheck, verdict-fair, fair-line, fair-at}
 
 -- ---- what each function is told
 
