@@ -7,5 +7,6 @@ extern "C" {
 
 /// Document 01's number for the table: 1 if it is not sized, 2 if it is not sound, and else 0.
 pub fn judge(table: &[u8]) -> u8 {
+    // Sound: the pointer is to as many bytes as the length beside it says, which are only read.
     unsafe { filebox_judge(table.as_ptr(), table.len()) }
 }

@@ -36,10 +36,23 @@ impl Answer {
             stores: 0,
         }
     }
+
+    /// The six numbers: number, place, names, displaced, bytes, stores.
+    pub fn numbers(self) -> [u32; 6] {
+        [
+            self.number,
+            self.place,
+            self.names,
+            self.displaced,
+            self.bytes,
+            self.stores,
+        ]
+    }
 }
 
 /// Do a request: the table is changed, the line and the text are read, the reply buffer is written; for a user,
 /// with a stop number. Answers for every input, and never panics.
+#[must_use = "the answer may be a refusal"]
 pub fn request(
     table: &mut [u8],
     line: &[u8],
@@ -114,6 +127,7 @@ fn carry_out(outcome: &Outcome, table: &mut [u8], reply: &mut [u8], stop: u32) -
 }
 
 /// Mend a table, with a stop number. "If the result wouldn't be sound, answer 2 and leave the table as found."
+#[must_use = "the answer may be a refusal"]
 pub fn mend(table: &mut [u8], stop: u32) -> Answer {
     if !length_fits(table) {
         return Answer::refused(refusal(1, 0));

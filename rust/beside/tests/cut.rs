@@ -238,22 +238,16 @@ fn cut_once(
 /// Mend a table, uncut and cut at every stop number and run again; the mended table.
 fn mend_everywhere(table: &[u8], met: &mut Met) -> Vec<u8> {
     let mut mended = table.to_vec();
-    let seen = beside::mend(&mut mended, u32::MAX);
+    let seen = mend(&mut mended, u32::MAX);
     assert_eq!(seen, answer([0, 0, 0, 0, 0, seen.stores]));
-    assert!(beside::sound(&mended));
+    assert!(sound(&mended));
     met.mends_with_stores += usize::from(seen.stores > 0);
     for stop in 0..=seen.stores {
         let mut cut = table.to_vec();
         let number = if stop < seen.stores { 22 } else { 0 };
-        assert_eq!(
-            beside::mend(&mut cut, stop),
-            answer([number, 0, 0, 0, 0, stop])
-        );
+        assert_eq!(mend(&mut cut, stop), answer([number, 0, 0, 0, 0, stop]));
         let left = seen.stores - stop;
-        assert_eq!(
-            beside::mend(&mut cut, u32::MAX),
-            answer([0, 0, 0, 0, 0, left])
-        );
+        assert_eq!(mend(&mut cut, u32::MAX), answer([0, 0, 0, 0, 0, left]));
         assert_eq!(cut, mended);
         met.mends_cut += usize::from(stop < seen.stores);
     }
@@ -313,7 +307,7 @@ fn shuffled(dice: &mut Dice, table: &[u8]) -> Vec<u8> {
             after[*field..*field + 2].copy_from_slice(&number.to_le_bytes());
         }
     }
-    assert!(beside::sound(&shuffled));
+    assert!(sound(&shuffled));
     shuffled
 }
 
@@ -336,7 +330,7 @@ fn step(bench: &mut Bench, dice: &mut Dice, met: &mut Met) {
         return;
     }
     assert!(seen.answer.number == 0 || line.starts_with("DEL"), "{line}");
-    assert!(beside::sound(&seen.table), "{line}");
+    assert!(sound(&seen.table), "{line}");
     cut_everywhere(bench, &line, &text, met);
     count_up(bench, &line, &text, &seen, met);
     let new = seen.answer.displaced == 0;
@@ -425,7 +419,7 @@ fn every_table_of_five_records_that_these_requests_reach() {
                 assert_eq!(seen.table, bench.table, "{line}");
                 continue;
             }
-            assert!(beside::sound(&seen.table), "{line}");
+            assert!(sound(&seen.table), "{line}");
             cut_everywhere(&bench, line, b"T", &mut met);
             count_up(&bench, line, b"T", &seen, &mut met);
             if reached.insert(seen.table.clone()) {

@@ -126,7 +126,7 @@ fn p_crd_r_cut_after_one_store_and_mended_gives_zeros() {
     let mut table = seen.table;
     assert_eq!(record(&table, 0), directory());
     assert_eq!(record(&table, 1), FREE);
-    assert_eq!(beside::mend(&mut table, 65_535), answer([0, 0, 0, 0, 0, 1]));
+    assert_eq!(mend(&mut table, 65_535), answer([0, 0, 0, 0, 0, 1]));
     assert!(zeros(&table));
 }
 

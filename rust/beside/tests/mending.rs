@@ -3,8 +3,6 @@
 mod common;
 use common::*;
 
-use beside::mend;
-
 const UNCUT: u32 = 65_535;
 
 /// Mending answers with this number and these stores, and leaves these records.
@@ -210,15 +208,15 @@ fn tables_damaged_at_random() {
         damage(&mut dice, &mut table);
         let before = table.clone();
         let seen = mend(&mut table, UNCUT);
-        match numbers(seen) {
+        match seen.numbers() {
             [2, 0, 0, 0, 0, 0] => {
                 assert_eq!(table, before);
                 lost += 1;
             }
             [0, 0, 0, 0, 0, stores] => {
-                assert!(beside::sound(&table));
+                assert!(sound(&table));
                 assert_eq!(only_cleared(&before, &table), stores as usize);
-                assert_eq!(stores == 0, beside::sound(&before));
+                assert_eq!(stores == 0, sound(&before));
                 cut_everywhere(&before, &table, stores);
                 *(if stores == 0 {
                     &mut untouched

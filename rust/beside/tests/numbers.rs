@@ -122,11 +122,11 @@ fn number_01_table_length() {
         let bench = Bench::of(vec![0; length]);
         bench.refuse("CRD .R", b"", 1, 0);
         let mut table = vec![0; length];
-        assert_eq!(beside::mend(&mut table, 9), answer([1, 0, 0, 0, 0, 0]));
-        assert!(!beside::sound(&table));
+        assert_eq!(mend(&mut table, 9), answer([1, 0, 0, 0, 0, 0]));
+        assert!(!sound(&table));
     }
     for records in [0, 1, 2_048] {
-        assert!(beside::sound(&vec![0; records * 32]));
+        assert!(sound(&vec![0; records * 32]));
     }
 }
 
@@ -135,7 +135,7 @@ fn number_02_table_not_sound() {
     let mut table = vec![0; 64];
     table[0] = 4;
     Bench::of(table.clone()).refuse("CRD .R", b"", 2, 0);
-    assert_eq!(beside::mend(&mut table, 9), answer([2, 0, 0, 0, 0, 0]));
+    assert_eq!(mend(&mut table, 9), answer([2, 0, 0, 0, 0, 0]));
     assert_eq!(table[0], 4);
 }
 
@@ -549,7 +549,7 @@ fn number_19_fewer_free_records_than_needed() {
             answer([0, 0, 1, displaced, 0, stores]),
             "{line}"
         );
-        assert!(beside::sound(&seen.table));
+        assert!(sound(&seen.table));
     };
     granted(10, "WRS M .R:B", 4);
     granted(10, "CPY .R:A .R:B", 4);
@@ -641,12 +641,12 @@ fn number_22_in_a_del() {
 #[test]
 fn number_22_in_a_mend() {
     let mut table = [simple(3), text(0, 0, b"TEX"), text(7, 0, b"T")].concat();
-    assert_eq!(beside::mend(&mut table, 0), answer([22, 0, 0, 0, 0, 0]));
-    assert_eq!(beside::mend(&mut table, 1), answer([22, 0, 0, 0, 0, 1]));
+    assert_eq!(mend(&mut table, 0), answer([22, 0, 0, 0, 0, 0]));
+    assert_eq!(mend(&mut table, 1), answer([22, 0, 0, 0, 0, 1]));
     assert_eq!(table, [FREE, text(0, 0, b"TEX"), text(7, 0, b"T")].concat());
-    assert_eq!(beside::mend(&mut table, 1), answer([22, 0, 0, 0, 0, 1]));
+    assert_eq!(mend(&mut table, 1), answer([22, 0, 0, 0, 0, 1]));
     assert_eq!(table, [FREE, FREE, text(7, 0, b"T")].concat());
-    assert_eq!(beside::mend(&mut table, 1), answer([0, 0, 0, 0, 0, 1]));
+    assert_eq!(mend(&mut table, 1), answer([0, 0, 0, 0, 0, 1]));
     assert_eq!(table, [FREE; 3].concat());
 }
 

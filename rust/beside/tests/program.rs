@@ -1,12 +1,13 @@
-//! The program: its output, byte for byte.
+//! The program: its output, byte for byte. The proved program's too, where FILEBOX_PROGRAM names it, as in the gate.
 
+use std::ffi::OsStr;
 use std::io::{Read, Write};
 use std::process::{Command, Stdio};
 use std::thread;
 
-/// What the program prints for this input.
-fn output(input: &[u8]) -> Vec<u8> {
-    let mut child = Command::new(env!("CARGO_BIN_EXE_beside"))
+/// What a program prints for this input.
+fn output(program: &OsStr, input: &[u8]) -> Vec<u8> {
+    let mut child = Command::new(program)
         .stdin(Stdio::piped())
         .stdout(Stdio::piped())
         .spawn()
@@ -26,11 +27,15 @@ fn output(input: &[u8]) -> Vec<u8> {
     printed
 }
 
-/// The input has this output, and the library's own `run` says the same.
+/// The input has this output, and the second program's own `run` says the same.
 fn prints(input: &[u8], expected: &[u8]) {
-    let printed = output(input);
-    let shown = String::from_utf8_lossy(&printed[..printed.len().min(300)]).into_owned();
-    assert!(printed == expected, "{shown}");
+    let proved = std::env::var_os("FILEBOX_PROGRAM");
+    let second = OsStr::new(env!("CARGO_BIN_EXE_beside"));
+    for program in [Some(second), proved.as_deref()].into_iter().flatten() {
+        let printed = output(program, input);
+        let shown = String::from_utf8_lossy(&printed[..printed.len().min(300)]).into_owned();
+        assert!(printed == expected, "{program:?}: {shown}");
+    }
     let mut again = Vec::new();
     beside::run(input, &mut again).unwrap();
     assert!(again == expected);

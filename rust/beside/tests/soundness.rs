@@ -19,7 +19,7 @@ fn good() -> Records {
 }
 
 fn is_sound(records: &[[u8; 32]]) -> bool {
-    beside::sound(&records.concat())
+    sound(&records.concat())
 }
 
 /// Not sound, and every request gets 2 and changes nothing.
@@ -58,7 +58,7 @@ fn the_good_table_is_sound() {
     assert!(is_sound(&[]));
     assert!(is_sound(&[FREE; 2_048]));
     assert!(!is_sound(&[FREE; 2_049]));
-    assert!(!beside::sound(&good().concat()[1..]));
+    assert!(!sound(&good().concat()[1..]));
 }
 
 #[test]

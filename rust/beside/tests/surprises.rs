@@ -26,10 +26,7 @@ fn a_directory_with_entries_can_be_cut_off_and_keeps_its_room() {
     bench.refuse("RDS .R:A", b"", 11, 1);
     bench.refuse("CRD .R", b"", 19, 0);
     let mut mended = bench.table.clone();
-    assert_eq!(
-        beside::mend(&mut mended, 65_535),
-        answer([0, 0, 0, 0, 0, 0])
-    );
+    assert_eq!(mend(&mut mended, 65_535), answer([0, 0, 0, 0, 0, 0]));
     assert_eq!(mended, expected);
 }
 

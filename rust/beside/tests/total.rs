@@ -154,7 +154,7 @@ fn any_input_has_one_answer() {
         let room = *dice.pick(&[&0, &10, &24_000]);
         let mut reply = vec![UNTOUCHED; room];
         let mut after = before.clone();
-        let answer = beside::request(&mut after, &line, &text, &mut reply, user, stop);
+        let answer = request(&mut after, &line, &text, &mut reply, user, stop);
         fits(answer, stop, &line, &before, &after);
         let rest = &reply[answer.bytes as usize..];
         assert!(rest.iter().all(|byte| *byte == UNTOUCHED));
@@ -175,7 +175,7 @@ fn any_table_is_mended_or_not() {
         let before = table(&mut dice, &sound);
         let stop = *dice.pick(&[&0, &1, &2, &u32::MAX]);
         let mut after = before.clone();
-        let answer = beside::mend(&mut after, stop);
+        let answer = mend(&mut after, stop);
         fits(answer, stop, b"", &before, &after[..]);
         assert_eq!((answer.place, answer.names), (0, 0));
         met[answer.number as usize] += 1;

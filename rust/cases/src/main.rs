@@ -80,7 +80,8 @@ impl Story {
             self.mend(&after, random.pick(&[0, 1, 2, 3, 99]));
         }
         if !damaged {
-            beside::mend(&mut after, 65_535);
+            let mended = beside::mend(&mut after, 65_535);
+            assert_eq!(mended.number, 0, "a request leaves what can be mended");
             self.table = after;
         }
     }
@@ -105,7 +106,8 @@ fn story(random: &mut Random, met: [u32; 23], off: u32) -> Story {
     let mut table = vec![0; rooms * 32];
     let first = ["CRD .R", "CRD .W", "WRS M .R:A", "DUP .R .R:B"];
     for line in first.iter().take(random.below(5)) {
-        beside::request(&mut table, line.as_bytes(), b"sheet", &mut [], 1, 65_535);
+        // as far as there is room
+        let _ = beside::request(&mut table, line.as_bytes(), b"sheet", &mut [], 1, 65_535);
     }
     Story {
         table,

@@ -98,14 +98,7 @@ impl Case {
                     line, text, user, ..
                 }) => filebox::request(table, line, text, reply, *user, self.stop),
             };
-            [
-                answer.number.code(),
-                answer.place,
-                answer.names,
-                answer.displaced.into(),
-                answer.bytes,
-                answer.stores,
-            ]
+            answer.numbers()
         })
     }
 
@@ -118,14 +111,7 @@ impl Case {
                     line, text, user, ..
                 }) => beside::request(table, line, text, reply, *user, self.stop),
             };
-            [
-                answer.number,
-                answer.place,
-                answer.names,
-                answer.displaced,
-                answer.bytes,
-                answer.stores,
-            ]
+            answer.numbers()
         })
     }
 }

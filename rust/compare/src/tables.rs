@@ -128,7 +128,8 @@ fn cut(random: &mut Random, table: &[u8], user: u32) -> Vec<u8> {
     let mut cut = table.to_vec();
     let line = requests::granted(random, table, user);
     let (text, stop) = (random.bytes(60), 1 + random.below(4) as u32);
-    beside::request(&mut cut, line.as_bytes(), &text, &mut [], user, stop);
+    // cut or not, and perhaps refused
+    let _ = beside::request(&mut cut, line.as_bytes(), &text, &mut [], user, stop);
     cut
 }
 

@@ -61,6 +61,18 @@ impl Answer {
             _ => Err(Refused(self)),
         }
     }
+
+    /// The six numbers: number, place, names, displaced as 0 or 1, bytes, stores.
+    pub fn numbers(self) -> [u32; 6] {
+        [
+            self.number.code(),
+            self.place,
+            self.names,
+            self.displaced.into(),
+            self.bytes,
+            self.stores,
+        ]
+    }
 }
 
 /// An answer whose number is not 0.
@@ -68,6 +80,18 @@ impl Answer {
 pub struct Refused(Answer);
 
 impl Refused {
+    /// A refusal without asking the box: nothing is done.
+    pub(crate) fn unasked(number: Number, place: u32) -> Refused {
+        Refused(Answer {
+            number,
+            place,
+            names: 0,
+            displaced: false,
+            bytes: 0,
+            stores: 0,
+        })
+    }
+
     /// The answer; of a DEL that was refused midway, and of a call that was stopped, it says what was done.
     pub fn answer(self) -> Answer {
         self.0

@@ -26,13 +26,14 @@ extern "C" {
 /// first `stop` stores are made.
 ///
 /// ```
-/// use filebox::{request, Number};
+/// use filebox::{request, Number, NO_STOP};
 ///
 /// let mut table = [0; 64];
-/// let answer = request(&mut table, b"CRD .R", b"", &mut [], 1, 65_535);
+/// let answer = request(&mut table, b"CRD .R", b"", &mut [], 1, NO_STOP);
 /// assert_eq!((answer.number, answer.names, answer.stores), (Number::Done, 1, 2));
 /// assert_eq!(&table[32..44], &[2, 0, 255, 255, 0, 0, 1, 0, 0, 2, b'.', b'R']);
 /// ```
+#[must_use = "the answer may be a refusal"]
 pub fn request(
     table: &mut [u8],
     line: &[u8],
@@ -65,14 +66,16 @@ pub fn request(
 /// are made; a mend that was cut is run again.
 ///
 /// ```
-/// use filebox::{mend, request, Number};
+/// use filebox::{mend, request, Number, NO_STOP};
 ///
 /// let mut table = [0; 64];
-/// request(&mut table, b"CRD .R", b"", &mut [], 1, 1);
+/// let cut = request(&mut table, b"CRD .R", b"", &mut [], 1, 1);
+/// assert_eq!((cut.number, cut.stores), (Number::Stopped, 1));
 /// assert_eq!(mend(&mut table, 0).number, Number::Stopped);
-/// assert_eq!(mend(&mut table, 65_535).stores, 1);
+/// assert_eq!(mend(&mut table, NO_STOP).stores, 1);
 /// assert_eq!(table, [0; 64]);
 /// ```
+#[must_use = "the answer may be a refusal"]
 pub fn mend(table: &mut [u8], stop: u32) -> Answer {
     // Sound: as above; the one slice is lent `mut`.
     let six = unsafe { filebox_mend(table.as_mut_ptr(), table.len(), stop) };

@@ -2,6 +2,7 @@
 
 use crate::answer::{Answer, Refused};
 use crate::library::{mend, request};
+use crate::number::Number;
 
 /// "The table is records of 32 bytes".
 pub const RECORD_BYTES: usize = 32;
@@ -9,8 +10,9 @@ pub const RECORD_BYTES: usize = 32;
 pub const MOST_RECORDS: usize = 2_048;
 /// The longest text of a file, in bytes.
 pub const LONGEST_TEXT: usize = 24_000;
-/// A stop number that no call reaches: a call stores no record twice, so it makes 2,048 stores at most.
-pub const NO_STOP: u32 = u32::MAX;
+/// A stop number that no call reaches: a call stores no record twice, so it makes 2,048 stores at most. `FILEBOX_NO_STOP` of
+/// the C header.
+pub const NO_STOP: u32 = 65_535;
 
 /// The bytes of the longest listing: 112 lines of a name of ten characters.
 const LONGEST_LISTING: usize = 112 * 21;
@@ -64,6 +66,7 @@ impl<B: AsMut<[u8]>> AsMut<[u8]> for Table<B> {
 
 impl<B: AsMut<[u8]>> Table<B> {
     /// A request as it is, with no stop number.
+    #[must_use = "the answer may be a refusal"]
     pub fn request(&mut self, user: u32, line: &str, text: &[u8], reply: &mut [u8]) -> Answer {
         request(self.as_mut(), line.as_bytes(), text, reply, user, NO_STOP)
     }
@@ -85,7 +88,17 @@ impl<B: AsMut<[u8]>> Table<B> {
         self.request(user, line, b"", &mut []).granted()
     }
 
-    /// WRS: file a sheet under a name, as declared.
+    /// WRS: file a sheet under a name, as declared. A declaration or a name with a blank in it would be two words of the line:
+    /// it is refused here, by 9 or 7, and the box is not asked.
+    ///
+    /// ```
+    /// use filebox::Table;
+    ///
+    /// let mut table = Table::free(16);
+    /// table.ask(1, "CRD .R").unwrap();
+    /// let refused = table.file(1, "M", ".R:TEST LIMITS", b"5.0 V").unwrap_err();
+    /// assert_eq!(refused.to_string(), "7: malformed name or chain (argument 2)");
+    /// ```
     pub fn file(
         &mut self,
         user: u32,
@@ -93,17 +106,22 @@ impl<B: AsMut<[u8]>> Table<B> {
         name: &str,
         text: &[u8],
     ) -> Result<Answer, Refused> {
+        without_blank(declaration, Number::DeclarationUnfit, 1)?;
+        without_blank(name, Number::MalformedName, 2)?;
         let line = format!("WRS {declaration} {name}");
         self.request(user, &line, text, &mut []).granted()
     }
 
-    /// RDS: the text of a sheet.
+    /// RDS: the text of a sheet. A name with a blank in it is refused by 7, as in [`Table::file`].
     pub fn sheet(&mut self, user: u32, name: &str) -> Result<Vec<u8>, Refused> {
+        without_blank(name, Number::MalformedName, 1)?;
         self.reply(user, &format!("RDS {name}"), LONGEST_TEXT)
     }
 
-    /// LST: the lines of a directory; with a lone point, of the user's base files other than `.W`.
+    /// LST: the lines of a directory; with a lone point, of the user's base files other than `.W`. A name with a blank in it is
+    /// refused by 7, as in [`Table::file`].
     pub fn list(&mut self, user: u32, name: &str) -> Result<Vec<u8>, Refused> {
+        without_blank(name, Number::MalformedName, 1)?;
         self.reply(user, &format!("LST {name}"), LONGEST_LISTING)
     }
 
@@ -118,5 +136,13 @@ impl<B: AsMut<[u8]>> Table<B> {
         let answer = self.request(user, line, b"", &mut reply).granted()?;
         reply.truncate(answer.bytes as usize);
         Ok(reply)
+    }
+}
+
+/// No name and no declaration has a blank: an argument that has one is refused, by this number and at this place.
+fn without_blank(argument: &str, number: Number, place: u32) -> Result<(), Refused> {
+    match argument.contains(' ') {
+        true => Err(Refused::unasked(number, place)),
+        false => Ok(()),
     }
 }

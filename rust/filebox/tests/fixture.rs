@@ -1,12 +1,14 @@
 //! What a fixture's programmer relies on: the edges of the crate, not of document 01.
 
-use filebox::{mend, request, Number, Refused, Table, LONGEST_TEXT, MOST_RECORDS};
+use filebox::{
+    mend, request, Number, Refused, Table, LONGEST_TEXT, MOST_RECORDS, NO_STOP, RECORD_BYTES,
+};
 
 #[test]
 fn empty_slices_are_fine() {
-    let answer = request(&mut [], b"", b"", &mut [], 1, 65_535);
+    let answer = request(&mut [], b"", b"", &mut [], 1, NO_STOP);
     assert_eq!(answer.number, Number::NoSuchFunction);
-    let answer = request(&mut [], b"LST .", b"", &mut [], 1, 65_535);
+    let answer = request(&mut [], b"LST .", b"", &mut [], 1, NO_STOP);
     assert_eq!(
         (answer.number, answer.names, answer.bytes),
         (Number::Done, 1, 0)
@@ -77,4 +79,69 @@ fn a_reply_buffer_too_short_is_left_alone() -> Result<(), Refused> {
         (Number::ReplyTooShort, 0, [7; 4])
     );
     Ok(())
+}
+
+#[test]
+fn an_argument_with_a_blank_is_refused_before_it_is_two_words() -> Result<(), Refused> {
+    let mut table = Table::free(16);
+    table.ask(1, "CRD .W")?;
+    table.file(1, "M", "A", b"SHEET")?;
+    let before = table.clone();
+    let six = |refused: Refused| refused.answer().numbers();
+    // with no declaration, the name would be declaration and name; and the other way round
+    let filed = [("", "M A"), ("M", "A B"), ("M", " "), ("M", "A : B")];
+    for (declaration, name) in filed {
+        let refused = table.file(1, declaration, name, b"OTHER").unwrap_err();
+        assert_eq!(six(refused), [7, 2, 0, 0, 0, 0], "{declaration}, {name}");
+    }
+    let refused = table.file(1, "M A", "", b"OTHER").unwrap_err();
+    assert_eq!(six(refused), [9, 1, 0, 0, 0, 0]);
+    // "RDS A " and "LST . " are granted as lines
+    for name in ["A ", " A", ". ", "A B", "\u{20}"] {
+        let sheet = table.sheet(1, name).unwrap_err();
+        let list = table.list(1, name).unwrap_err();
+        assert_eq!(six(sheet), [7, 1, 0, 0, 0, 0], "{name:?}");
+        assert_eq!(six(list), [7, 1, 0, 0, 0, 0], "{name:?}");
+    }
+    assert_eq!(table, before);
+    Ok(())
+}
+
+const HEADER: &str = include_str!("../../../include/filebox.h");
+
+/// What the C header says of a reply number: `NAME = 11, /* name not there */`.
+fn said(code: u32) -> &'static str {
+    let mut lines = HEADER.lines().filter_map(|line| line.split_once(" = "));
+    let is_it =
+        |value: &str| value.split(|c: char| !c.is_ascii_digit()).next() == Some(&code.to_string());
+    let (_, value) = lines.find(|(_, value)| is_it(value)).expect("a line");
+    let (_, comment) = value.split_once("/* ").expect("a comment");
+    comment.strip_suffix(" */").expect("its end")
+}
+
+/// What the C header defines a name as.
+fn defined(name: &str) -> u32 {
+    let mut words = HEADER
+        .lines()
+        .map(|line| line.split_whitespace().collect::<Vec<_>>());
+    let line = words.find(|words| words.len() > 2 && words[..2] == ["#define", name]);
+    let value = line.expect("a definition")[2];
+    let digits = value.strip_suffix('u').expect("an unsigned number");
+    digits.parse().expect("a number")
+}
+
+#[test]
+fn the_c_header_says_the_same_numbers() {
+    assert_eq!(defined("FILEBOX_NO_STOP"), NO_STOP);
+    let sizes = [
+        ("FILEBOX_RECORD", RECORD_BYTES),
+        ("FILEBOX_MOST_RECORDS", MOST_RECORDS),
+        ("FILEBOX_MOST_TEXT", LONGEST_TEXT),
+    ];
+    for (name, size) in sizes {
+        assert_eq!(defined(name) as usize, size, "{name}");
+    }
+    for number in Number::ALL {
+        assert_eq!(said(number.code()), number.to_string());
+    }
 }

@@ -12,7 +12,7 @@ use random::Random;
 
 use crate::seen::{equal, stations, Checked};
 use crate::sent::{requests, Sent};
-use crate::wire::{received, six, ANSWER_BYTES};
+use crate::wire::{received, ANSWER_BYTES};
 
 const RECORDS: usize = 256;
 /// Requests sent before a kill; fewer bytes than a pipe holds, so that sending never waits.
@@ -97,7 +97,7 @@ impl Fixture<'_> {
         match answers.split_first() {
             None => self.killed_in_mending(&left, &file, &mended)?,
             Some((first, answers)) => {
-                let expected = six(filebox::mend(&mut left.clone(), filebox::NO_STOP));
+                let expected = filebox::mend(&mut left.clone(), filebox::NO_STOP).numbers();
                 equal("the answer of mending", first, &expected)?;
                 self.killed_in_a_request(&sent, answers, &file, &mended)?;
             }

@@ -26,14 +26,7 @@ impl Sent {
         };
         let answer;
         (answer, sent.after) = sent.stopped(u32::MAX);
-        sent.answer = [
-            answer.number,
-            answer.place,
-            answer.names,
-            answer.displaced,
-            answer.bytes,
-            answer.stores,
-        ];
+        sent.answer = answer.numbers();
         sent
     }
 

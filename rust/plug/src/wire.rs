@@ -50,21 +50,9 @@ fn bytes(pipe: &mut impl Read, length: u32) -> io::Result<Vec<u8>> {
     Ok(bytes)
 }
 
-/// The six numbers of an answer.
-pub fn six(answer: Answer) -> [u32; 6] {
-    [
-        answer.number.code(),
-        answer.place,
-        answer.names,
-        answer.displaced.into(),
-        answer.bytes,
-        answer.stores,
-    ]
-}
-
 /// Send an answer, by one write: a kill sends all of it or nothing.
 pub fn send(pipe: &mut impl Write, answer: Answer) -> io::Result<()> {
-    pipe.write_all(&six(answer).map(u32::to_le_bytes).concat())
+    pipe.write_all(&answer.numbers().map(u32::to_le_bytes).concat())
 }
 
 /// The six numbers that were sent in so many bytes.

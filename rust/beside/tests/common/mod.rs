@@ -1,4 +1,5 @@
-//! What the tests share: hand-made records, a bench to ask requests at, and a generator of numbers.
+//! What the tests share: calls made by the second program and by the proved library at once, hand-made records, a bench to
+//! ask requests at, and a generator of numbers.
 #![allow(dead_code)]
 
 use beside::Answer;
@@ -19,16 +20,41 @@ pub fn answer(numbers: [u32; 6]) -> Answer {
     }
 }
 
-/// The six numbers of an answer.
-pub fn numbers(answer: Answer) -> [u32; 6] {
-    [
-        answer.number,
-        answer.place,
-        answer.names,
-        answer.displaced,
-        answer.bytes,
-        answer.stores,
-    ]
+/// A request, made by the second program and by the proved library: answer, table and reply must agree.
+pub fn request(
+    table: &mut [u8],
+    line: &[u8],
+    text: &[u8],
+    reply: &mut [u8],
+    user: u32,
+    stop: u32,
+) -> Answer {
+    let (mut proved_table, mut proved_reply) = (table.to_vec(), reply.to_vec());
+    let proved = filebox::request(&mut proved_table, line, text, &mut proved_reply, user, stop);
+    let answer = beside::request(table, line, text, reply, user, stop);
+    let shown = String::from_utf8_lossy(line);
+    assert_eq!(proved.numbers(), answer.numbers(), "the library: {shown}");
+    assert!(proved_table == table, "the library's table: {shown}");
+    assert!(proved_reply == reply, "the library's reply: {shown}");
+    answer
+}
+
+/// Mending, made by both: answer and table must agree.
+pub fn mend(table: &mut [u8], stop: u32) -> Answer {
+    let mut proved_table = table.to_vec();
+    let proved = filebox::mend(&mut proved_table, stop);
+    let answer = beside::mend(table, stop);
+    assert_eq!(proved.numbers(), answer.numbers(), "the library: mending");
+    assert!(proved_table == table, "the library's table: mending");
+    answer
+}
+
+/// Is the table sound? The second program's test, and the library's: an empty line gets 1 or 2 where it is not, else 5.
+pub fn sound(table: &[u8]) -> bool {
+    let sound = beside::sound(table);
+    let asked = filebox::request(&mut table.to_vec(), b"", b"", &mut [], 1, 0);
+    assert_eq!(asked.number.code() == 5, sound, "the library: soundness");
+    sound
 }
 
 /// A free record.
@@ -138,12 +164,12 @@ impl Bench {
         }
     }
 
-    /// Ask a request of a copy of the table.
+    /// Ask a request of a copy of the table, of both.
     pub fn ask(&self, line: impl AsRef<[u8]>, text: &[u8]) -> Seen {
         let mut table = self.table.clone();
         let mut reply = vec![UNTOUCHED; self.room];
         let line = line.as_ref();
-        let answer = beside::request(&mut table, line, text, &mut reply, self.user, self.stop);
+        let answer = request(&mut table, line, text, &mut reply, self.user, self.stop);
         Seen {
             answer,
             table,
@@ -156,7 +182,7 @@ impl Bench {
         let seen = self.ask(line, text);
         assert_eq!(seen.answer.number, 0, "{line}: {:?}", seen.answer);
         assert_eq!(seen.answer.place, 0, "{line}");
-        assert!(beside::sound(&seen.table), "{line}: not sound after");
+        assert!(sound(&seen.table), "{line}: not sound after");
         let bytes = seen.answer.bytes as usize;
         let rest = &seen.reply[bytes..];
         assert!(rest.iter().all(|byte| *byte == UNTOUCHED), "{line}: reply");
