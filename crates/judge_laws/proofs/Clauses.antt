@@ -1,25 +1,23 @@
 -- The clauses that the records show one by one hold exactly when every record passes the test of its kind.
 -- Both ways by kind: a clause on one kind is the scan of one part of that kind's test.
-use mathlib.Core.Bool.{Bool, true, false, _&&_, _||_, cond, true≢false}
+use mathlib.Core.Bool.{true, false}
 use mathlib.Core.List.{List, [], _∷_}
 use mathlib.Core.Logic.{_≢_, by-cases}
 use mathlib.Core.Path.{_≡_, sym, _∙_}
-use Prim.Native.Nat.{ℕ, _+_, _-_, _≤_, _<_}
+use Prim.Native.Nat.{ℕ, _≤_, _<_}
 use native.Mathlib.Omega.{arith}
 use native.Mathlib.Decide.{ℕ-discrete}
-use lib.Dec.{eqb, leb}
-use borrow.Author.Tests.{eqb-true, eq-eqb, ne-eqb, leb-true, le-leb}
-use Rattle.judge_laws.specs.Shapes.{plainTest, headingRight, entryRight, rightAt, shaped}
+use lib.Dec.{leb}
+use borrow.Author.Tests.{ne-eqb, leb-true, le-leb}
+use Rattle.judge_laws.specs.Shapes.{headingRight, entryRight, rightAt, shaped}
 use Rattle.paper.specs.Entry.{named}
-use Rattle.paper.specs.Name.{linkName, legalBase}
-use Rattle.paper.specs.Record.{byte, isKind, directory, entryCode, holderOf, headingNamed, userOf, nameLength, nameOf, zeros}
-use Rattle.paper.specs.Scan.{allBelow}
-use Rattle.paper.specs.Sound.{implies, every, freeAsAbove, headingAsAbove, entryAsAbove, textAsAbove, asAbove, isBase, holdersThere, headingsThere, usersRight, namesPadded, directoriesPlain, namesLegal}
+use Rattle.paper.specs.Name.{linkName}
+use Rattle.paper.specs.Record.{byte, entryCode, nameLength, nameOf, zeros}
+use Rattle.paper.specs.Sound.{freeAsAbove, headingAsAbove, entryAsAbove, textAsAbove, asAbove, holderThere, holdersThere, headingThere, headingsThere, userRight, usersRight, namePadded, namesPadded, directoryPlain, directoriesPlain, nameLegal, namesLegal}
 use Rattle.paper.specs.Table.{rooms, rec}
-use Rattle.judge_laws.proofs.Every.{every-true, every-here}
 use Rattle.laws.proofs.Scans.{all-true, all-here}
-use Rattle.laws.proofs.Tests.{and-left, and-right, and-both, false-by}
-use Rattle.judge_laws.proofs.Tests.{joined, joined-first, joined-part}
+use Rattle.laws.proofs.Tests.{and-left, and-right, and-both, not-both, false-by, joined, joined-first, joined-part}
+use Rattle.laws.proofs.Sound.{Above, above-view, above-made, every-true, every-here}
 use Rattle.judge_laws.proofs.Shapes.{zeros-at, Entered, entry-view, base-holder, base-user, base-legal, base-place, entry-made}
 
 module _ (t : List ℕ) (i : ℕ) where
@@ -33,13 +31,17 @@ module _ (t : List ℕ) (i : ℕ) where
 
   pub right-text : byte (rec t i) 0 ≡ 3 → rightAt t i ≡ textAsAbove 0 (rec t i)
   unfolding rightAt
-  right-text k = rw (ne-eqb (byte (rec t i) 0) 1 (λ (q : byte (rec t i) 0 ≡ 1). omega arith), ne-eqb (byte (rec t i) 0) 2 (λ (q : byte (rec t i) 0 ≡ 2). omega arith), eq-eqb (byte (rec t i) 0) 3 k)
+  right-text k = rw k
+
+  right-free : byte (rec t i) 0 ≡ 0 → rightAt t i ≡ zeros 0 32 (rec t i)
+  unfolding rightAt
+  right-free k = rw k
 
   pub right-other : (byte (rec t i) 0 ≡ 1 → ⊥) → (byte (rec t i) 0 ≡ 2 → ⊥) → (byte (rec t i) 0 ≡ 3 → ⊥) → rightAt t i ≡ zeros 0 32 (rec t i)
   unfolding rightAt
   right-other a b d = rw (ne-eqb (byte (rec t i) 0) 1 a, ne-eqb (byte (rec t i) 0) 2 b, ne-eqb (byte (rec t i) 0) 3 d)
 
--- the clauses, and the parts of the first
+-- the clauses that the records show one by one
 pub record Clauses (t : List ℕ) : Type 0 where
   pub above : asAbove t ≡ true
   pub holders : holdersThere t ≡ true
@@ -67,87 +69,52 @@ pub shaped-made : (t : List ℕ) → Clauses t → shaped t ≡ true
 unfolding shaped
 shaped-made t h = rw (h .above, h .holders, h .headings, h .users, h .padded, h .plain) (h .legal)
 
-pub record Above (t : List ℕ) : Type 0 where
-  pub kinds : allBelow (λ i. leb (byte (rec t i) 0) 3) (rooms t) ≡ true
-  pub free : every 0 freeAsAbove t ≡ true
-  pub heading : every 1 headingAsAbove t ≡ true
-  pub entry : every 2 entryAsAbove t ≡ true
-  pub text : every 3 textAsAbove t ≡ true
-
-pub above-view : (t : List ℕ) → asAbove t ≡ true → Above t
-unfolding asAbove joined
-above-view t e =
-    let a = allBelow (λ i. leb (byte (rec t i) 0) 3) (rooms t) in
-    let s = every 0 freeAsAbove t ∷ every 1 headingAsAbove t ∷ every 2 entryAsAbove t ∷ every 3 textAsAbove t ∷ [] in
-    record {
-      kinds = joined-first a s e;
-      free = joined-part a s 0 e;
-      heading = joined-part a s 1 e;
-      entry = joined-part a s 2 e;
-      text = joined-part a s 3 e;
-    }
-
-pub above-made : (t : List ℕ) → Above t → asAbove t ≡ true
-unfolding asAbove
-above-made t h = rw (h .kinds, h .free, h .heading, h .entry) (h .text)
-
--- the clauses on entries, and on directories, as tests of a record
-abbrev placeTest : List ℕ → ℕ → List ℕ → Bool
-placeTest t i r = isBase r || directory (rec t (holderOf r))
-
-abbrev userTest : ℕ → List ℕ → Bool
-userTest i r = cond (isBase r) (leb (userOf r) 999999) (eqb (userOf r) 0)
-
-abbrev legalTest : ℕ → List ℕ → Bool
-legalTest i r = linkName (nameOf r) && implies (isBase r) (legalBase (nameOf r))
-
-abbrev padTest : ℕ → List ℕ → Bool
-padTest i r = zeros (10 + nameLength r) (10 - nameLength r) r
-
 -- the clauses hold: each record passes
 module _ (t : List ℕ) (h : Clauses t) (a : Above t) (i : ℕ) (l : i < rooms t) where
-  heading-passes : isKind 1 (rec t i) ≡ true → headingRight (rec t i) ≡ true
+  heading-passes : byte (rec t i) 0 ≡ 1 → headingRight (rec t i) ≡ true
   unfolding headingRight directoriesPlain
   heading-passes k =
-      and-both (headingAsAbove 0 (rec t i)) _ (every-true 1 headingAsAbove t i l (a .heading) k) (every-true 1 (λ i r. plainTest r) t i l (h .plain) k)
+      and-both (headingAsAbove 0 (rec t i)) _ (every-true 1 headingAsAbove t (a .heading) i l k) (every-true 1 directoryPlain t (h .plain) i l k)
 
-  entry-passes : isKind 2 (rec t i) ≡ true → entryRight t (rec t i) ≡ true
+  entry-passes : byte (rec t i) 0 ≡ 2 → entryRight t (rec t i) ≡ true
   unfolding holdersThere headingsThere usersRight namesPadded namesLegal joined
   entry-passes k =
       let r = rec t i in
-      let e : entryAsAbove 0 r ≡ true = every-true 2 entryAsAbove t i l (a .entry) k in
+      let e : entryAsAbove 0 r ≡ true = every-true 2 entryAsAbove t (a .entry) i l k in
       let s = leb (nameLength r) 10 ∷ zeros 20 12 r ∷ [] in
-      let n : legalTest i r ≡ true = every-true 2 legalTest t i l (h .legal) k in
+      let n : nameLegal i r ≡ true = every-true 2 nameLegal t (h .legal) i l k in
       entry-made t r (record {
         code = leb-true _ _ (joined-first (leb (entryCode r) 7) s e);
         short = leb-true _ _ (joined-part (leb (entryCode r) 7) s 0 e);
         rest = joined-part (leb (entryCode r) 7) s 1 e;
-        padded = every-true 2 padTest t i l (h .padded) k;
-        named = every-true 2 (λ i r. isKind 1 (rec t (headingNamed r))) t i l (h .headings) k;
+        padded = every-true 2 namePadded t (h .padded) i l k;
+        named = every-true 2 (headingThere t) t (h .headings) i l k;
         link = and-left (linkName (nameOf r)) _ n;
-        place = base-place t r (every-true 2 (placeTest t) t i l (h .holders) k) (every-true 2 userTest t i l (h .users) k) (and-right (linkName (nameOf r)) _ n);
+        place =
+            base-place t r (every-true 2 (holderThere t) t (h .holders) i l k) (every-true 2 userRight t (h .users) i l k)
+            (and-right (linkName (nameOf r)) _ n);
       })
 
   clause-right : rightAt t i ≡ true
   clause-right =
       by-cases (ℕ-discrete (byte (rec t i) 0) 1)
-      (λ (q : byte (rec t i) 0 ≡ 1). right-heading t i q ∙ heading-passes (eq-eqb _ _ q))
+      (λ (q : byte (rec t i) 0 ≡ 1). right-heading t i q ∙ heading-passes q)
       (λ (x : byte (rec t i) 0 ≢ 1). by-cases (ℕ-discrete (byte (rec t i) 0) 2)
-      (λ (q : byte (rec t i) 0 ≡ 2). right-entry t i q ∙ entry-passes (eq-eqb _ _ q))
+      (λ (q : byte (rec t i) 0 ≡ 2). right-entry t i q ∙ entry-passes q)
       (λ (y : byte (rec t i) 0 ≢ 2). by-cases (ℕ-discrete (byte (rec t i) 0) 3)
-      (λ (q : byte (rec t i) 0 ≡ 3). right-text t i q ∙ every-true 3 textAsAbove t i l (a .text) (eq-eqb _ _ q))
+      (λ (q : byte (rec t i) 0 ≡ 3). right-text t i q ∙ every-true 3 textAsAbove t (a .text) i l q)
       (λ (z : byte (rec t i) 0 ≢ 3).
       let m : byte (rec t i) 0 ≤ 3 = leb-true _ _ (all-true (λ i. leb (byte (rec t i) 0) 3) (rooms t) i l (a .kinds)) in
       let n : byte (rec t i) 0 ≡ 0 = omega arith in
-      right-other t i x y z ∙ every-true 0 freeAsAbove t i l (a .free) (eq-eqb _ _ n))))
+      right-other t i x y z ∙ every-true 0 freeAsAbove t (a .free) i l n)))
 
 -- each record passes: the clauses hold
 module _ (t : List ℕ) (h : (i : ℕ) → i < rooms t → rightAt t i ≡ true) where
-  entered : (i : ℕ) → i < rooms t → isKind 2 (rec t i) ≡ true → Entered t (rec t i)
-  entered i l k = entry-view t (rec t i) (sym (right-entry t i (eqb-true _ _ k)) ∙ h i l)
+  entered : (i : ℕ) → i < rooms t → byte (rec t i) 0 ≡ 2 → Entered t (rec t i)
+  entered i l k = entry-view t (rec t i) (sym (right-entry t i k) ∙ h i l)
 
-  headed : (i : ℕ) → i < rooms t → isKind 1 (rec t i) ≡ true → headingRight (rec t i) ≡ true
-  headed i l k = sym (right-heading t i (eqb-true _ _ k)) ∙ h i l
+  headed : (i : ℕ) → i < rooms t → byte (rec t i) 0 ≡ 1 → headingRight (rec t i) ≡ true
+  headed i l k = sym (right-heading t i k) ∙ h i l
 
   low : (i : ℕ) → i < rooms t → leb (byte (rec t i) 0) 3 ≡ true
   low i l =
@@ -166,12 +133,11 @@ module _ (t : List ℕ) (h : (i : ℕ) → i < rooms t → rightAt t i ≡ true)
   right-above =
       record {
         kinds = all-here (λ i. leb (byte (rec t i) 0) 3) (rooms t) low;
-        free = every-here 0 freeAsAbove t (λ i l k. let q : byte (rec t i) 0 ≡ 0 = eqb-true _ _ k in
-            sym (right-other t i (λ (x : byte (rec t i) 0 ≡ 1). omega arith) (λ (x : byte (rec t i) 0 ≡ 2). omega arith) (λ (x : byte (rec t i) 0 ≡ 3). omega arith)) ∙ h i l);
+        free = every-here 0 freeAsAbove t (λ i l k. sym (right-free t i k) ∙ h i l);
         heading = every-here 1 headingAsAbove t (λ i l k. and-left (headingAsAbove 0 (rec t i)) _ (headed i l k));
         entry = every-here 2 entryAsAbove t (λ i l k. let e = entered i l k in
             rw (le-leb (entryCode (rec t i)) 7 (e .code), le-leb (nameLength (rec t i)) 10 (e .short)) (e .rest));
-        text = every-here 3 textAsAbove t (λ i l k. sym (right-text t i (eqb-true _ _ k)) ∙ h i l);
+        text = every-here 3 textAsAbove t (λ i l k. sym (right-text t i k) ∙ h i l);
       }
 
   right-clauses : Clauses t
@@ -179,12 +145,13 @@ module _ (t : List ℕ) (h : (i : ℕ) → i < rooms t → rightAt t i ≡ true)
   right-clauses =
       record {
         above = above-made t right-above;
-        holders = every-here 2 (placeTest t) t (λ i l k. base-holder t (rec t i) (entered i l k .place));
-        headings = every-here 2 (λ i r. isKind 1 (rec t (headingNamed r))) t (λ i l k. entered i l k .named);
-        users = every-here 2 userTest t (λ i l k. base-user t (rec t i) (entered i l k .place));
-        padded = every-here 2 padTest t (λ i l k. entered i l k .padded);
-        plain = every-here 1 (λ i r. plainTest r) t (λ i l k. and-right (headingAsAbove 0 (rec t i)) _ (headed i l k));
-        legal = every-here 2 legalTest t (λ i l k. and-both (linkName (nameOf (rec t i))) _ (entered i l k .link) (base-legal t (rec t i) (entered i l k .place)));
+        holders = every-here 2 (holderThere t) t (λ i l k. base-holder t (rec t i) (entered i l k .place));
+        headings = every-here 2 (headingThere t) t (λ i l k. entered i l k .named);
+        users = every-here 2 userRight t (λ i l k. base-user t (rec t i) (entered i l k .place));
+        padded = every-here 2 namePadded t (λ i l k. entered i l k .padded);
+        plain = every-here 1 directoryPlain t (λ i l k. and-right (headingAsAbove 0 (rec t i)) _ (headed i l k));
+        legal = every-here 2 nameLegal t (λ i l k.
+            and-both (linkName (nameOf (rec t i))) _ (entered i l k .link) (base-legal t (rec t i) (entered i l k .place)));
       }
 
 pub shaped-all : (t : List ℕ) → ((i : ℕ) → i < rooms t → rightAt t i ≡ true) → shaped t ≡ true
@@ -192,4 +159,4 @@ shaped-all t h = shaped-made t (right-clauses t h)
 
 pub shaped-not : (t : List ℕ) (i : ℕ) → i < rooms t → rightAt t i ≡ false → shaped t ≡ false
 shaped-not t i l e =
-    false-by (shaped t) (λ s. let c = shaped-view t s in true≢false (sym (clause-right t c (above-view t (c .above)) i l) ∙ e))
+    false-by (shaped t) (λ s. let c = shaped-view t s in not-both (clause-right t c (above-view t (c .above)) i l) e)

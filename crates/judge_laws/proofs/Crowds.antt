@@ -17,12 +17,14 @@ use Rattle.judge_laws.specs.Tally.{lastBelow}
 use Rattle.paper.specs.Entry.{holder, stands, crowd, limit}
 use Rattle.paper.specs.Record.{isKind, holderOf, userOf}
 use Rattle.paper.specs.Scan.{countBelow}
-use Rattle.paper.specs.Sound.{implies, noneCrowded}
+use Rattle.paper.specs.Sound.{implies, notCrowded, noneCrowded}
 use Rattle.paper.specs.Table.{rooms, rec}
 use Rattle.judge_laws.proofs.Chains.{Walk, walk-start, walk-end, walk-found, walk-on}
+use Rattle.laws.proofs.Scans.{all-false}
+use Rattle.laws.proofs.Sound.{every-here}
+use Rattle.laws.proofs.Entries.{stands-true, stands-by}
 use Rattle.laws.proofs.Counts.{count-cong, count-more, count-up}
-use Rattle.laws.proofs.Tests.{truth, and-left, and-right, and-both, implies-use, false-by}
-use Rattle.judge_laws.proofs.Every.{every-here, every-false}
+use Rattle.laws.proofs.Tests.{truth, and-both, implies-use, false-by}
 use Rattle.judge_laws.proofs.Lasts.{last-most, last-past, last-here, count-last}
 
 pub bucket-below : (r : List ℕ) → placeOf r < 2048
@@ -35,20 +37,10 @@ pub record Same (a b : List ℕ) : Type 0 where
   pub user : userOf b ≡ userOf a
 
 pub beside-same : (a b : List ℕ) → stands (holder a) b ≡ true → (isKind 2 b ≡ true) × Same a b
-unfolding stands
-beside-same a b e =
-    let r = and-right (isKind 2 b) _ e in (
-      and-left (isKind 2 b) _ e,
-      record {
-        dir = eqb-true _ _ (and-left (eqb (holderOf b) (holderOf a)) _ r);
-        user = eqb-true _ _ (and-right (eqb (holderOf b) (holderOf a)) _ r);
-      },
-    )
+beside-same a b e = let s = stands-true (holder a) b e in (eq-eqb _ _ (s .kind), record { dir = s .heading; user = s .user })
 
 pub same-beside : (a b : List ℕ) → isKind 2 b ≡ true → Same a b → stands (holder a) b ≡ true
-unfolding stands
-same-beside a b k s =
-    and-both (isKind 2 b) _ k (and-both (eqb (holderOf b) (holderOf a)) _ (eq-eqb _ _ (s .dir)) (eq-eqb _ _ (s .user)))
+same-beside a b k s = stands-by (holder a) b (record { kind = eqb-true _ _ k; heading = s .dir; user = s .user })
 
 place-same : (a b : List ℕ) → Same a b → placeOf b ≡ placeOf a
 unfolding placeOf
@@ -81,7 +73,8 @@ module _ (t : List ℕ) where
       let h : besideTo t i (c - 1) ≡ true = rw e (last-here (besideTo t i) n (rw e at l)) in
       let s = same-of i (c - 1) h in
       let z : c ≡ (c - 1) + 1 = omega arith in (
-        count-last (besideTo t i) n ∙ ap (countBelow (besideTo t i)) (sym e ∙ z) ∙ count-cong (besideTo t i) (besideTo t (c - 1)) ((c - 1) + 1) (λ k _. to-like i (c - 1) k s),
+        count-last (besideTo t i) n ∙ ap (countBelow (besideTo t i)) (sym e ∙ z)
+        ∙ count-cong (besideTo t i) (besideTo t (c - 1)) ((c - 1) + 1) (λ k _. to-like i (c - 1) k s),
         beside-same (rec t i) (rec t (c - 1)) h .0,
         s,
         rw e (last-most (besideTo t i) n),
@@ -99,7 +92,8 @@ module _ (t : List ℕ) where
       let z : countBelow (besideTo t i) i ≡ 0 = count-last (besideTo t i) i ∙ rw q in
       rank-more i k ∙ rw z
 
-  pub rank-next : (rank : List ℕ) (i c : ℕ) → Ranked t rank i → isKind 2 (rec t i) ≡ true → c ≡ lastBelow (besideTo t i) i → 0 < c → rankOf t i ≡ getD rank (c - 1) 0 + 1
+  pub rank-next : (rank : List ℕ) (i c : ℕ) → Ranked t rank i → isKind 2 (rec t i) ≡ true → c ≡ lastBelow (besideTo t i) i → 0 < c
+      → rankOf t i ≡ getD rank (c - 1) 0 + 1
   rank-next rank i c r k e l =
       let z = count-rank i i c e l in
       rank-more i k ∙ ap (λ m. m + 1) (z .0 ∙ sym (r .at (c - 1) (omega (arith, z .3)) (z .1)))
@@ -107,7 +101,7 @@ module _ (t : List ℕ) where
   -- the whole test
   pub roomy-all : ((i : ℕ) → i < rooms t → roomy t i ≡ true) → noneCrowded t ≡ true
   unfolding noneCrowded crowd
-  roomy-all h = every-here 2 (λ i r. leb (countBelow (λ j. stands (holder r) (rec t j)) (rooms t)) (limit (holder r))) t one
+  roomy-all h = every-here 2 (notCrowded t) t (λ i l k. one i l (eq-eqb _ _ k))
     where
       one : (i : ℕ) → i < rooms t → isKind 2 (rec t i) ≡ true → leb (countBelow (besideTo t i) (rooms t)) (limit (holder (rec t i))) ≡ true
       one i l k =
@@ -115,7 +109,8 @@ module _ (t : List ℕ) where
           by-cases (decLt 0 c)
           (λ (p : 0 < c).
           let z = count-rank i (rooms t) c refl p in
-          let b : rankOf t (c - 1) ≤ limit (holder (rec t (c - 1))) = leb-true _ _ (implies-use (isKind 2 (rec t (c - 1))) _ (h (c - 1) (omega (arith, z .3))) (z .1)) in
+          let b : rankOf t (c - 1) ≤ limit (holder (rec t (c - 1))) =
+          leb-true _ _ (implies-use (isKind 2 (rec t (c - 1))) _ (h (c - 1) (omega (arith, z .3))) (z .1)) in
           let d : limit (holder (rec t i)) ≡ limit (holder (rec t (c - 1))) = limit-same (rec t i) (rec t (c - 1)) (z .2) in
           le-leb (countBelow (besideTo t i) (rooms t)) (limit (holder (rec t i))) (rw (z .0, d) b))
           (λ (p : ¬ (0 < c)). absurd (true≢false (sym (itself i k) ∙ last-past (besideTo t i) (rooms t) i (omega arith) l)))
@@ -123,14 +118,16 @@ module _ (t : List ℕ) where
   pub crowded-one : (i : ℕ) → i < rooms t → roomy t i ≡ false → noneCrowded t ≡ false
   unfolding noneCrowded crowd rankOf
   crowded-one i l e =
-      every-false 2 (λ i r. leb (countBelow (λ j. stands (holder r) (rec t j)) (rooms t)) (limit (holder r))) t i l (one (truth (isKind 2 (rec t i))))
+      all-false (λ i. implies (isKind 2 (rec t i)) (notCrowded t i (rec t i))) (rooms t) i l (one (truth (isKind 2 (rec t i))))
     where
       one : (isKind 2 (rec t i) ≡ true) ⊎ (isKind 2 (rec t i) ≡ false)
           → implies (isKind 2 (rec t i)) (leb (countBelow (besideTo t i) (rooms t)) (limit (holder (rec t i)))) ≡ false
       one (inr k) = absurd (true≢false (rw k at e))
       one (inl k) =
           let b : limit (holder (rec t i)) < countBelow (besideTo t i) (i + 1) = leb-false _ _ (rw k at e) in
-          rw k (lt-leb (countBelow (besideTo t i) (rooms t)) (limit (holder (rec t i))) (omega (arith, count-up (besideTo t i) (i + 1) (rooms t) (omega arith))))
+          rw k
+          (lt-leb (countBelow (besideTo t i) (rooms t)) (limit (holder (rec t i)))
+          (omega (arith, count-up (besideTo t i) (i + 1) (rooms t) (omega arith))))
 
 module _ (t rank : List ℕ) (i : ℕ) (r : Ranked t rank i) where
   pub ranked-other : isKind 2 (rec t i) ≡ false → Ranked t rank (i + 1)

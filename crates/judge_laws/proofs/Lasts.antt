@@ -9,8 +9,8 @@ use native.Mathlib.Numerals.{add-one}
 use native.Mathlib.Decide.{ℕ-discrete}
 use Rattle.judge_laws.specs.Tally.{lastBelow}
 use Rattle.paper.specs.Scan.{anyBelow, countBelow}
-use Rattle.laws.proofs.Scans.{any-true, any-here}
-use Rattle.laws.proofs.Tests.{truth, false-by}
+use Rattle.laws.proofs.Scans.{any-here, any-none}
+use Rattle.laws.proofs.Tests.{truth}
 
 pub last-more : (p : ℕ → Bool) (n : ℕ) → lastBelow p (n + 1) ≡ cond (p n) (n + 1) (lastBelow p n)
 unfolding lastBelow
@@ -41,7 +41,8 @@ unfolding lastBelow
 last-here p zero l = let z : ⊥ = omega arith in absurd z
 last-here p (suc n) l = go (p n) refl l (λ x. last-here p n x)
   where
-    go : (b : Bool) → p n ≡ b → 0 < cond b (suc n) (lastBelow p n) → (0 < lastBelow p n → p (lastBelow p n - 1) ≡ true) → p (cond b (suc n) (lastBelow p n) - 1) ≡ true
+    go : (b : Bool) → p n ≡ b → 0 < cond b (suc n) (lastBelow p n) → (0 < lastBelow p n → p (lastBelow p n - 1) ≡ true)
+        → p (cond b (suc n) (lastBelow p n) - 1) ≡ true
     go true e x r = let q : suc n - 1 ≡ n = omega arith in rw q e
     go false e x r = r x
 
@@ -74,11 +75,8 @@ last-last p q n h = last-drop q (lastBelow p n) n (last-most p n) (λ j a b. go 
     go j f (inl e) = absurd (true≢false (sym (h j e) ∙ f))
     go j f (inr e) = e
 
-pub any-none : (q : ℕ → Bool) (n : ℕ) → lastBelow q n ≡ 0 → anyBelow q n ≡ false
-any-none q n e = any-not q n (λ j l. last-past q n j (omega arith) l)
-  where
-    any-not : (q : ℕ → Bool) (n : ℕ) → ((j : ℕ) → j < n → q j ≡ false) → anyBelow q n ≡ false
-    any-not q n h = false-by (anyBelow q n) (λ a. let z = any-true q n a in true≢false (sym (z .2) ∙ h (z .0) (z .1)))
+pub last-none : (q : ℕ → Bool) (n : ℕ) → lastBelow q n ≡ 0 → anyBelow q n ≡ false
+last-none q n e = any-none q n (λ j l. last-past q n j (omega arith) l)
 
-pub any-some : (q : ℕ → Bool) (n c : ℕ) → lastBelow q n ≡ c → 0 < c → anyBelow q n ≡ true
-any-some q n c e l = any-here q n (lastBelow q n - 1) (omega (arith, last-most q n)) (last-here q n (omega arith))
+pub last-some : (q : ℕ → Bool) (n c : ℕ) → lastBelow q n ≡ c → 0 < c → anyBelow q n ≡ true
+last-some q n c e l = any-here q n (lastBelow q n - 1) (omega (arith, last-most q n)) (last-here q n (omega arith))

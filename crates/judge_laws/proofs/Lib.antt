@@ -1,7 +1,5 @@
 pub mod Tests
-pub mod Records
 pub mod Mask
-pub mod Every
 pub mod Sums
 pub mod Slots
 pub mod Text

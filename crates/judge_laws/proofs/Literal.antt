@@ -11,21 +11,20 @@ use lib.ListN.{length, getD}
 use lib.Seq.{ext-getD}
 use lib.Dec.{eqb, leb}
 use borrow.Author.Tests.{eqb-true, eq-eqb, leb-true}
-use Rattle.judge_laws.specs.Twins.{sameBytes, twin, noTwins}
+use Rattle.judge_laws.specs.Twins.{sameBytes, twin, twinTo, single, noTwins}
 use Rattle.paper.specs.Entry.{holder, stands, bears}
 use Rattle.paper.specs.Name.{same}
 use Rattle.paper.specs.Record.{byte, isKind, entryCode, nameLength, nameOf, zeros}
-use Rattle.paper.specs.Scan.{anyBelow}
-use Rattle.paper.specs.Sound.{implies, entryAsAbove, namesPadded, noneTwice}
+use Rattle.paper.specs.Sound.{implies, entryAsAbove, namePadded, namesPadded, notTwice, noneTwice}
 use Rattle.paper.specs.Table.{rooms, rec}
-use Rattle.judge_laws.proofs.Clauses.{Clauses, above-view}
+use Rattle.judge_laws.proofs.Clauses.{Clauses}
 use Rattle.judge_laws.proofs.Crowds.{beside-same}
-use Rattle.judge_laws.proofs.Every.{every-true}
-use Rattle.judge_laws.proofs.Names.{same-eq, same-refl, name-length, name-at}
+use Rattle.judge_laws.proofs.Names.{name-length, name-at}
 use Rattle.laws.proofs.Lay.{length-rec}
 use Rattle.laws.proofs.Scans.{any-cong, all-true, all-here, all-cong}
-use Rattle.laws.proofs.Tests.{truth, same-truth}
-use Rattle.judge_laws.proofs.Tests.{joined, joined-part}
+use Rattle.laws.proofs.Tests.{truth, same-truth, joined, joined-part}
+use Rattle.laws.proofs.Sound.{above-view, every-true}
+use Rattle.laws.proofs.Entries.{same-true, same-refl}
 use Rattle.judge_laws.proofs.Shapes.{zeros-at}
 
 -- an entry's record, its name short and padded
@@ -63,7 +62,7 @@ module _ (a b : List ℕ) (p : Padded a) (q : Padded b) where
   name-bytes e = all-here (λ j. eqb (byte a (9 + j)) (byte b (9 + j))) 11 (λ j l. eq-eqb _ _ (at j l))
     where
       s : nameOf a ≡ nameOf b
-      s = same-eq (nameOf a) (nameOf b) e
+      s = same-true (nameOf a) (nameOf b) e
 
       n : nameLength a ≡ nameLength b
       n = sym (name-length a (p .whole) (p .short)) ∙ ap length s ∙ name-length b (q .whole) (q .short)
@@ -71,7 +70,8 @@ module _ (a b : List ℕ) (p : Padded a) (q : Padded b) where
       in-name : (j : ℕ) → j < 10 → byte a (10 + j) ≡ byte b (10 + j)
       in-name j l =
           by-cases (decLt j (nameLength a))
-          (λ (k : j < nameLength a). sym (name-at a (p .whole) (p .short) j k) ∙ ap (λ (m : List ℕ). getD m j 0) s ∙ name-at b (q .whole) (q .short) j (omega (arith, n)))
+          (λ (k : j < nameLength a).
+          sym (name-at a (p .whole) (p .short) j k) ∙ ap (λ (m : List ℕ). getD m j 0) s ∙ name-at b (q .whole) (q .short) j (omega (arith, n)))
           (λ (k : ¬ (j < nameLength a)). past-zero a p j (omega arith) l ∙ sym (past-zero b q j (omega (arith, n)) l))
 
       at : (j : ℕ) → j < 11 → byte a (9 + j) ≡ byte b (9 + j)
@@ -87,29 +87,32 @@ module _ (t : List ℕ) (h : Clauses t) where
   unfolding namesPadded joined
   entry-padded i l k =
       let r = rec t i in
-      let e : entryAsAbove 0 r ≡ true = every-true 2 entryAsAbove t i l (above-view t (h .above) .entry) k in
+      let e : entryAsAbove 0 r ≡ true = every-true 2 entryAsAbove t (above-view t (h .above) .entry) i l (eqb-true _ _ k) in
       record {
         whole = length-rec t i l;
         short = leb-true _ _ (joined-part (leb (entryCode r) 7) (leb (nameLength r) 10 ∷ zeros 20 12 r ∷ []) 0 e);
-        past = every-true 2 (λ i r. zeros (10 + nameLength r) (10 - nameLength r) r) t i l (h .padded) k;
+        past = every-true 2 namePadded t (h .padded) i l (eqb-true _ _ k);
       }
 
-  twin-bears : (i j : ℕ) → i < rooms t → j < rooms t → isKind 2 (rec t i) ≡ true → twin (rec t i) (rec t j) ≡ bears (holder (rec t i)) (nameOf (rec t i)) (rec t j)
+  twin-bears : (i j : ℕ) → i < rooms t → j < rooms t → isKind 2 (rec t i) ≡ true
+      → twin (rec t i) (rec t j) ≡ bears (holder (rec t i)) (nameOf (rec t i)) (rec t j)
   unfolding bears
   twin-bears i j l m k = go (truth (stands (holder (rec t i)) (rec t j)))
     where
       go : (stands (holder (rec t i)) (rec t j) ≡ true) ⊎ (stands (holder (rec t i)) (rec t j) ≡ false)
-          → (stands (holder (rec t i)) (rec t j) && sameBytes (rec t i) (rec t j)) ≡ (stands (holder (rec t i)) (rec t j) && same (nameOf (rec t i)) (nameOf (rec t j)))
+          → (stands (holder (rec t i)) (rec t j) && sameBytes (rec t i) (rec t j))
+          ≡ (stands (holder (rec t i)) (rec t j) && same (nameOf (rec t i)) (nameOf (rec t j)))
       go (inr e) = rw e
       go (inl e) = rw e (name-literal (rec t i) (rec t j) (entry-padded i l k) (entry-padded j m (beside-same (rec t i) (rec t j) e .0)))
 
   pub twins-literal : noTwins t ≡ noneTwice t
   unfolding noTwins noneTwice
   twins-literal =
-      all-cong (λ i. implies (isKind 2 (rec t i)) (not (anyBelow (λ j. twin (rec t i) (rec t j)) i))) (λ i. implies (isKind 2 (rec t i)) (not (anyBelow (λ j. bears (holder (rec t i)) (nameOf (rec t i)) (rec t j)) i))) (rooms t)
-      (λ i l. go i l (truth (isKind 2 (rec t i))))
+      all-cong (single t) (λ i. implies (isKind 2 (rec t i)) (notTwice t i (rec t i))) (rooms t) (λ i l. go i l (truth (isKind 2 (rec t i))))
     where
       go : (i : ℕ) → i < rooms t → (isKind 2 (rec t i) ≡ true) ⊎ (isKind 2 (rec t i) ≡ false)
-          → implies (isKind 2 (rec t i)) (not (anyBelow (λ j. twin (rec t i) (rec t j)) i)) ≡ implies (isKind 2 (rec t i)) (not (anyBelow (λ j. bears (holder (rec t i)) (nameOf (rec t i)) (rec t j)) i))
+          → single t i ≡ implies (isKind 2 (rec t i)) (notTwice t i (rec t i))
       go i l (inr k) = rw k
-      go i l (inl k) = rw k (ap not (any-cong (λ j. twin (rec t i) (rec t j)) (λ j. bears (holder (rec t i)) (nameOf (rec t i)) (rec t j)) i (λ j m. twin-bears i j l (omega arith) k)))
+      go i l (inl k) =
+          rw k
+          (ap not (any-cong (twinTo t i) (λ j. bears (holder (rec t i)) (nameOf (rec t i)) (rec t j)) i (λ j m. twin-bears i j l (omega arith) k)))

@@ -24,7 +24,7 @@ use Rattle.laws.proofs.Counts.{count-cong}
 use Rattle.laws.proofs.Lay.{Whole, rec-past}
 use Rattle.laws.proofs.Runs.{length-run}
 use Rattle.laws.proofs.Scans.{all-cong, any-cong}
-use Rattle.laws.proofs.Tests.{truth, not-both, and-left, and-right, false-by}
+use Rattle.laws.proofs.Tests.{truth, not-both, and-left, and-right, and-no-right, false-by}
 
 -- where no record is marked, none goes
 without-none : (gone t : List ℕ) → ((i : ℕ) → i < rooms t → getD gone i 0 ≡ 0) → without gone t ≡ t
@@ -90,10 +90,6 @@ module _ (gone t : List ℕ) where
         → (i : ℕ) → f (rec (without gone t) i) ≡ (f (rec t i) && stays gone i)
     masked f b n x i = go (truth (stays gone i)) (truth (isKind 2 (rec t i))) (decLt i (rooms t))
       where
-        no : (a : Bool) → (a && false) ≡ false
-        no true = refl
-        no false = refl
-
         yes : (a : Bool) → a ≡ (a && true)
         yes true = refl
         yes false = refl
@@ -105,7 +101,7 @@ module _ (gone t : List ℕ) where
             let z : f (rec t i) ≡ false = false-by (f (rec t i)) (λ e. not-both k (x (rec t i) e)) in
             rw (rec-entry i k, z)
         go (inr s) (inr k) d =
-            by-cases d (λ (l : i < rooms t). rw (rec-gone i l k s, b, s) (sym (no (f (rec t i)))))
+            by-cases d (λ (l : i < rooms t). rw (rec-gone i l k s, b, s) (sym (and-no-right (f (rec t i)) false refl)))
             (λ (l : ¬ (i < rooms t)). rw (rec-past t i w (omega arith), rec-none i (omega arith), n))
 
     pub heading-without : (i : ℕ) → isKind 1 (rec (without gone t) i) ≡ (isKind 1 (rec t i) && stays gone i)

@@ -8,12 +8,11 @@ use native.Mathlib.Omega.{arith}
 use lib.ListN.{length, getD, length-take, length-drop}
 use lib.Seq.{getD-take, getD-drop}
 use lib.Dec.{eqb, leb}
-use borrow.Author.Tests.{eqb-true, eq-eqb, ne-eqb, leb-true, le-leb}
+use borrow.Author.Tests.{ne-eqb, leb-true, le-leb}
 use Rattle.judge_laws.specs.Shapes.{area}
 use Rattle.paper.specs.Name.{same, all, inName, linkName, pointed, inBase, legalBase}
 use Rattle.paper.specs.Record.{byte, nameLength, nameOf}
-use Rattle.laws.proofs.Tests.{and-left, and-right, and-both, and-no-right, false-by}
-use Rattle.judge_laws.proofs.Tests.{joined, joined-first, joined-part}
+use Rattle.laws.proofs.Tests.{and-left, and-right, and-both, and-no-right, false-by, joined, joined-first, joined-part}
 
 -- tests over a list are tests at each place
 pub all-at : (p : ℕ → Bool) (m : List ℕ) → all p m ≡ true → (j : ℕ) → j < length m → p (getD m j 0) ≡ true
@@ -26,19 +25,6 @@ pub all-by : (p : ℕ → Bool) (m : List ℕ) → ((j : ℕ) → j < length m �
 unfolding all
 all-by p [] h = refl
 all-by p (a ∷ m) h = and-both (p a) _ (h 0 (omega arith)) (all-by p m (λ j l. h (suc j) (omega arith)))
-
--- the test for the same name is equality
-pub same-eq : (a b : List ℕ) → same a b ≡ true → a ≡ b
-unfolding same
-same-eq [] [] e = refl
-same-eq [] (b ∷ t) e = absurd (true≢false (sym e))
-same-eq (a ∷ s) [] e = absurd (true≢false (sym e))
-same-eq (a ∷ s) (b ∷ t) e = rw (eqb-true a b (and-left (eqb a b) _ e), same-eq s t (and-right (eqb a b) _ e))
-
-pub same-refl : (a : List ℕ) → same a a ≡ true
-unfolding same
-same-refl [] = refl
-same-refl (a ∷ s) = and-both (eqb a a) _ (eq-eqb a a refl) (same-refl s)
 
 -- the name in its record
 module _ (r : List ℕ) (w : length r ≡ 32) (s : nameLength r ≤ 10) where

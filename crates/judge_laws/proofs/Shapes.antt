@@ -16,25 +16,22 @@ use Rattle.paper.specs.Record.{byte, isKind, headingType, level, headingCode, l
 use Rattle.paper.specs.Sound.{implies, textAsAbove, isBase}
 use Rattle.paper.specs.Table.{rec}
 use Rattle.laws.proofs.Numbers.{number-zeros}
-use Rattle.laws.proofs.Scans.{all-true, all-here}
-use Rattle.laws.proofs.Tests.{truth, and-left, and-right, and-both, implies-use, implies-by, false-by}
-use Rattle.judge_laws.proofs.Tests.{and-past, joined, joined-first, joined-part}
+use Rattle.laws.proofs.Scans.{all-true}
+use Rattle.laws.proofs.Tests.{truth, and-left, and-right, and-both, implies-use, implies-by, false-by, joined, joined-first, joined-part}
+use Rattle.laws.proofs.Fields.{zeros-by}
+use Rattle.judge_laws.proofs.Tests.{and-past}
 
 -- what `zeros` says
 pub zeros-at : (j n : ℕ) (r : List ℕ) → zeros j n r ≡ true → (m : ℕ) → m < n → byte r (j + m) ≡ 0
 unfolding zeros
 zeros-at j n r e m l = eqb-true _ _ (all-true (λ i. eqb (byte r (j + i)) 0) n m l e)
 
-pub zeros-all : (j n : ℕ) (r : List ℕ) → ((m : ℕ) → m < n → byte r (j + m) ≡ 0) → zeros j n r ≡ true
-unfolding zeros
-zeros-all j n r h = all-here (λ i. eqb (byte r (j + i)) 0) n (λ m l. eq-eqb _ _ (h m l))
-
 pub zeros-not : (j n : ℕ) (r : List ℕ) (m : ℕ) → m < n → (byte r (j + m) ≡ 0 → ⊥) → zeros j n r ≡ false
 zeros-not j n r m l x = false-by (zeros j n r) (λ e. x (zeros-at j n r e m l))
 
 -- zeros read at once, or one by one
 pub zeros-more : (j m w : ℕ) (r : List ℕ) → zeros j m r ≡ true → numberAt w r (j + m) ≡ 0 → zeros j (m + w) r ≡ true
-zeros-more j m w r z e = zeros-all j (m + w) r (λ k l. go k l (decLt k m))
+zeros-more j m w r z e = zeros-by j (m + w) r (λ k l. go k l (decLt k m))
   where
     go : (k : ℕ) → k < m + w → Dec (k < m) → byte r (j + k) ≡ 0
     go k l d =
@@ -42,7 +39,7 @@ zeros-more j m w r z e = zeros-all j (m + w) r (λ k l. go k l (decLt k m))
         (λ (b : ¬ (k < m)). let q : j + k ≡ j + m + (k - m) = omega arith in rw q (number-zeros w r (j + m) e (k - m) (omega arith)))
 
 pub zeros-none : (j : ℕ) (r : List ℕ) → zeros j 0 r ≡ true
-zeros-none j r = zeros-all j 0 r (λ m l. let z : ⊥ = omega arith in absurd z)
+zeros-none j r = zeros-by j 0 r (λ m l. let z : ⊥ = omega arith in absurd z)
 
 pub zeros-next : (j m : ℕ) (r : List ℕ) → zeros j m r ≡ true → byte r (j + m) ≡ 0 → zeros j (m + 1) r ≡ true
 unfolding numberAt
@@ -59,8 +56,7 @@ pub record Heading (r : List ℕ) : Type 0 where
   pub rest : zeros 12 20 r ≡ true
   pub plain : headingType r ≡ 0 → (lifetime r ≡ 1) × (textLength r ≡ 0)
 
-plain-use : (r : List ℕ) → plainTest r ≡ true → headingType r ≡ 0
-    → (lifetime r ≡ 1) × (textLength r ≡ 0)
+plain-use : (r : List ℕ) → plainTest r ≡ true → headingType r ≡ 0 → (lifetime r ≡ 1) × (textLength r ≡ 0)
 plain-use r e q =
     let z : (eqb (lifetime r) 1 && eqb (textLength r) 0) ≡ true = implies-use (eqb (headingType r) 0) _ e (eq-eqb _ _ q) in
     (eqb-true _ _ (and-left (eqb (lifetime r) 1) _ z), eqb-true _ _ (and-right (eqb (lifetime r) 1) _ z))
@@ -114,7 +110,9 @@ pub entry-view : (t r : List ℕ) → entryRight t r ≡ true → Entered t r
 unfolding entryRight joined
 entry-view t r e =
     let a = leb (entryCode r) 7 in
-    let s = leb (nameLength r) 10 ∷ zeros 20 12 r ∷ zeros (10 + nameLength r) (10 - nameLength r) r ∷ isKind 1 (rec t (headingNamed r)) ∷ linkName (nameOf r) ∷ cond (isBase r) (baseRight r) (insideRight t r) ∷ [] in
+    let s =
+    leb (nameLength r) 10 ∷ zeros 20 12 r ∷ zeros (10 + nameLength r) (10 - nameLength r) r ∷ isKind 1 (rec t (headingNamed r)) ∷ linkName (nameOf r)
+    ∷ cond (isBase r) (baseRight r) (insideRight t r) ∷ [] in
     record {
       code = leb-true _ _ (joined-first a s e);
       short = leb-true _ _ (joined-part a s 0 e);
@@ -159,8 +157,8 @@ base-place t r p u n = go (truth (isBase r))
 pub heading-not : (r : List ℕ) → (Heading r → ⊥) → headingRight r ≡ false
 heading-not r n = false-by (headingRight r) (λ e. n (heading-view r e))
 
-pub heading-left : (r : List ℕ) → headingType r ≤ 1 → level r ≤ 3 → headingCode r ≤ 7 → 1 ≤ lifetime r → lifetime r ≤ 2 → zeros 5 5 r ≡ true → zeros 12 20 r ≡ true
-    → headingRight r ≡ plainTest r
+pub heading-left : (r : List ℕ) → headingType r ≤ 1 → level r ≤ 3 → headingCode r ≤ 7 → 1 ≤ lifetime r → lifetime r ≤ 2 → zeros 5 5 r ≡ true
+    → zeros 12 20 r ≡ true → headingRight r ≡ plainTest r
 unfolding headingRight
 heading-left r a b d e f g h =
     rw (le-leb (headingType r) 1 a, le-leb (level r) 3 b, le-leb (headingCode r) 7 d, le-leb 1 (lifetime r) e, le-leb (lifetime r) 2 f, g, h)

@@ -13,11 +13,11 @@ use Rattle.judge_laws.specs.Places.{textFits, shortAt, textSound, weight
 use Rattle.paper.specs.Block.{blocks}
 use Rattle.paper.specs.Record.{isKind, headingType, textLength, simple, headingOf, position, textAt}
 use Rattle.paper.specs.Scan.{allBelow, countBelow}
-use Rattle.paper.specs.Sound.{implies, once, textsWhole, inPlace, noOtherText}
+use Rattle.paper.specs.Sound.{once, textWhole, textsWhole, inPlace, noOtherText}
 use Rattle.paper.specs.Table.{rooms, rec}
-use Rattle.judge_laws.proofs.Every.{every-true, every-here}
 use Rattle.laws.proofs.Lay.{Whole, rec-past}
 use Rattle.laws.proofs.Scans.{all-true, all-here}
+use Rattle.laws.proofs.Sound.{every-true, every-here}
 use Rattle.laws.proofs.Tests.{truth, and-left, and-right, and-both, implies-use, implies-by, false-by}
 use Rattle.judge_laws.proofs.Slots.{places-slots, places-total, total-places}
 use Rattle.judge_laws.proofs.Sums.{sum-mono}
@@ -60,7 +60,7 @@ module _ (t : List ℕ) (w : Whole t) where
   unfolding textSound textsWhole
   simple-whole e h l s =
       implies-use (eqb (headingType (rec t h)) 1) _
-      (every-true 1 (λ i r. implies (eqb (headingType r) 1) (leb (textLength r) 24000 && allBelow (once t i) (blocks (textLength r)))) t h l (and-left _ (noOtherText t) e) (and-left (isKind 1 (rec t h)) _ s))
+      (every-true 1 (textWhole t) t (and-left _ (noOtherText t) e) h l (eqb-true _ _ (and-left (isKind 1 (rec t h)) _ s)))
       (and-right (isKind 1 (rec t h)) _ s)
 
   sound-places : textSound t ≡ true → (h : ℕ) → h < rooms t → (p : ℕ) → p < weight (rec t h)
@@ -89,7 +89,8 @@ module _ (t : List ℕ) (w : Whole t) where
   unfolding textSound textsWhole noOtherText starts marksAt texts
   by-slots short f e m =
       and-both _ (allBelow (textFits t) (rooms t))
-      (every-here 1 (λ i r. implies (eqb (headingType r) 1) (leb (textLength r) 24000 && allBelow (once t i) (blocks (textLength r)))) t (λ h l k. implies-by (eqb (headingType (rec t h)) 1) _ (λ y. one h l (and-both (isKind 1 (rec t h)) _ k y))))
+      (every-here 1 (textWhole t) t
+      (λ h l k. implies-by (eqb (headingType (rec t h)) 1) _ (λ y. one h l (and-both (isKind 1 (rec t h)) _ (eq-eqb _ _ k) y))))
       (all-here (textFits t) (rooms t) f)
     where
       places : (h : ℕ) → h < rooms t → (p : ℕ) → p < weight (rec t h) → countBelow (λ i. textAt h p (rec t i)) (rooms t) ≡ 1

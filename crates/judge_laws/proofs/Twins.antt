@@ -1,6 +1,6 @@
 -- Twins: entries that stand in one place and bear one name, found in the chains by a hash of what they share.
 -- A twin has the same hash, so it is in the bucket; the walk down the bucket meets the last one first.
-use mathlib.Core.Bool.{true, false, _&&_}
+use mathlib.Core.Bool.{true, false}
 use mathlib.Core.List.{List}
 use mathlib.Core.Path.{_≡_, sym, _∙_}
 use Prim.Native.Nat.{ℕ, _+_, _-_, _≤_, _<_}
@@ -10,14 +10,15 @@ use lib.Dec.{eqb}
 use borrow.Author.Tests.{eqb-true, eq-eqb}
 use Rattle.judge_laws.specs.Chains.{inBucket, lastIn, Linked}
 use Rattle.judge_laws.specs.Twins.{twin, twinTo, single, noTwins, hashOf}
-use Rattle.paper.specs.Entry.{stands}
+use Rattle.paper.specs.Entry.{holder, stands}
 use Rattle.paper.specs.Record.{byte, two, isKind, holderOf, userOf}
 use Rattle.paper.specs.Scan.{anyBelow}
 use Rattle.paper.specs.Table.{rooms, rec}
 use Rattle.judge_laws.proofs.Chains.{Walk, walk-start, walk-end, walk-found, walk-on}
-use Rattle.judge_laws.proofs.Lasts.{any-none, any-some}
+use Rattle.judge_laws.proofs.Lasts.{last-none, last-some}
 use Rattle.laws.proofs.Numbers.{number-two}
 use Rattle.laws.proofs.Scans.{all-true, all-here, all-false}
+use Rattle.laws.proofs.Entries.{stands-true, stands-by}
 use Rattle.laws.proofs.Tests.{and-left, and-right, and-both, false-by}
 
 pub hash-below : (r : List ℕ) → hashOf r < 2048
@@ -32,23 +33,18 @@ pub record Alike (a b : List ℕ) : Type 0 where
   pub bytes : (j : ℕ) → j < 11 → byte a (9 + j) ≡ byte b (9 + j)
 
 pub twin-alike : (a b : List ℕ) → twin a b ≡ true → Alike a b
-unfolding stands
 twin-alike a b e =
-    let s = and-left (isKind 2 b && (eqb (holderOf b) (holderOf a) && eqb (userOf b) (userOf a))) _ e in
-    let p = and-right (isKind 2 b) _ s in
-    let y = and-right (isKind 2 b && (eqb (holderOf b) (holderOf a) && eqb (userOf b) (userOf a))) _ e in
+    let s = stands-true (holder a) b (and-left (stands (holder a) b) _ e) in
     record {
-      kind = and-left (isKind 2 b) _ s;
-      place = eqb-true _ _ (and-left (eqb (holderOf b) (holderOf a)) _ p);
-      user = eqb-true _ _ (and-right (eqb (holderOf b) (holderOf a)) _ p);
-      bytes = λ j l. eqb-true _ _ (all-true (λ j. eqb (byte a (9 + j)) (byte b (9 + j))) 11 j l y);
+      kind = eq-eqb _ _ (s .kind);
+      place = s .heading;
+      user = s .user;
+      bytes = λ j l. eqb-true _ _ (all-true (λ j. eqb (byte a (9 + j)) (byte b (9 + j))) 11 j l (and-right (stands (holder a) b) _ e));
     }
 
 pub alike-twin : (a b : List ℕ) → Alike a b → twin a b ≡ true
-unfolding stands
 alike-twin a b s =
-    and-both (isKind 2 b && (eqb (holderOf b) (holderOf a) && eqb (userOf b) (userOf a))) _
-    (and-both (isKind 2 b) _ (s .kind) (and-both (eqb (holderOf b) (holderOf a)) _ (eq-eqb _ _ (s .place)) (eq-eqb _ _ (s .user))))
+    and-both (stands (holder a) b) _ (stands-by (holder a) b (record { kind = eqb-true _ _ (s .kind); heading = s .place; user = s .user }))
     (all-here (λ j. eqb (byte a (9 + j)) (byte b (9 + j))) 11 (λ j l. eq-eqb _ _ (s .bytes j l)))
 
 -- twins have one hash
@@ -58,7 +54,9 @@ hash-alike a b s =
     rw (s .place, s .user, ← (s .bytes 0 (omega arith)), w 1 (omega arith), w 3 (omega arith), w 5 (omega arith), w 7 (omega arith), w 9 (omega arith))
   where
     w : (j : ℕ) → j < 10 → two b (9 + j) ≡ two a (9 + j)
-    w j l = let q : 9 + j + 1 ≡ 9 + (j + 1) = omega arith in number-two b (9 + j) ∙ rw (q, ← (s .bytes j (omega arith)), ← (s .bytes (j + 1) (omega arith)), ← q) (sym (number-two a (9 + j)))
+    w j l =
+        let q : 9 + j + 1 ≡ 9 + (j + 1) = omega arith in
+        number-two b (9 + j) ∙ rw (q, ← (s .bytes j (omega arith)), ← (s .bytes (j + 1) (omega arith)), ← q) (sym (number-two a (9 + j)))
 
 twin-bucket : (t : List ℕ) (i j : ℕ) → twinTo t i j ≡ true → inBucket hashOf t (hashOf (rec t i)) j ≡ true
 twin-bucket t i j e =
@@ -71,11 +69,11 @@ twin-start t i c e = walk-start hashOf t (twinTo t i) i (twin-bucket t i) c e
 
 module _ (t : List ℕ) (i c : ℕ) (w : Walk hashOf t (twinTo t i) i c) where
   pub twin-end : c ≤ 0 → anyBelow (twinTo t i) i ≡ false
-  twin-end l = any-none (twinTo t i) i (walk-end hashOf t (twinTo t i) i (twin-bucket t i) c w l)
+  twin-end l = last-none (twinTo t i) i (walk-end hashOf t (twinTo t i) i (twin-bucket t i) c w l)
 
   pub twin-found : 0 < c → twin (rec t i) (rec t (c - 1)) ≡ true → anyBelow (twinTo t i) i ≡ true
   twin-found l e =
-      any-some (twinTo t i) i c
+      last-some (twinTo t i) i c
       (walk-found hashOf t (twinTo t i) i (twin-bucket t i) c w l e) l
 
   pub twin-on : (next : List ℕ) (c′ : ℕ) → 0 < c → twin (rec t i) (rec t (c - 1)) ≡ false

@@ -13,7 +13,7 @@ use lib.Dec.{eqb}
 use borrow.Author.Tests.{eq-eqb}
 use Rattle.paper.specs.Number.{numberAt, bytesOf}
 use Rattle.paper.specs.Scan.{allBelow}
-use Rattle.paper.specs.Record.{byte, headingType, level, headingCode, lifetime, textLength, entryCode, holderOf, headingNamed, userOf, nameLength, nameOf, bytesHeld, headingOf, position, held, zeros, padded, headingRecord, nameField, entryRecord, textRecord}
+use Rattle.paper.specs.Record.{byte, headingCode, textLength, entryCode, holderOf, headingNamed, userOf, nameLength, nameOf, bytesHeld, headingOf, position, zeros, padded, headingRecord, nameField, entryRecord, textRecord}
 use Rattle.laws.proofs.Numbers.{number-drop, number-bytes}
 use Rattle.laws.proofs.Scans.{all-here}
 
@@ -52,21 +52,9 @@ module _ (type lev code life n : ℕ) where
   unfolding headingRecord
   heading-record-kind = refl
 
-  pub heading-type : headingType (headingRecord type lev code life n) ≡ type
-  unfolding headingRecord
-  heading-type = refl
-
-  pub heading-level : level (headingRecord type lev code life n) ≡ lev
-  unfolding headingRecord
-  heading-level = refl
-
   pub heading-code : headingCode (headingRecord type lev code life n) ≡ code
   unfolding headingRecord
   heading-code = refl
-
-  pub heading-lifetime : lifetime (headingRecord type lev code life n) ≡ life
-  unfolding headingRecord
-  heading-lifetime = refl
 
   pub heading-length : n < 256 ^ 2 → textLength (headingRecord type lev code life n) ≡ n
   unfolding headingRecord bytesOf
@@ -145,8 +133,8 @@ module _ (code holder heading user : ℕ) (name : List ℕ) where
   entry-size = rw is-entry (name-size front name front-nine)
 
   -- past the name all is zero
-  pub entry-padded : zeros (10 + nameLength (entryRecord code holder heading user name)) (10 - nameLength (entryRecord code holder heading user name)) (entryRecord code holder heading user name)
-      ≡ true
+  pub entry-padded : zeros (10 + nameLength (entryRecord code holder heading user name)) (10 - nameLength (entryRecord code holder heading user name))
+      (entryRecord code holder heading user name) ≡ true
   entry-padded = rw is-entry (name-padded front name front-nine)
 
   pub entry-rest : length name ≤ 10 → zeros 20 12 (entryRecord code holder heading user name) ≡ true
@@ -186,10 +174,6 @@ module _ (heading place : ℕ) (bytes : List ℕ) where
   pub length-text : length bytes ≤ 24 → length (textRecord heading place bytes) ≡ 32
   unfolding textRecord bytesOf
   length-text l = ap (λ (n : ℕ). suc (suc (suc (suc (suc (suc (suc (suc n)))))))) (length-padded 24 bytes l)
-
-  pub text-held : held (textRecord heading place bytes) ≡ bytes
-  unfolding held textRecord bytesOf
-  text-held = take-append-seam bytes (replicate (24 - length bytes) 0)
 
   pub text-gap : zeros 6 2 (textRecord heading place bytes) ≡ true
   unfolding textRecord bytesOf zeros allBelow

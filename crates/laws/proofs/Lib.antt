@@ -10,3 +10,4 @@ pub mod Runs
 pub mod Rooms
 pub mod Blocks
 pub mod Orders
+pub mod Sound

@@ -8,9 +8,9 @@ use Prim.Native.Nat.{ℕ, zero, suc, _+_, _*_, _-_, _≤_, _<_}
 use native.Mathlib.Omega.{arith}
 use native.Mathlib.Numerals.{add-one}
 use native.Mathlib.Decide.{ℕ-discrete}
-use native.Mathlib.Nat.{suc-mul}
-use lib.ListN.{length, take, drop, getD, length-append, List·getD-append}
-use lib.Seq.{getD-at, getD-append-seam, take-append-add}
+use native.Mathlib.Nat.{add-zero, suc-mul}
+use lib.ListN.{length, take, drop, getD, set, length-append, List·getD-append}
+use lib.Seq.{sets, getD-at, getD-append-seam, take-append-add}
 use Rattle.paper.specs.Scan.{joinBelow, listBelow, eachBelow, countBelow}
 
 -- ---- what holds of every item
@@ -143,3 +143,10 @@ pub take-past {ℓ} : {A : Type ℓ} (k : ℕ) (xs ys : List A) → length xs �
 take-past k xs ys h =
     let e : k ≡ length xs + (k - length xs) = omega arith in
     ap (λ (n : ℕ). take n (xs ++ ys)) e ∙ take-append-add xs ys (k - length xs)
+
+-- two lists set one after the other are their join set at once
+pub sets-append : (a b l : List ℕ) (i : ℕ) → sets l i (a ++ b) ≡ sets (sets l i a) (i + length a) b
+sets-append [] b l i = rw add-zero
+sets-append (x ∷ a) b l i =
+    let e : i + suc (length a) ≡ suc i + length a = omega arith in
+    sets-append a b (set l i x) (suc i) ∙ rw e

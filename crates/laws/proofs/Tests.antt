@@ -1,10 +1,12 @@
 -- Boolean tests as facts: each law goes by the cases of the Booleans that it speaks of.
 -- Callers turn a computed test into an equation with true or false, and back, by these and by `borrow.Author.Tests`.
 use mathlib.Core.Bool.{Bool, true, false, _&&_, _||_, cond, true≢false}
+use mathlib.Core.List.{List, [], _∷_}
 use mathlib.Core.Logic.{_⊎_, inl, inr}
 use mathlib.Core.Path.{_≡_, refl, sym, _∙_}
-use Prim.Native.Nat.{ℕ}
+use Prim.Native.Nat.{ℕ, zero, suc}
 use native.Mathlib.Omega.{arith}
+use lib.ListN.{getD}
 use Rattle.paper.specs.Sound.{implies}
 
 -- a test is true or false, with the equation
@@ -76,6 +78,22 @@ implies-by false b h = refl
 -- both parts of a conjunction
 pub and-parts : (a b : Bool) → (a && b) ≡ true → (a ≡ true) × (b ≡ true)
 and-parts a b e = (and-left a b e, and-right a b e)
+
+-- tests joined by `&&`, the first first: each of them passes if all do
+unfoldable pub joined : Bool → List Bool → Bool
+joined a [] = a
+joined a (b ∷ s) = joined (a && b) s
+
+pub joined-first : (a : Bool) (s : List Bool) → joined a s ≡ true → a ≡ true
+unfolding joined
+joined-first a [] e = e
+joined-first a (b ∷ s) e = and-left a b (joined-first (a && b) s e)
+
+pub joined-part : (a : Bool) (s : List Bool) (i : ℕ) → joined a s ≡ true → getD s i true ≡ true
+unfolding joined
+joined-part a [] i e = refl
+joined-part a (b ∷ s) zero e = and-right a b (joined-first (a && b) s e)
+joined-part a (b ∷ s) (suc i) e = joined-part (a && b) s i e
 
 -- two tests that pass together are equal
 pub same-truth : (a b : Bool) → (a ≡ true → b ≡ true) → (b ≡ true → a ≡ true) → a ≡ b

@@ -4,7 +4,7 @@ use mathlib.Core.Bool.{true, false, cond}
 use mathlib.Core.List.{List, []}
 use mathlib.Core.Logic.{_⊎_, inl, inr, _≢_}
 use mathlib.Core.Path.{_≡_, ap, _∙_}
-use Prim.Native.Nat.{ℕ, _-_, _≤_, _<_}
+use Prim.Native.Nat.{ℕ, _≤_, _<_}
 use native.Mathlib.Omega.{arith}
 use native.Mathlib.Nat.{sub-zero}
 use lib.ListN.{length, take}
@@ -20,7 +20,7 @@ use Rattle.judge.specs.Judged.{judged}
 use Rattle.judge_laws.specs.Mask.{without}
 use Rattle.laws.proofs.Runs.{length-run}
 use Rattle.laws.proofs.Tests.{truth, false-by}
-use Rattle.judge_laws.proofs.Records.{sized-whole}
+use Rattle.laws.proofs.Sound.{sized-whole}
 use Rattle.demands.proofs.MendAnswered.{MendCame, unsized, unsound, whole, cutOff, mend-came}
 use Rattle.mending.specs.declared.Mended.{Mended}
 use Rattle.mending.specs.Counted.{Counted}

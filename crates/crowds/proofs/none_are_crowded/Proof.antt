@@ -10,7 +10,7 @@ use Rattle.paper.specs.Table.{sized}
 use Rattle.judge_laws.proofs.Chains.{chains-none}
 use Rattle.judge_laws.proofs.Crowds.{ranked-none}
 use Rattle.laws.proofs.Tests.{and-no-left}
-use Rattle.judge_laws.proofs.Records.{sized-whole}
+use Rattle.laws.proofs.Sound.{sized-whole}
 use Rattle.judge_laws.proofs.Tests.{and-past}
 use Rattle.crowds.proofs.none_are_crowded.Statement.{statement}
 use Rattle.crowds.proofs.none_are_crowded.Tie as tie

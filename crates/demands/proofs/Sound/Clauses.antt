@@ -1,7 +1,7 @@
 -- Soundness as a record of clauses, and the two conversions from and to the computed test, clause by clause.
 -- What a record owes by itself is `Own`; the other clauses look at two records or more. Heading o alone may be named by no entry.
-use mathlib.Core.Bool.{Bool, true, false, _&&_}
-use mathlib.Core.List.{List}
+use mathlib.Core.Bool.{true, false, _&&_}
+use mathlib.Core.List.{List, [], _∷_}
 use mathlib.Core.Logic.{_⊎_, inl, inr, _≢_, by-cases}
 use mathlib.Core.Path.{_≡_, subst}
 use Prim.Native.Nat.{ℕ, _%_, _≤_, _<_}
@@ -11,14 +11,15 @@ use lib.ListN.{length}
 use lib.Dec.{eqb, leb}
 use borrow.Author.Tests.{eqb-true, eq-eqb, leb-true, le-leb, not-true}
 use Rattle.paper.specs.Scan.{allBelow, anyBelow, countBelow}
-use Rattle.paper.specs.Record.{byte, isKind, headingType, level, headingCode, lifetime, textLength, directory, simple, entryCode, headingNamed, nameLength, nameOf, textAt, zeros}
+use Rattle.paper.specs.Record.{byte, headingType, level, headingCode, lifetime, textLength, directory, simple, entryCode, headingNamed, nameLength, nameOf, textAt, zeros}
 use Rattle.paper.specs.Table.{sized, rooms, rec}
 use Rattle.paper.specs.Entry.{Holder, holder, stands, bears, crowd, limit, named}
 use Rattle.paper.specs.Block.{blocks}
-use Rattle.paper.specs.Sound.{implies, every, freeAsAbove, headingAsAbove, entryAsAbove, textAsAbove, asAbove, holderThere, holdersThere, headingThere, headingsThere, userRight, usersRight, namePadded, namesPadded, notTwice, noneTwice, isNamed, allNamed, notCrowded, noneCrowded, directoryPlain, directoriesPlain, once, textWhole, textsWhole, textInPlace, noOtherText, nameLegal, namesLegal, sound}
-use Rattle.laws.proofs.Tests.{truth, and-left, and-right, and-both, and-parts, implies-use, implies-by, false-by, not-both}
+use Rattle.paper.specs.Sound.{freeAsAbove, headingAsAbove, entryAsAbove, textAsAbove, asAbove, holderThere, holdersThere, headingThere, headingsThere, userRight, usersRight, namePadded, namesPadded, notTwice, noneTwice, isNamed, allNamed, notCrowded, noneCrowded, directoryPlain, directoriesPlain, once, textWhole, textsWhole, textInPlace, noOtherText, nameLegal, namesLegal, sound}
+use Rattle.laws.proofs.Tests.{truth, and-left, and-right, and-both, and-parts, implies-use, implies-by, false-by, not-both, joined, joined-first, joined-part}
 use Rattle.laws.proofs.Scans.{all-true, all-here, any-here, any-true, any-false}
 use Rattle.laws.proofs.Counts.{count-none}
+use Rattle.laws.proofs.Sound.{sized-whole, Tested, tested, untested, above-view, above-made, every-true, every-here}
 use Rattle.laws.proofs.Entries.{Stands, stands-true, stands-holder, bears-stands, bears-back}
 
 -- what a heading, and what an entry, owes by itself
@@ -74,20 +75,15 @@ pub record HeadingFields (r : List ℕ) : Type 0 where
   pub lifetime : (1 ≤ lifetime r) × (lifetime r ≤ 2)
 
 pub heading-fields : (r : List ℕ) → HeadingOwn r → HeadingFields r
+unfolding joined
 heading-fields r h =
-    let a = and-left _ (zeros 12 20 r) (h .shape) in
-    let b = and-left _ (zeros 5 5 r) a in
-    let c = and-left _ (leb (lifetime r) 2) b in
-    let d = and-left _ (leb 1 (lifetime r)) c in
-    let e = and-left _ (leb (headingCode r) 7) d in
+    let a = leb (headingType r) 1 in
+    let s = leb (level r) 3 ∷ leb (headingCode r) 7 ∷ leb 1 (lifetime r) ∷ leb (lifetime r) 2 ∷ zeros 5 5 r ∷ zeros 12 20 r ∷ [] in
     record {
-      type = leb-true _ _ (and-left _ (leb (level r) 3) e);
-      level = leb-true _ _ (and-right (leb (headingType r) 1) _ e);
-      code = leb-true _ _ (and-right (leb (headingType r) 1 && leb (level r) 3) _ d);
-      lifetime = (
-        leb-true _ _ (and-right (leb (headingType r) 1 && leb (level r) 3 && leb (headingCode r) 7) _ c),
-        leb-true _ _ (and-right (leb (headingType r) 1 && leb (level r) 3 && leb (headingCode r) 7 && leb 1 (lifetime r)) _ b),
-      );
+      type = leb-true _ _ (joined-first a s (h .shape));
+      level = leb-true _ _ (joined-part a s 0 (h .shape));
+      code = leb-true _ _ (joined-part a s 1 (h .shape));
+      lifetime = (leb-true _ _ (joined-part a s 2 (h .shape)), leb-true _ _ (joined-part a s 3 (h .shape)));
     }
 
 pub entry-code : (r : List ℕ) → EntryOwn r → entryCode r ≤ 7
@@ -106,91 +102,34 @@ length-most r h =
     (λ (q : headingType r ≡ 0). omega (arith, h .directory q .1))
     (λ (q : headingType r ≢ 0). h .simple (omega (arith, heading-fields r h .type)))
 
--- what a clause says of record i of kind k
-every-at : (k : ℕ) (test : ℕ → List ℕ → Bool) (t : List ℕ) → every k test t ≡ true → (i : ℕ) → i < rooms t → byte (rec t i) 0 ≡ k → test i (rec t i) ≡ true
-every-at k test t e i l q = implies-use (isKind k (rec t i)) _ (all-true (λ i. implies (isKind k (rec t i)) (test i (rec t i))) (rooms t) i l e) (eq-eqb _ _ q)
-
-every-by : (k : ℕ) (test : ℕ → List ℕ → Bool) (t : List ℕ) → ((i : ℕ) → i < rooms t → byte (rec t i) 0 ≡ k → test i (rec t i) ≡ true) → every k test t ≡ true
-every-by k test t h = all-here _ (rooms t) (λ i l. implies-by (isKind k (rec t i)) _ (λ q. h i l (eqb-true _ _ q)))
-
--- the clauses of the computed test, each by itself
-record Tested (t : List ℕ) : Type 0 where
-  pub above : asAbove t ≡ true
-  pub holders : holdersThere t ≡ true
-  pub headings : headingsThere t ≡ true
-  pub users : usersRight t ≡ true
-  pub padded : namesPadded t ≡ true
-  pub twice : noneTwice t ≡ true
-  pub named : allNamed t ≡ true
-  pub crowded : noneCrowded t ≡ true
-  pub plain : directoriesPlain t ≡ true
-  pub whole : textsWhole t ≡ true
-  pub other : noOtherText t ≡ true
-  pub legal : namesLegal t ≡ true
-
-tested : (t : List ℕ) → sound t ≡ true → Tested t
-unfolding sound
-tested t z =
-    let l = and-parts _ (namesLegal t) z in
-    let k = and-parts _ (noOtherText t) (l .0) in
-    let j = and-parts _ (textsWhole t) (k .0) in
-    let i = and-parts _ (directoriesPlain t) (j .0) in
-    let h = and-parts _ (noneCrowded t) (i .0) in
-    let g = and-parts _ (allNamed t) (h .0) in
-    let f = and-parts _ (noneTwice t) (g .0) in
-    let e = and-parts _ (namesPadded t) (f .0) in
-    let d = and-parts _ (usersRight t) (e .0) in
-    let c = and-parts _ (headingsThere t) (d .0) in
-    let b = and-parts _ (holdersThere t) (c .0) in
-    record {
-      above = b .0;
-      holders = b .1;
-      headings = c .1;
-      users = d .1;
-      padded = e .1;
-      twice = f .1;
-      named = g .1;
-      crowded = h .1;
-      plain = i .1;
-      whole = j .1;
-      other = k .1;
-      legal = l .1;
-    }
-
-untested : (t : List ℕ) → Tested t → sound t ≡ true
-unfolding sound
-untested t c =
-    rw (c .above, c .holders, c .headings, c .users, c .padded, c .twice, c .named, c .crowded, c .plain, c .whole, c .other, c .legal)
-
 -- ---- from the test to the clauses
 
 own-by : (t : List ℕ) → Tested t → (i : ℕ) → i < rooms t → Own (rec t i)
-unfolding asAbove usersRight namesPadded directoriesPlain textsWhole namesLegal
+unfolding usersRight namesPadded directoriesPlain textsWhole namesLegal
 own-by t c i l =
-    let d = and-parts _ (every 3 textAsAbove t) (c .above) in
-    let e = and-parts _ (every 2 entryAsAbove t) (d .0) in
-    let f = and-parts _ (every 1 headingAsAbove t) (e .0) in
-    let g = and-parts (allBelow (λ i. leb (byte (rec t i) 0) 3) (rooms t)) (every 0 freeAsAbove t) (f .0) in
+    let a = above-view t (c .above) in
     record {
-      kinds = leb-true _ _ (all-true (λ i. leb (byte (rec t i) 0) 3) (rooms t) i l (g .0));
-      free = every-at 0 freeAsAbove t (g .1) i l;
+      kinds = leb-true _ _ (all-true (λ i. leb (byte (rec t i) 0) 3) (rooms t) i l (a .kinds));
+      free = every-true 0 freeAsAbove t (a .free) i l;
       heading = λ q.
           record {
-            shape = every-at 1 headingAsAbove t (f .1) i l q;
+            shape = every-true 1 headingAsAbove t (a .heading) i l q;
             directory = λ z.
-                let w = and-parts _ (eqb (textLength (rec t i)) 0) (implies-use (eqb (headingType (rec t i)) 0) _ (every-at 1 directoryPlain t (c .plain) i l q) (eq-eqb _ _ z)) in
+                let w =
+                and-parts _ (eqb (textLength (rec t i)) 0)
+                (implies-use (eqb (headingType (rec t i)) 0) _ (every-true 1 directoryPlain t (c .plain) i l q) (eq-eqb _ _ z)) in
                 (eqb-true _ _ (w .0), eqb-true _ _ (w .1));
             simple = λ z. leb-true _ _ (and-left _ (allBelow (once t i) (blocks (textLength (rec t i))))
-                (implies-use (eqb (headingType (rec t i)) 1) _ (every-at 1 (textWhole t) t (c .whole) i l q) (eq-eqb _ _ z)));
+                (implies-use (eqb (headingType (rec t i)) 1) _ (every-true 1 (textWhole t) t (c .whole) i l q) (eq-eqb _ _ z)));
           };
       entry = λ q.
           record {
-            shape = every-at 2 entryAsAbove t (e .1) i l q;
-            user = every-at 2 userRight t (c .users) i l q;
-            padded = every-at 2 namePadded t (c .padded) i l q;
-            legal = every-at 2 nameLegal t (c .legal) i l q;
+            shape = every-true 2 entryAsAbove t (a .entry) i l q;
+            user = every-true 2 userRight t (c .users) i l q;
+            padded = every-true 2 namePadded t (c .padded) i l q;
+            legal = every-true 2 nameLegal t (c .legal) i l q;
           };
-      text = every-at 3 textAsAbove t (d .1) i l;
+      text = every-true 3 textAsAbove t (a .text) i l;
     }
 
 -- two entries that bear one name in one place are one: the later of two would have one before it
@@ -199,7 +138,9 @@ apart-by : (t : List ℕ) → Tested t → (i j : ℕ) → i < rooms t → j < r
 unfolding noneTwice
 apart-by t c i j li lj q b =
     by-cases (ℕ-discrete i j) (λ (e : i ≡ j). e)
-    (λ (e : i ≢ j). by-cases (decLt j i) (λ (l : j < i). absurd (later i j li q l b)) (λ (l : ¬ (j < i)). absurd (later j i lj (s .kind) (omega arith) (bears-back (rec t i) (rec t j) q b))))
+    (λ (e : i ≢ j).
+    by-cases (decLt j i) (λ (l : j < i). absurd (later i j li q l b))
+    (λ (l : ¬ (j < i)). absurd (later j i lj (s .kind) (omega arith) (bears-back (rec t i) (rec t j) q b))))
   where
     s : Stands (holder (rec t i)) (rec t j)
     s = bears-stands (holder (rec t i)) (nameOf (rec t i)) (rec t j) b
@@ -207,7 +148,7 @@ apart-by t c i j li lj q b =
     later : (a z : ℕ) → a < rooms t → byte (rec t a) 0 ≡ 2 → z < a → bears (holder (rec t a)) (nameOf (rec t a)) (rec t z) ≡ true → ⊥
     later a z la qa lz x =
         not-both (any-here (λ j. bears (holder (rec t a)) (nameOf (rec t a)) (rec t j)) a z lz x)
-        (not-true _ (every-at 2 (notTwice t) t (c .twice) a la qa))
+        (not-true _ (every-true 2 (notTwice t) t (c .twice) a la qa))
 
 -- a holder in which nothing stands has no crowd, and another is some entry's own
 crowds-by : (t : List ℕ) → Tested t → (d : Holder) → crowd t d ≤ limit d
@@ -219,46 +160,46 @@ crowds-by t c d = go (truth (anyBelow (λ i. stands d (rec t i)) (rooms t)))
     go (inl f) =
         let w = any-true (λ i. stands d (rec t i)) (rooms t) f in
         let s = stands-true d (rec t (w .0)) (w .2) in
-        let b : crowd t (holder (rec t (w .0))) ≤ limit (holder (rec t (w .0))) = leb-true _ _ (every-at 2 (notCrowded t) t (c .crowded) (w .0) (w .1) (s .kind)) in
+        let b : crowd t (holder (rec t (w .0))) ≤ limit (holder (rec t (w .0))) =
+        leb-true _ _ (every-true 2 (notCrowded t) t (c .crowded) (w .0) (w .1) (s .kind)) in
         subst (λ (x : Holder). crowd t x ≤ limit x) (stands-holder d (rec t (w .0)) s) b
 
 pub sound-clauses : (t : List ℕ) → sized t ≡ true → sound t ≡ true → Sound t
 unfolding holdersThere headingsThere allNamed textsWhole noOtherText
 sound-clauses t z e =
     let c = tested t e in
-    let m : length t % 32 ≡ 0 = eqb-true _ _ (and-left _ (leb (length t) 65536) z) in
-    let n : length t ≤ 65536 = leb-true _ _ (and-right (eqb (length t % 32) 0) _ z) in
+    let s = sized-whole t z in
     record {
-      whole = m;
-      few = omega arith;
+      whole = s .0;
+      few = omega (arith, s .1);
       own = own-by t c;
-      holders = every-at 2 (holderThere t) t (c .holders);
-      targets = λ i l q. eqb-true _ _ (every-at 2 (headingThere t) t (c .headings) i l q);
+      holders = every-true 2 (holderThere t) t (c .holders);
+      targets = λ i l q. eqb-true _ _ (every-true 2 (headingThere t) t (c .headings) i l q);
       apart = apart-by t c;
-      named = λ i l q. inl (every-at 1 (isNamed t) t (c .named) i l q);
+      named = λ i l q. inl (every-true 1 (isNamed t) t (c .named) i l q);
       crowds = crowds-by t c;
       once = λ h p l q s b.
           eqb-true _ _ (all-true (once t h) (blocks (textLength (rec t h))) p b
-          (and-right (leb (textLength (rec t h)) 24000) _ (implies-use (eqb (headingType (rec t h)) 1) _ (every-at 1 (textWhole t) t (c .whole) h l q) (eq-eqb _ _ s))));
-      texts = every-at 3 (textInPlace t) t (c .other);
+          (and-right (leb (textLength (rec t h)) 24000) _
+          (implies-use (eqb (headingType (rec t h)) 1) _ (every-true 1 (textWhole t) t (c .whole) h l q) (eq-eqb _ _ s))));
+      texts = every-true 3 (textInPlace t) t (c .other);
     }
 
 -- ---- from the clauses to the test
 
 above-by : (t : List ℕ) → Sound t → asAbove t ≡ true
-unfolding asAbove
 above-by t c =
-    rw (
-      all-here (λ i. leb (byte (rec t i) 0) 3) (rooms t) (λ i l. le-leb _ _ (c .own i l .kinds)),
-      every-by 0 freeAsAbove t (λ i l. c .own i l .free),
-      every-by 1 headingAsAbove t (λ i l q. c .own i l .heading q .shape),
-      every-by 2 entryAsAbove t (λ i l q. c .own i l .entry q .shape),
-      every-by 3 textAsAbove t (λ i l. c .own i l .text),
-    )
+    above-made t (record {
+      kinds = all-here (λ i. leb (byte (rec t i) 0) 3) (rooms t) (λ i l. le-leb _ _ (c .own i l .kinds));
+      free = every-here 0 freeAsAbove t (λ i l. c .own i l .free);
+      heading = every-here 1 headingAsAbove t (λ i l q. c .own i l .heading q .shape);
+      entry = every-here 2 entryAsAbove t (λ i l q. c .own i l .entry q .shape);
+      text = every-here 3 textAsAbove t (λ i l. c .own i l .text);
+    })
 
 twice-by : (t : List ℕ) → Sound t → noneTwice t ≡ true
 unfolding noneTwice
-twice-by t c = every-by 2 (notTwice t) t (λ i l q. rw (false-by (anyBelow (λ j. bears (holder (rec t i)) (nameOf (rec t i)) (rec t j)) i) (one i l q)))
+twice-by t c = every-here 2 (notTwice t) t (λ i l q. rw (false-by (anyBelow (λ j. bears (holder (rec t i)) (nameOf (rec t i)) (rec t j)) i) (one i l q)))
   where
     one : (i : ℕ) → i < rooms t → byte (rec t i) 0 ≡ 2 → anyBelow (λ j. bears (holder (rec t i)) (nameOf (rec t i)) (rec t j)) i ≡ true → ⊥
     one i l q e =
@@ -282,20 +223,20 @@ clauses-sound t c =
       and-both (eqb (length t % 32) 0) _ (eq-eqb _ _ m) (le-leb _ _ n),
       untested t (record {
         above = above-by t c;
-        holders = every-by 2 (holderThere t) t (c .holders);
-        headings = every-by 2 (headingThere t) t (λ i l q. eq-eqb _ _ (c .targets i l q));
-        users = every-by 2 userRight t (λ i l q. c .own i l .entry q .user);
-        padded = every-by 2 namePadded t (λ i l q. c .own i l .entry q .padded);
+        holders = every-here 2 (holderThere t) t (c .holders);
+        headings = every-here 2 (headingThere t) t (λ i l q. eq-eqb _ _ (c .targets i l q));
+        users = every-here 2 userRight t (λ i l q. c .own i l .entry q .user);
+        padded = every-here 2 namePadded t (λ i l q. c .own i l .entry q .padded);
         twice = twice-by t c;
-        named = every-by 1 (isNamed t) t (named-by t c);
-        crowded = every-by 2 (notCrowded t) t (λ i l q. le-leb _ _ (c .crowds (holder (rec t i))));
-        plain = every-by 1 directoryPlain t (λ i l q. implies-by (eqb (headingType (rec t i)) 0) _ (λ z.
+        named = every-here 1 (isNamed t) t (named-by t c);
+        crowded = every-here 2 (notCrowded t) t (λ i l q. le-leb _ _ (c .crowds (holder (rec t i))));
+        plain = every-here 1 directoryPlain t (λ i l q. implies-by (eqb (headingType (rec t i)) 0) _ (λ z.
             let w = c .own i l .heading q .directory (eqb-true _ _ z) in
             and-both _ _ (eq-eqb _ _ (w .0)) (eq-eqb _ _ (w .1))));
-        whole = every-by 1 (textWhole t) t (λ i l q. implies-by (eqb (headingType (rec t i)) 1) _ (λ z.
+        whole = every-here 1 (textWhole t) t (λ i l q. implies-by (eqb (headingType (rec t i)) 1) _ (λ z.
             and-both (leb (textLength (rec t i)) 24000) _ (le-leb _ _ (c .own i l .heading q .simple (eqb-true _ _ z)))
             (all-here (once t i) (blocks (textLength (rec t i))) (λ p b. eq-eqb _ _ (c .once i p l q (eqb-true _ _ z) b)))));
-        other = every-by 3 (textInPlace t) t (c .texts);
-        legal = every-by 2 nameLegal t (λ i l q. c .own i l .entry q .legal);
+        other = every-here 3 (textInPlace t) t (c .texts);
+        legal = every-here 2 nameLegal t (λ i l q. c .own i l .entry q .legal);
       }),
     )

@@ -8,7 +8,7 @@ use Rattle.judge_laws.specs.Mask.{without}
 use Rattle.paper.specs.Sound.{allNamed}
 use Rattle.paper.specs.Table.{sized}
 use Rattle.laws.proofs.Tests.{and-no-left}
-use Rattle.judge_laws.proofs.Records.{sized-whole}
+use Rattle.laws.proofs.Sound.{sized-whole}
 use Rattle.judge_laws.proofs.Tests.{and-past}
 use Rattle.marks.proofs.headings_are_named.Statement.{statement}
 use Rattle.marks.proofs.headings_are_named.Tie as tie

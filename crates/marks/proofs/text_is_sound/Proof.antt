@@ -10,7 +10,7 @@ use Rattle.judge_laws.specs.Places.{textSound}
 use Rattle.paper.specs.Sound.{textsWhole, noOtherText}
 use Rattle.paper.specs.Table.{sized}
 use Rattle.laws.proofs.Tests.{and-no-left}
-use Rattle.judge_laws.proofs.Records.{sized-whole}
+use Rattle.laws.proofs.Sound.{sized-whole}
 use Rattle.judge_laws.proofs.Tests.{and-past}
 use Rattle.marks.proofs.text_is_sound.Statement.{statement}
 use Rattle.marks.proofs.text_is_sound.Tie as tie

@@ -7,7 +7,7 @@ use Rattle.judge_laws.specs.Mask.{without}
 use Rattle.judge_laws.specs.Shapes.{shaped}
 use Rattle.paper.specs.Table.{sized}
 use Rattle.laws.proofs.Tests.{and-no-left}
-use Rattle.judge_laws.proofs.Records.{sized-whole}
+use Rattle.laws.proofs.Sound.{sized-whole}
 use Rattle.judge_laws.proofs.Tests.{and-past}
 use Rattle.shapes.proofs.records_are_right.Statement.{statement}
 use Rattle.shapes.proofs.records_are_right.Tie as tie

@@ -8,7 +8,7 @@ use Rattle.judge_laws.specs.Twins.{noTwins, hashOf}
 use Rattle.paper.specs.Table.{sized}
 use Rattle.judge_laws.proofs.Chains.{chains-none}
 use Rattle.laws.proofs.Tests.{and-no-left}
-use Rattle.judge_laws.proofs.Records.{sized-whole}
+use Rattle.laws.proofs.Sound.{sized-whole}
 use Rattle.judge_laws.proofs.Tests.{and-past}
 use Rattle.twins.proofs.none_are_twins.Statement.{statement}
 use Rattle.twins.proofs.none_are_twins.Tie as tie
