@@ -1,12 +1,10 @@
--- The theorems, each in a file; what it stands on is in the folder of its name.
+-- ---- the theorems, each in a file; what it stands on is in the folder of its name. Demand 2 is the contracts themselves, of `elephant`.
 -- demand 1: `answered`, `refusal-lends`, `names-done`, `stop-cuts`, `del-leaves`, `del-stops`
 pub mod Answered
 -- demand 1 of mending: `mend-answered`
 pub mod MendAnswered
 -- the stop number matters only where it is reached: `stop-same`
 pub mod Stops
--- demand 2: `one-answer`, `one-mending`
-pub mod OneAnswer
 -- a sound table stays sound: `sound-kept`
 pub mod SoundKept
 -- mending: `mend-nothing`, `mend-sound`, `mend-again`
@@ -15,8 +13,7 @@ pub mod Mending
 pub mod PowerCut
 -- the listing: `directory-listing`, `base-listing`
 pub mod Listed
-
--- What several of them stand on.
+-- ---- what several of them stand on
 -- soundness as a record of clauses
 pub mod Sound
 -- a request read, walked and ended

@@ -1,3 +1,5 @@
+-- demand 2: no second answer meets the contracts
+pub mod OneAnswer
 pub mod Verdicts
 pub mod Ending
 pub mod Walking

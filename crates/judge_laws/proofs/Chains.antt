@@ -18,7 +18,8 @@ use Rattle.judge_laws.proofs.Lasts.{last-more, last-most, last-here, la
 use Rattle.laws.proofs.Tests.{and-left, and-right}
 
 -- what stands first in a bucket
-pub last-entry : (f : List ℕ → ℕ) (t : List ℕ) (b n c : ℕ) → c ≡ lastIn f t b n → (c ≤ n) × (0 < c → (isKind 2 (rec t (c - 1)) ≡ true) × (f (rec t (c - 1)) ≡ b))
+pub last-entry : (f : List ℕ → ℕ) (t : List ℕ) (b n c : ℕ) → c ≡ lastIn f t b n
+    → (c ≤ n) × (0 < c → (isKind 2 (rec t (c - 1)) ≡ true) × (f (rec t (c - 1)) ≡ b))
 unfolding lastIn
 last-entry f t b n c e = (
   rw e (last-most (inBucket f t b) n),
@@ -71,7 +72,8 @@ module _ (f : List ℕ → ℕ) (t : List ℕ) (q : ℕ → Bool) (i : ℕ) (s :
       )
 
 -- before the first entry
-pub chains-none : (f : List ℕ → ℕ) (t head next : List ℕ) → length head ≡ 2048 → length next ≡ 2048 → ((s : ℕ) → s < 2048 → getD head s 0 ≡ 0) → Chains f t head next 0
+pub chains-none : (f : List ℕ → ℕ) (t head next : List ℕ) → length head ≡ 2048 → length next ≡ 2048
+    → ((s : ℕ) → s < 2048 → getD head s 0 ≡ 0) → Chains f t head next 0
 unfolding lastIn lastBelow
 chains-none f t head next a b z =
     record {
@@ -98,7 +100,8 @@ module _ (f : List ℕ → ℕ) (t head next : List ℕ) (i : ℕ) (c : Chains f
       }
 
   -- an entry is put in front of its bucket
-  pub chains-entry : f (rec t i) < 2048 → i < 2048 → isKind 2 (rec t i) ≡ true → Chains f t (set head (f (rec t i)) (i + 1)) (set next i (getD head (f (rec t i)) 0)) (i + 1)
+  pub chains-entry : f (rec t i) < 2048 → i < 2048 → isKind 2 (rec t i) ≡ true
+      → Chains f t (set head (f (rec t i)) (i + 1)) (set next i (getD head (f (rec t i)) 0)) (i + 1)
   chains-entry low l k =
       record {
         heads = λ b m. at b m (ℕ-discrete b h);

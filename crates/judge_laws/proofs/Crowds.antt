@@ -74,7 +74,7 @@ module _ (t : List ℕ) where
       let s = same-of i (c - 1) h in
       let z : c ≡ (c - 1) + 1 = omega arith in (
         count-last (besideTo t i) n ∙ ap (countBelow (besideTo t i)) (sym e ∙ z)
-        ∙ count-cong (besideTo t i) (besideTo t (c - 1)) ((c - 1) + 1) (λ k _. to-like i (c - 1) k s),
+            ∙ count-cong (besideTo t i) (besideTo t (c - 1)) ((c - 1) + 1) (λ k _. to-like i (c - 1) k s),
         beside-same (rec t i) (rec t (c - 1)) h .0,
         s,
         rw e (last-most (besideTo t i) n),

@@ -30,8 +30,10 @@ module _ (t mark : List ℕ) (i : ℕ) (m : NamedBelow t mark i) where
   marks z e h l =
       rw any-more
       (by-cases (ℕ-discrete h (headingNamed (rec t i)))
-      (λ (q : h ≡ headingNamed (rec t i)). rw (q, k, eq-eqb (headingNamed (rec t i)) (headingNamed (rec t i)) refl) (getD-set-same mark (headingNamed (rec t i)) 1 0 (omega (arith, r))))
-      (λ (q : h ≢ headingNamed (rec t i)). rw (k, ne-eqb (headingNamed (rec t i)) h (λ x. q (sym x))) (getD-set-other mark (headingNamed (rec t i)) h 1 0 q ∙ m h l)))
+      (λ (q : h ≡ headingNamed (rec t i)).
+      rw (q, k, eq-eqb (headingNamed (rec t i)) (headingNamed (rec t i)) refl) (getD-set-same mark (headingNamed (rec t i)) 1 0 (omega (arith, r))))
+      (λ (q : h ≢ headingNamed (rec t i)).
+      rw (k, ne-eqb (headingNamed (rec t i)) h (λ x. q (sym x))) (getD-set-other mark (headingNamed (rec t i)) h 1 0 q ∙ m h l)))
     where
       k : isKind 2 (rec t i) ≡ true
       k = and-left (isKind 2 (rec t i)) _ e

@@ -47,8 +47,12 @@ module _ (n : ℕ) (w : ℕ → ℕ) (it : ℕ → Bool) (hd ps : ℕ → ℕ)
           by-cases (ℕ-discrete (hd i) h)
           (λ (q : hd i ≡ h). by-cases (ℕ-discrete (ps i) p)
           (λ (r : ps i ≡ p). rw (q, r, eq-eqb h h refl, eq-eqb p p refl) (sym (eq-eqb (sumBelow w h + p) (sumBelow w h + p) refl)))
-          (λ (r : ps i ≢ p). rw (q, eq-eqb h h refl, ne-eqb (ps i) p r) (sym (ne-eqb (sumBelow w h + ps i) (sumBelow w h + p) (λ (z : sumBelow w h + ps i ≡ sumBelow w h + p). r (omega arith))))))
-          (λ (q : hd i ≢ h). rw (ne-eqb (hd i) h q) (sym (ne-eqb (sumBelow w (hd i) + ps i) (sumBelow w h + p) (λ z. q (slot-thing w (hd i) h (ps i) p f l z)))))
+          (λ (r : ps i ≢ p).
+          rw (q, eq-eqb h h refl, ne-eqb (ps i) p r)
+          (sym (ne-eqb (sumBelow w h + ps i) (sumBelow w h + p) (λ (z : sumBelow w h + ps i ≡ sumBelow w h + p). r (omega arith))))))
+          (λ (q : hd i ≢ h).
+          rw (ne-eqb (hd i) h q)
+          (sym (ne-eqb (sumBelow w (hd i) + ps i) (sumBelow w h + p) (λ z. q (slot-thing w (hd i) h (ps i) p f l z)))))
 
       go : (i : ℕ) → i < n → (it i ≡ true) ⊎ (it i ≡ false)
           → (it i && (eqb (hd i) h && eqb (ps i) p)) ≡ (it i && eqb (sumBelow w (hd i) + ps i) (sumBelow w h + p))

@@ -100,7 +100,8 @@ module _ (t mark : List ℕ) (i : ℕ) where
     pub turn-twice : inPlace (rec t (headingOf (rec t i))) (rec t i) ≡ true → eqb (getD mark (slotOf t i) 0) 0 ≡ false → Turned t mark i false mark
     turn-twice e z = (rw (k, e, z), rw (k, e, z))
 
-    pub turn-marks : inPlace (rec t (headingOf (rec t i))) (rec t i) ≡ true → eqb (getD mark (slotOf t i) 0) 0 ≡ true → Turned t mark i true (set mark (slotOf t i) 1)
+    pub turn-marks : inPlace (rec t (headingOf (rec t i))) (rec t i) ≡ true → eqb (getD mark (slotOf t i) 0) 0 ≡ true
+        → Turned t mark i true (set mark (slotOf t i) 1)
     turn-marks e z = (rw (k, e, z), rw (k, e, z))
 
     pub turn-fits : inPlace (rec t (headingOf (rec t i))) (rec t i) ≡ true → textFits t i ≡ true
@@ -111,7 +112,8 @@ length-marked : (b : Bool) (mark : List ℕ) (s : ℕ) → length (cond b (set m
 length-marked true mark s = length-set mark s 1
 length-marked false mark s = refl
 
-pub length-turned : (t mark mark′ : List ℕ) (i : ℕ) → mark′ ≡ cond (fresh t mark i && isKind 3 (rec t i)) (set mark (slotOf t i) 1) mark → length mark′ ≡ length mark
+pub length-turned : (t mark mark′ : List ℕ) (i : ℕ) → mark′ ≡ cond (fresh t mark i && isKind 3 (rec t i)) (set mark (slotOf t i) 1) mark
+    → length mark′ ≡ length mark
 length-turned t mark mark′ i e = ap length e ∙ length-marked (fresh t mark i && isKind 3 (rec t i)) mark (slotOf t i)
 
 -- the slot that the code computes, from the heading number h, its start a and the position p

@@ -1,12 +1,12 @@
 -- What `request` and `mend` promise for every input: the answer's six numbers, the table after and the reply after.
-use mathlib.Core.Bool.{Bool, true, false, _&&_, not, cond}
+use mathlib.Core.Bool.{Bool, true, false, not, cond}
 use mathlib.Core.List.{List, [], _∷_, _++_}
 use Prim.Native.Nat.{ℕ, _+_, _-_}
-use lib.Dec.{eqb, leb, ltb}
+use lib.Dec.{leb, ltb}
 use lib.ListN.{length, take, drop}
 use Rattle.paper.specs.Table.{sized}
 use Rattle.paper.specs.Line.{Word}
-use Rattle.paper.specs.Check.{Refusal, Check, check, Verdict, passed, refused, verdict}
+use Rattle.paper.specs.Check.{Refusal, check, Verdict, passed, refused, verdict}
 use Rattle.paper.specs.Request.{Request, crd, wrs, rds, cpy, dup, chn, del, dpr, lst, lstBase, Read, request, unread, asked}
 use Rattle.paper.specs.Sound.{sound}
 use Rattle.paper.specs.Store.{Store, run}

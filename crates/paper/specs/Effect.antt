@@ -2,21 +2,20 @@
 use mathlib.Core.Bool.{Bool, true, false, _&&_, not, cond}
 use mathlib.Core.List.{List, [], _∷_, _++_}
 use Prim.Native.Nat.{ℕ, _+_}
-use lib.Dec.{eqb, leb, ltb}
-use lib.ListN.{length, take, drop, set}
+use lib.Dec.{ltb}
+use lib.ListN.{length, take, set}
 use Rattle.paper.specs.Scan.{Found, at, nowhere, eachBelow}
-use Rattle.paper.specs.Record.{headingType, level, headingCode, lifetime, entryCode, headingNamed, directory, simple, blank, headingRecord, nameField, entryRecord, textRecord}
+use Rattle.paper.specs.Record.{level, headingCode, lifetime, entryCode, headingNamed, directory, simple, blank, headingRecord, nameField, entryRecord, textRecord}
 use Rattle.paper.specs.Table.{rec, lay, frees, room, textRoom}
 use Rattle.paper.specs.Name.{chain}
 use Rattle.paper.specs.Declaration.{Part, orElse}
 use Rattle.paper.specs.Line.{Word}
 use Rattle.paper.specs.Check.{Refusal, Check, check}
-use Rattle.paper.specs.Request.{Request, crd, wrs, rds, cpy, dup, chn, del, dpr, lst, lstBase}
 use Rattle.paper.specs.Code.{joined, noRead, noWrite, lacks}
-use Rattle.paper.specs.Entry.{Holder, find, full, named, peopled}
+use Rattle.paper.specs.Entry.{find, full, named, peopled}
 use Rattle.paper.specs.Block.{blocks, block, blocksOf, fileText}
 use Rattle.paper.specs.Walk.{State, start, file, Walked, reached, stopped, toDirectory, lastName, toLast}
-use Rattle.paper.specs.Store.{Store, puts, clear, run}
+use Rattle.paper.specs.Store.{Store, puts, clear}
 use Rattle.paper.specs.Listing.{directoryLines, baseLines}
 
 -- what a request does where its walks end: its end checks, its stores, whether an entry is displaced, and what it writes

@@ -1,8 +1,8 @@
 -- "Words are separated by blanks; blanks beside a colon do not count." Each byte keeps its place in the lent line, so that a
 -- word and its names are stretches of the line itself.
-use mathlib.Core.Bool.{Bool, true, false, _&&_, not, cond}
+use mathlib.Core.Bool.{Bool, false, _&&_, cond}
 use mathlib.Core.List.{List, [], _∷_, map}
-use Prim.Native.Nat.{ℕ, zero, suc, _+_}
+use Prim.Native.Nat.{ℕ, suc}
 use lib.ListN.{length, getD}
 use lib.Dec.{eqb, leb}
 use Rattle.paper.specs.Name.{all}

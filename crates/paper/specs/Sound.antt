@@ -7,7 +7,7 @@ use Rattle.paper.specs.Scan.{allBelow, anyBelow, countBelow}
 use Rattle.paper.specs.Record.{byte, isKind, headingType, level, headingCode, lifetime, textLength, directory, simple, entryCode, holderOf, headingNamed, userOf, nameLength, nameOf, bytesHeld, headingOf, position, textAt, zeros}
 use Rattle.paper.specs.Table.{rooms, rec}
 use Rattle.paper.specs.Name.{linkName, legalBase}
-use Rattle.paper.specs.Entry.{Holder, holder, bears, crowd, limit, named}
+use Rattle.paper.specs.Entry.{holder, bears, crowd, limit, named}
 use Rattle.paper.specs.Block.{blocks, share}
 
 -- if the first then the second

@@ -1,5 +1,5 @@
 -- "The walk carries one small state from link to link: the directory, the entry, the joined code."
-use mathlib.Core.Bool.{Bool, not, cond}
+use mathlib.Core.Bool.{not, cond}
 use mathlib.Core.List.{List, [], _∷_}
 use Prim.Native.Nat.{ℕ, suc, _-_}
 use lib.ListN.{length, getD}

@@ -105,7 +105,9 @@ module _ (code holder heading user : ℕ) (name : List ℕ) where
       at-user = entry-user code holder heading user name (omega (arith, f .users))
 
       shape : entryAsAbove 0 (entryRecord code holder heading user name) ≡ true
-      shape = rw (entry-code code holder heading user name, entry-size code holder heading user name, le-leb _ _ (f .codes), le-leb _ _ l, entry-rest code holder heading user name l)
+      shape =
+          rw (entry-code code holder heading user name, entry-size code holder heading user name)
+          (rw (le-leb _ _ (f .codes), le-leb _ _ l, entry-rest code holder heading user name l))
 
       users : userRight 0 (entryRecord code holder heading user name) ≡ true
       users =

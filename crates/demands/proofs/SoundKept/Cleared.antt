@@ -42,16 +42,14 @@ pub record Cleared (gone : ℕ → Bool) (t f : List ℕ) : Type 0 where
 
 -- nothing that stays needs what is gone, but that heading o may lose its name
 pub record Spared (o : ℕ) (gone : ℕ → Bool) (t : List ℕ) : Type 0 where
-  pub holders : (i : ℕ) → i < rooms t → gone i ≡ false → byte (rec t i) 0 ≡ 2 → directory (rec t (holderOf (rec t i))) ≡ true → gone (holderOf (rec t i)) ≡ false
+  pub holders : (i : ℕ) → i < rooms t → gone i ≡ false → byte (rec t i) 0 ≡ 2 → directory (rec t (holderOf (rec t i))) ≡ true
+      → gone (holderOf (rec t i)) ≡ false
   pub targets : (i : ℕ) → i < rooms t → gone i ≡ false → byte (rec t i) 0 ≡ 2 → gone (headingNamed (rec t i)) ≡ false
   pub named : (i : ℕ) → i < rooms t → gone i ≡ false → byte (rec t i) 0 ≡ 1
       → ((j : ℕ) × (j < rooms t) × (gone j ≡ false) × (names i (rec t j) ≡ true)) ⊎ (i ≡ o)
   pub texts : (i : ℕ) → i < rooms t → byte (rec t i) 0 ≡ 3 → gone i ≡ gone (headingOf (rec t i))
 
 module _ (gone : ℕ → Bool) (t f : List ℕ) (w : Whole t) (d : Cleared gone t f) where
-  rooms-f : rooms f ≡ rooms t
-  rooms-f = rw (d .long)
-
   -- what is not gone stays
   stays : (i : ℕ) → gone i ≡ false → rec f i ≡ rec t i
   stays i g =
@@ -88,7 +86,8 @@ module _ (o p : ℕ) (gone : ℕ → Bool) (t f : List ℕ) (c : SoundBut o t) (
       go : gone i ≡ false → byte (rec t i) 0 ≡ 2 → (isBase (rec t i) || directory (rec f (holderOf (rec t i)))) ≡ true
       go g m = there (or-cases (isBase (rec t i)) (directory (rec t (holderOf (rec t i)))) (c .holders i l m))
         where
-          there : (isBase (rec t i) ≡ true) ⊎ (directory (rec t (holderOf (rec t i))) ≡ true) → (isBase (rec t i) || directory (rec f (holderOf (rec t i)))) ≡ true
+          there : (isBase (rec t i) ≡ true) ⊎ (directory (rec t (holderOf (rec t i))) ≡ true)
+              → (isBase (rec t i) || directory (rec f (holderOf (rec t i)))) ≡ true
           there (inl e) = or-left _ _ e
           there (inr e) = or-right (isBase (rec t i)) _ (rw (stays gone t f (c .whole) d (holderOf (rec t i)) (s .holders i l g m e)) e)
 

@@ -62,11 +62,15 @@ module _ (t heading text : List ℕ) (n : Roomy t heading text) where
 
   -- the heading is there, since the stores after it go elsewhere
   others : (u : List ℕ) → length u ≡ length t → Every (Lays (λ i r. i ≢ room t 0) (rooms u)) (textStores t text)
-  others u e = every-each _ _ (blocks (length text)) (λ p l. record { within = rw e (room-in (p + 1) (omega arith)); size = text-fits p l; holds = text-apart p l })
+  others u e =
+      every-each _ _ (blocks (length text))
+      (λ p l. record { within = rw e (room-in (p + 1) (omega arith)); size = text-fits p l; holds = text-apart p l })
 
   pub heading-there : rec (filed t heading text) (room t 0) ≡ heading
   unfolding newFile run
-  heading-there = go (run-each (λ i r. i ≢ room t 0) u (textStores t text) (others u (length-lay t (room t 0) heading)) (room t 0) (rw rooms-lay (room-in 0 (omega arith))))
+  heading-there =
+      go (run-each (λ i r. i ≢ room t 0) u (textStores t text) (others u (length-lay t (room t 0) heading)) (room t 0)
+      (rw rooms-lay (room-in 0 (omega arith))))
     where
       u : List ℕ
       u = lay t (room t 0) heading

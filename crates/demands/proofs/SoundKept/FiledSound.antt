@@ -124,7 +124,8 @@ module _ (t heading text : List ℕ) (c : Sound t) (n : NewFile t heading text) 
       go : Look t heading text h → countBelow (λ i. textAt h p (rec f i)) (rooms t) ≡ 1
       go (old r) =
           let k₀ : byte (rec t h) 0 ≡ 1 = rw r at k in
-          count-cong _ (λ i. textAt h p (rec t i)) (rooms t) (grown-text t f (filed-grown t heading text (n .laid) (c .few)) h p k₀) ∙ c .once h p l k₀ (rw r at s) (rw r at b)
+          count-cong _ (λ i. textAt h p (rec t i)) (rooms t) (grown-text t f (filed-grown t heading text (n .laid) (c .few)) h p k₀)
+          ∙ c .once h p l k₀ (rw r at s) (rw r at b)
       go (new-heading e r) =
           let b₀ : p < blocks (length text) = rw (r, n .bytes) at b in
           rw e (count-once (λ i. textAt (room t 0) p (rec f i)) (rooms t) (room t (p + 1)) (room-in t heading text (n .laid) (p + 1) (omega arith))

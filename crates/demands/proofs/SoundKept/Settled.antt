@@ -78,7 +78,8 @@ module _ (t m : List ℕ) (e : ℕ) (r : List ℕ) (g : Grown t m) (n : Instead 
   there i b d = rw (lay-other m e r i (n .size) d (rw rooms-m b)) (g .each i b)
 
   -- an entry but e is one of t
-  entry-same : (test : List ℕ → Bool) → ((r : List ℕ) → test r ≡ true → byte r 0 ≡ 2) → (i : ℕ) → i < rooms t → i ≢ e → test (rec (lay m e r) i) ≡ test (rec t i)
+  entry-same : (test : List ℕ → Bool) → ((r : List ℕ) → test r ≡ true → byte r 0 ≡ 2) → (i : ℕ) → i < rooms t → i ≢ e
+      → test (rec (lay m e r) i) ≡ test (rec t i)
   entry-same test y i b d = go (there i b d)
     where
       go : (rec (lay m e r) i ≡ rec t i) ⊎ New t (rec t i) (rec (lay m e r) i) → test (rec (lay m e r) i) ≡ test (rec t i)
