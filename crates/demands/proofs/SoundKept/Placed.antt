@@ -22,18 +22,22 @@ use Rattle.laws.proofs.Lay.{lay-same, lay-other, rooms-lay, length-lay, within}
 use Rattle.demands.proofs.Sound.Clauses.{Own, SoundBut, Sound}
 use Rattle.demands.proofs.Sound.Points.{holder-stays, text-points}
 
--- entry r may be laid at e in t, where o is the heading that no entry need name before, and o′ the one after
-pub record Placing (o o′ : ℕ) (t : List ℕ) (e : ℕ) (r : List ℕ) : Type 0 where
-  pub inside : e < rooms t
-  pub before : (byte (rec t e) 0 ≡ 0) ⊎ (byte (rec t e) 0 ≡ 2)
+-- entry r by itself fits into t
+pub record Fits (o : ℕ) (t r : List ℕ) : Type 0 where
   pub size : length r ≡ 32
   pub kind : byte r 0 ≡ 2
   pub own : Own r
-  pub held : holderThere t e r ≡ true
+  pub held : holderThere t 0 r ≡ true
   pub target : byte (rec t (headingNamed r)) 0 ≡ 1
+  pub new : (o ≡ headingNamed r) ⊎ (o ≡ 65535)
+
+-- it may be laid at e, where o is the heading that no entry need name before, and o′ the one after
+pub record Placing (o o′ : ℕ) (t : List ℕ) (e : ℕ) (r : List ℕ) : Type 0 where
+  pub fits : Fits o t r
+  pub inside : e < rooms t
+  pub before : (byte (rec t e) 0 ≡ 0) ⊎ (byte (rec t e) 0 ≡ 2)
   pub alone : (j : ℕ) → j < rooms t → j ≢ e → bears (holder r) (nameOf r) (rec t j) ≡ true → ⊥
   pub roomy : (d : Holder) → crowd (lay t e r) d ≤ limit d
-  pub new : (o ≡ headingNamed r) ⊎ (o ≡ 65535)
   pub left : (h : ℕ) → names h (rec t e) ≡ true → h ≡ o′
 
 module _ (o o′ : ℕ) (t : List ℕ) (e : ℕ) (r : List ℕ) (c : SoundBut o t) (p : Placing o o′ t e r) where
@@ -41,10 +45,10 @@ module _ (o o′ : ℕ) (t : List ℕ) (e : ℕ) (r : List ℕ) (c : SoundBut o 
   f = lay t e r
 
   here : rec f e ≡ r
-  here = lay-same t e r (p .size) (p .inside)
+  here = lay-same t e r (p .fits .size) (p .inside)
 
   other : (i : ℕ) → i < rooms t → i ≢ e → rec f i ≡ rec t i
-  other i l d = lay-other t e r i (p .size) d l
+  other i l d = lay-other t e r i (p .fits .size) d l
 
   -- what is neither free nor an entry stays
   stays : (i : ℕ) → byte (rec t i) 0 ≢ 0 → byte (rec t i) 0 ≢ 2 → rec f i ≡ rec t i
@@ -60,10 +64,10 @@ module _ (o o′ : ℕ) (t : List ℕ) (e : ℕ) (r : List ℕ) (c : SoundBut o 
 
   -- a record of f that is no entry is as it was
   no-entry : (i k : ℕ) → i < rooms t → k ≢ 2 → byte (rec f i) 0 ≡ k → rec f i ≡ rec t i
-  no-entry i k l d b = at-entry i l (λ _ q. absurd (d (sym b ∙ ap (λ (x : List ℕ). byte x 0) q ∙ p .kind))) (λ _ q. q)
+  no-entry i k l d b = at-entry i l (λ _ q. absurd (d (sym b ∙ ap (λ (x : List ℕ). byte x 0) q ∙ p .fits .kind))) (λ _ q. q)
 
   placed-own : (i : ℕ) → i < rooms t → Own (rec f i)
-  placed-own i l = at-entry i l (λ _ q. rw q (p .own)) (λ _ q. rw q (c .own i l))
+  placed-own i l = at-entry i l (λ _ q. rw q (p .fits .own)) (λ _ q. rw q (c .own i l))
 
   heading-stays : (h : ℕ) → byte (rec t h) 0 ≡ 1 → rec f h ≡ rec t h
   heading-stays h k = stays h (omega arith) (omega arith)
@@ -73,14 +77,14 @@ module _ (o o′ : ℕ) (t : List ℕ) (e : ℕ) (r : List ℕ) (c : SoundBut o 
 
   placed-holders : (i : ℕ) → i < rooms t → byte (rec f i) 0 ≡ 2 → holderThere f i (rec f i) ≡ true
   placed-holders i l k =
-      at-entry i l (λ _ q. rw q (there i r (p .held))) (λ _ q. rw q (there i (rec t i) (c .holders i l (rw q at k))))
+      at-entry i l (λ _ q. rw q (there i r (p .fits .held))) (λ _ q. rw q (there i (rec t i) (c .holders i l (rw q at k))))
 
   target-stays : (h : ℕ) → byte (rec t h) 0 ≡ 1 → byte (rec f h) 0 ≡ 1
   target-stays h k = rw (heading-stays h k) k
 
   placed-targets : (i : ℕ) → i < rooms t → byte (rec f i) 0 ≡ 2 → byte (rec f (headingNamed (rec f i))) 0 ≡ 1
   placed-targets i l k =
-      at-entry i l (λ _ q. rw q (target-stays _ (p .target))) (λ _ q. rw q (target-stays _ (c .targets i l (rw q at k))))
+      at-entry i l (λ _ q. rw q (target-stays _ (p .fits .target))) (λ _ q. rw q (target-stays _ (c .targets i l (rw q at k))))
 
   placed-apart : (i j : ℕ) → i < rooms t → j < rooms t → byte (rec f i) 0 ≡ 2 → bears (holder (rec f i)) (nameOf (rec f i)) (rec f j) ≡ true → i ≡ j
   placed-apart i j l m k b =
@@ -94,7 +98,7 @@ module _ (o o′ : ℕ) (t : List ℕ) (e : ℕ) (r : List ℕ) (c : SoundBut o 
   unfolding named
   placed-named i l k =
       by-cases (ℕ-discrete (headingNamed r) i)
-      (λ (q : headingNamed r ≡ i). inl (any-here (λ j. names i (rec f j)) (rooms f) e (rw rooms-lay (p .inside)) (rw here (names-by i r (p .kind) q))))
+      (λ (q : headingNamed r ≡ i). inl (any-here (λ j. names i (rec f j)) (rooms f) e (rw rooms-lay (p .inside)) (rw here (names-by i r (p .fits .kind) q))))
       (λ (q : headingNamed r ≢ i). go q (c .named i l (rw (no-entry i 1 l (omega arith) k) at k)))
     where
       one : (j : ℕ) → j < rooms t → names i (rec t j) ≡ true → (named f i ≡ true) ⊎ (i ≡ o′)
@@ -108,10 +112,10 @@ module _ (o o′ : ℕ) (t : List ℕ) (e : ℕ) (r : List ℕ) (c : SoundBut o 
 
       go : headingNamed r ≢ i → (named t i ≡ true) ⊎ (i ≡ o) → (named f i ≡ true) ⊎ (i ≡ o′)
       go q (inl x) = let w = any-true (λ j. names i (rec t j)) (rooms t) x in one (w .0) (w .1) (w .2)
-      go q (inr x) = absurd (unnamed q x (p .new))
+      go q (inr x) = absurd (unnamed q x (p .fits .new))
 
   same-text : (h q i : ℕ) → i < rooms t → textAt h q (rec f i) ≡ textAt h q (rec t i)
-  same-text h q i l = at-entry i l (λ x s. rw (s, x, none r (p .kind)) (sym (none-before (p .before)))) (λ _ s. rw s)
+  same-text h q i l = at-entry i l (λ x s. rw (s, x, none r (p .fits .kind)) (sym (none-before (p .before)))) (λ _ s. rw s)
     where
       none : (s : List ℕ) → byte s 0 ≡ 2 → textAt h q s ≡ false
       none s k = false-by _ (λ x. let z : byte s 0 ≡ 3 = text-true h q s x .kind in omega arith)
@@ -149,15 +153,6 @@ module _ (o o′ : ℕ) (t : List ℕ) (e : ℕ) (r : List ℕ) (c : SoundBut o 
       }
 
 -- ---- the two ways of placing an entry
-
--- entry r by itself fits into t
-pub record Fits (o : ℕ) (t r : List ℕ) : Type 0 where
-  pub size : length r ≡ 32
-  pub kind : byte r 0 ≡ 2
-  pub own : Own r
-  pub held : holderThere t 0 r ≡ true
-  pub target : byte (rec t (headingNamed r)) 0 ≡ 1
-  pub new : (o ≡ headingNamed r) ⊎ (o ≡ 65535)
 
 -- in a free record: its holder, and no other, has one entry more
 module _ (t : List ℕ) (e : ℕ) (r : List ℕ) (l : e < rooms t) (s : length r ≡ 32) (k : byte (rec t e) 0 ≡ 0) where
@@ -204,16 +199,11 @@ pub placed-free : (o : ℕ) (t : List ℕ) (e : ℕ) (r : List ℕ) → SoundBut
 unfolding find
 placed-free o t e r c x l k f m =
     placed o 65535 t e r c (record {
+      fits = x;
       inside = l;
       before = inl k;
-      size = x .size;
-      kind = x .kind;
-      own = x .own;
-      held = x .held;
-      target = x .target;
       alone = λ j b _ y. not-both y (any-false (λ i. bears (holder r) (nameOf r) (rec t i)) (rooms t) j b (first-nowhere _ (rooms t) f));
       roomy = crowd-free t e r l (x .size) k m (c .crowds);
-      new = x .new;
       left = λ h y. let z : byte (rec t e) 0 ≡ 2 = names-kind h (rec t e) y in let w : ⊥ = omega arith in absurd w;
     })
 
@@ -223,15 +213,10 @@ pub placed-over : (o : ℕ) (t : List ℕ) (e : ℕ) (r : List ℕ) → SoundBut
 placed-over o t e r c x l b =
     let a : Stands (holder r) (rec t e) = bears-stands (holder r) (nameOf r) (rec t e) b in
     placed o (headingNamed (rec t e)) t e r c (record {
+      fits = x;
       inside = l;
       before = inr (a .kind);
-      size = x .size;
-      kind = x .kind;
-      own = x .own;
-      held = x .held;
-      target = x .target;
       alone = λ j m d y. d (sym (c .apart e j l m (a .kind) (bears-both (holder r) (nameOf r) (rec t e) (rec t j) b y)));
       roomy = λ d. rw (crowd-over t e r d l (x .size) (x .kind) a) (c .crowds d);
-      new = x .new;
       left = λ h y. sym (names-heading h (rec t e) y);
     })
