@@ -46,22 +46,22 @@ last-here p (suc n) l = go (p n) refl l (λ x. last-here p n x)
     go true e x r = let q : suc n - 1 ≡ n = omega arith in rw q e
     go false e x r = r x
 
+-- what no step from c on changes
+steady : (g : ℕ → ℕ) (c n : ℕ) → c ≤ n → ((j : ℕ) → c ≤ j → j < n → g (suc j) ≡ g j) → g n ≡ g c
+steady g c zero l h = let e : c ≡ 0 = omega arith in rw e
+steady g c (suc n) l h =
+    by-cases (ℕ-discrete c (suc n))
+    (λ (e : c ≡ suc n). rw e)
+    (λ (e : c ≢ suc n). h n (omega arith) (omega arith) ∙ steady g c n (omega arith) (λ j a b. h j a (omega arith)))
+
 -- scans that fail from c on
 pub last-drop : (q : ℕ → Bool) (c n : ℕ) → c ≤ n → ((j : ℕ) → c ≤ j → j < n → q j ≡ false) → lastBelow q n ≡ lastBelow q c
 unfolding lastBelow
-last-drop q c zero l h = let e : c ≡ 0 = omega arith in rw e
-last-drop q c (suc n) l h =
-    by-cases (ℕ-discrete c (suc n))
-    (λ (e : c ≡ suc n). rw e)
-    (λ (e : c ≢ suc n). rw (h n (omega arith) (omega arith)) (last-drop q c n (omega arith) (λ j a b. h j a (omega arith))))
+last-drop q c n l h = steady (lastBelow q) c n l (λ j a b. rw (h j a b))
 
 pub count-drop : (q : ℕ → Bool) (c n : ℕ) → c ≤ n → ((j : ℕ) → c ≤ j → j < n → q j ≡ false) → countBelow q n ≡ countBelow q c
 unfolding countBelow
-count-drop q c zero l h = let e : c ≡ 0 = omega arith in rw e
-count-drop q c (suc n) l h =
-    by-cases (ℕ-discrete c (suc n))
-    (λ (e : c ≡ suc n). rw e)
-    (λ (e : c ≢ suc n). rw (h n (omega arith) (omega arith)) (count-drop q c n (omega arith) (λ j a b. h j a (omega arith))))
+count-drop q c n l h = steady (countBelow q) c n l (λ j a b. rw (h j a b))
 
 -- as many as below the last
 pub count-last : (q : ℕ → Bool) (n : ℕ) → countBelow q n ≡ countBelow q (lastBelow q n)

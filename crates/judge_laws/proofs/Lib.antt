@@ -1,16 +1,21 @@
+-- the records one by one: names, each kind's test, the clauses that they show
 pub mod Tests
-pub mod Mask
+pub mod Names
+pub mod Shapes
+pub mod Clauses
+-- headings named
+pub mod Naming
+-- text, by slots that are marked once
 pub mod Sums
 pub mod Slots
 pub mod Text
 pub mod TextTurns
-pub mod Naming
+-- names borne twice and places crowded, by chains of entries
 pub mod Lasts
 pub mod Chains
 pub mod Twins
 pub mod Crowds
-pub mod Shapes
-pub mod Clauses
-pub mod Names
 pub mod Literal
+-- soundness from these, and of a table without some records
 pub mod Sound
+pub mod Mask

@@ -1,13 +1,17 @@
+-- tests, numbers in bytes, scans and counts, lists
 pub mod Tests
 pub mod Numbers
 pub mod Scans
 pub mod Counts
 pub mod Lists
+-- records built and read, names and entries, blocks of text
 pub mod Fields
 pub mod Entries
+pub mod Blocks
+-- a table: one store, a list of stores, its free records
 pub mod Lay
 pub mod Runs
 pub mod Rooms
-pub mod Blocks
-pub mod Orders
+-- soundness taken apart, and the order of a listing
 pub mod Sound
+pub mod Orders
