@@ -102,7 +102,7 @@ fn mend(
     random: &mut Random,
     table: &[u8],
 ) -> Result<Vec<u8>, Box<Difference>> {
-    let case = Case::mend(table, u32::MAX);
+    let case = Case::mend(table, filebox::NO_STOP);
     let mended = comparison.compare(&case)?;
     if mended.number() != 0 {
         return Err(must_not_be(&case, "a cut table is not mended", &mended));
@@ -110,7 +110,7 @@ fn mend(
     if mended.stores() > 0 {
         let stop = random.below(mended.stores() as usize) as u32;
         let cut = comparison.compare(&case.stopped(stop))?;
-        let again = comparison.compare(&Case::mend(&cut.table, u32::MAX))?;
+        let again = comparison.compare(&Case::mend(&cut.table, filebox::NO_STOP))?;
         if again.table != mended.table {
             let wrong = "mended again, it ends otherwise";
             return Err(must_not_be(&case.stopped(stop), wrong, &cut));

@@ -85,8 +85,8 @@ impl<'a> Story<'a> {
         let stop = self.stop();
         for mend in [
             Case::mend(&table, stop),
-            Case::mend(&table, u32::MAX),
-            Case::mend(&seen.table, u32::MAX),
+            Case::mend(&table, filebox::NO_STOP),
+            Case::mend(&seen.table, filebox::NO_STOP),
         ] {
             self.comparison.compare(&mend)?;
         }

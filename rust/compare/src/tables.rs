@@ -6,7 +6,7 @@ use random::{requests, Random};
 /// Make these requests of user 1 on a table, each with this text; each must be granted.
 fn grow(table: &mut [u8], lines: impl IntoIterator<Item = String>, text: &[u8]) {
     for line in lines {
-        let answer = beside::request(table, line.as_bytes(), text, &mut [], 1, u32::MAX);
+        let answer = beside::request(table, line.as_bytes(), text, &mut [], 1, filebox::NO_STOP);
         assert_eq!(answer.number, 0, "{line}");
     }
 }
@@ -169,7 +169,7 @@ mod tests {
     #[test]
     fn full_lists_are_full() {
         let refused = |mut table: Vec<u8>, line: &[u8]| {
-            beside::request(&mut table, line, b"", &mut [], 1, u32::MAX).number == 17
+            beside::request(&mut table, line, b"", &mut [], 1, filebox::NO_STOP).number == 17
         };
         assert!(refused(crowded_directory(112), b"CRD .R:NEW"));
         assert!(!refused(crowded_directory(111), b"CRD .R:NEW"));

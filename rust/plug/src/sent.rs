@@ -25,7 +25,7 @@ impl Sent {
             after: Vec::new(),
         };
         let answer;
-        (answer, sent.after) = sent.stopped(u32::MAX);
+        (answer, sent.after) = sent.stopped(filebox::NO_STOP);
         sent.answer = answer.numbers();
         sent
     }
