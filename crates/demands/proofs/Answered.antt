@@ -2,7 +2,8 @@
 -- Each way fixes the answer's numbers; what a refusal or a cut leaves of the table and the reply stands in the answer's definition.
 pub mod Numbered
 pub mod ByName
-use mathlib.Core.Bool.{Bool, true, false, cond, true≢false}
+pub mod Ways
+use mathlib.Core.Bool.{cond, true≢false}
 use mathlib.Core.List.{List}
 use mathlib.Core.Logic.{_≢_}
 use mathlib.Core.Path.{_≡_, refl, _∙_, subst}
@@ -15,15 +16,15 @@ use lib.Dec.{eqb}
 use borrow.Author.Tests.{ne-eqb}
 use Rattle.paper.specs.Line.{Word}
 use Rattle.paper.specs.Check.{Refusal}
-use Rattle.paper.specs.Request.{Request, crd, wrs, rds, cpy, dup, chn, del, dpr, lst, lstBase, request, asked}
+use Rattle.paper.specs.Request.{del, request, asked}
 use Rattle.paper.specs.Store.{Store, run}
-use Rattle.paper.specs.Effect.{Plan, Planned, plan, crdPlan, wrsPlan, rdsPlan, cpyPlan, dupPlan, chnPlan, delPlan, dprPlan, lstPlan, lstBasePlan}
-use Rattle.paper.specs.Answer.{Outcome, plain, refusing, done, stores, ran, single, deleting, granted, requested}
+use Rattle.paper.specs.Effect.{Plan, Planned, plan, delPlan}
+use Rattle.paper.specs.Answer.{Outcome, plain, refusing, done, stores, ran, single, deleting, requested}
 use Rattle.laws.proofs.Runs.{length-run}
 use Rattle.demands.proofs.Request.Fair.{placeless, Fair, verdict-idle}
-use Rattle.demands.proofs.Request.Course.{Course, untried, tried, course}
 use Rattle.demands.proofs.Request.Ended.{Passed, ran-by, passes, cuts}
-use Rattle.demands.proofs.Answered.Numbered.{FairPlan, FairPlanned, fair-crdPlan, fair-wrsPlan, fair-rdsPlan, fair-cpyPlan, fair-dupPlan, fair-chnPlan, fair-delPlan, fair-dprPlan, fair-lstPlan, fair-lstBasePlan, fair-refused}
+use Rattle.demands.proofs.Answered.Numbered.{FairPlan, FairPlanned, fair-delPlan, fair-refused}
+use Rattle.demands.proofs.Answered.Ways.{Came, lent, planned, deletes, came}
 use Rattle.demands.proofs.Answered.ByName.{Deleted, whole, halts, stops, front-none, deleted, Leaves, DelStopped, deleted-leaves, deleted-stops}
 
 -- what every outcome keeps: the table and the reply that were lent, and the answer's numbers
@@ -91,53 +92,6 @@ answered-deleted t u reply k n made ws o (halts m t₁ made₁ w rest f h d r q)
 answered-deleted t u reply k n made ws o (stops m t₁ made₁ w rest p h d r l q) =
     rw q (answered-plain t _ reply (made + k) 22 0 (n + m) (made + k) (omega arith) refl (omega arith)
     (length-run t₁ (take (made + k - made₁) (p .stores)) ∙ h .size))
-
--- ---- every request
-
-abbrev pub isDel : Request → Bool
-isDel (crd w level code) = false
-isDel (wrs lifetime level code w) = false
-isDel (rds w) = false
-isDel (cpy old new lifetime level code) = false
-isDel (dup old new code) = false
-isDel (chn old link) = false
-isDel (del ws) = true
-isDel (dpr w code) = false
-isDel (lst w) = false
-isDel lstBase = false
-
--- the three ways of a request, each the same for every stop number
-pub data Came (t line text reply : List ℕ) (u : ℕ) : Type 0 where
-  -- refused before it is tried
-  lent : (f : Refusal) → Fair f → ((k : ℕ) → requested t line text reply u k ≡ refusing t reply f) → Came t line text reply u
-  -- tried by one plan
-  planned : (r : Request) → asked line text ≡ request r → isDel r ≡ false → (p : Planned) → FairPlanned reply p
-      → ((k : ℕ) → requested t line text reply u k ≡ single t reply k (ran k p)) → Came t line text reply u
-  -- a DEL
-  deletes : (ws : List Word) → asked line text ≡ request (del ws) → ((k : ℕ) → requested t line text reply u k ≡ deleting t u reply k 0 0 ws)
-      → Came t line text reply u
-
-pub came : (t line text reply : List ℕ) (u : ℕ) → Came t line text reply u
-unfolding granted
-came t line text reply u = go (course t line text reply u)
-  where
-    grants : (r : Request) → asked line text ≡ request r → ((k : ℕ) → requested t line text reply u k ≡ granted t text reply u k r) → Came t line text reply u
-    grants (crd w level code) q = planned (crd w level code) q refl (crdPlan t u w level code) (fair-crdPlan t reply u w level code)
-    grants (wrs lifetime level code w) q =
-        planned (wrs lifetime level code w) q refl (wrsPlan t u text lifetime level code w) (fair-wrsPlan t reply u text lifetime level code w)
-    grants (rds w) q = planned (rds w) q refl (rdsPlan t u reply w) (fair-rdsPlan t reply u w)
-    grants (cpy old new lifetime level code) q =
-        planned (cpy old new lifetime level code) q refl (cpyPlan t u old new lifetime level code) (fair-cpyPlan t reply u old new lifetime level code)
-    grants (dup old new code) q = planned (dup old new code) q refl (dupPlan t u old new code) (fair-dupPlan t reply u old new code)
-    grants (chn old link) q = planned (chn old link) q refl (chnPlan t u old link) (fair-chnPlan t reply u old link)
-    grants (del ws) q = deletes ws q
-    grants (dpr w code) q = planned (dpr w code) q refl (dprPlan t u w code) (fair-dprPlan t reply u w code)
-    grants (lst w) q = planned (lst w) q refl (lstPlan t u reply w) (fair-lstPlan t reply u w)
-    grants lstBase q = planned lstBase q refl (lstBasePlan t u reply) (fair-lstBasePlan t reply u)
-
-    go : Course t line text reply u → Came t line text reply u
-    go (untried f h e) = lent f h e
-    go (tried r h e) = grants r (h .asked) e
 
 -- demand 1: for every table, line, text, reply buffer, user and stop number
 pub answered : (t line text reply : List ℕ) (u k : ℕ) → Answered t reply k (requested t line text reply u k)

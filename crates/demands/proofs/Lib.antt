@@ -7,7 +7,7 @@ pub mod MendAnswered
 pub mod Stops
 -- a sound table stays sound: `sound-kept`
 pub mod SoundKept
--- mending: `mend-nothing`, `mend-sound`, `mend-again`
+-- mending: `mend-nothing`, `mend-sound`, `mend-enough`, `mend-again`
 pub mod Mending
 -- demand 3: `demand-three`
 pub mod PowerCut

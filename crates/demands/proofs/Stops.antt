@@ -13,7 +13,7 @@ use Rattle.paper.specs.Store.{run}
 use Rattle.paper.specs.Effect.{Plan, Planned, delPlan}
 use Rattle.paper.specs.Answer.{Outcome, Ran, refusedBy, done, cut, ran, single, oneName, deleting, requested}
 use Rattle.demands.proofs.Request.Ended.{ran-by, refuses, passes, cuts}
-use Rattle.demands.proofs.Answered.{Came, lent, planned, deletes, came}
+use Rattle.demands.proofs.Answered.Ways.{Came, lent, planned, deletes, came}
 
 -- the stop number is not reached
 abbrev pub Uncut : Outcome → Type 0

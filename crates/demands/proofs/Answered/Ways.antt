@@ -1,0 +1,59 @@
+-- The three ways of a request: refused before it is tried, tried by one plan, or a DEL name by name; each the same for every stop number.
+-- What is tried is one of ten requests, and its plan is fair.
+use mathlib.Core.Bool.{Bool, true, false}
+use mathlib.Core.List.{List}
+use mathlib.Core.Path.{_≡_, refl}
+use Prim.Native.Nat.{ℕ}
+use Rattle.paper.specs.Line.{Word}
+use Rattle.paper.specs.Check.{Refusal}
+use Rattle.paper.specs.Request.{Request, crd, wrs, rds, cpy, dup, chn, del, dpr, lst, lstBase, request, asked}
+use Rattle.paper.specs.Effect.{Planned, crdPlan, wrsPlan, rdsPlan, cpyPlan, dupPlan, chnPlan, dprPlan, lstPlan, lstBasePlan}
+use Rattle.paper.specs.Answer.{refusing, ran, single, deleting, granted, requested}
+use Rattle.demands.proofs.Request.Fair.{Fair}
+use Rattle.demands.proofs.Request.Course.{Course, untried, tried, course}
+use Rattle.demands.proofs.Answered.Numbered.{FairPlanned, fair-crdPlan, fair-wrsPlan, fair-rdsPlan, fair-cpyPlan, fair-dupPlan, fair-chnPlan, fair-dprPlan, fair-lstPlan, fair-lstBasePlan}
+
+abbrev pub isDel : Request → Bool
+isDel (crd w level code) = false
+isDel (wrs lifetime level code w) = false
+isDel (rds w) = false
+isDel (cpy old new lifetime level code) = false
+isDel (dup old new code) = false
+isDel (chn old link) = false
+isDel (del ws) = true
+isDel (dpr w code) = false
+isDel (lst w) = false
+isDel lstBase = false
+
+-- the three ways of a request, each the same for every stop number
+pub data Came (t line text reply : List ℕ) (u : ℕ) : Type 0 where
+  -- refused before it is tried
+  lent : (f : Refusal) → Fair f → ((k : ℕ) → requested t line text reply u k ≡ refusing t reply f) → Came t line text reply u
+  -- tried by one plan
+  planned : (r : Request) → asked line text ≡ request r → isDel r ≡ false → (p : Planned) → FairPlanned reply p
+      → ((k : ℕ) → requested t line text reply u k ≡ single t reply k (ran k p)) → Came t line text reply u
+  -- a DEL
+  deletes : (ws : List Word) → asked line text ≡ request (del ws) → ((k : ℕ) → requested t line text reply u k ≡ deleting t u reply k 0 0 ws)
+      → Came t line text reply u
+
+pub came : (t line text reply : List ℕ) (u : ℕ) → Came t line text reply u
+unfolding granted
+came t line text reply u = go (course t line text reply u)
+  where
+    grants : (r : Request) → asked line text ≡ request r → ((k : ℕ) → requested t line text reply u k ≡ granted t text reply u k r) → Came t line text reply u
+    grants (crd w level code) q = planned (crd w level code) q refl (crdPlan t u w level code) (fair-crdPlan t reply u w level code)
+    grants (wrs lifetime level code w) q =
+        planned (wrs lifetime level code w) q refl (wrsPlan t u text lifetime level code w) (fair-wrsPlan t reply u text lifetime level code w)
+    grants (rds w) q = planned (rds w) q refl (rdsPlan t u reply w) (fair-rdsPlan t reply u w)
+    grants (cpy old new lifetime level code) q =
+        planned (cpy old new lifetime level code) q refl (cpyPlan t u old new lifetime level code) (fair-cpyPlan t reply u old new lifetime level code)
+    grants (dup old new code) q = planned (dup old new code) q refl (dupPlan t u old new code) (fair-dupPlan t reply u old new code)
+    grants (chn old link) q = planned (chn old link) q refl (chnPlan t u old link) (fair-chnPlan t reply u old link)
+    grants (del ws) q = deletes ws q
+    grants (dpr w code) q = planned (dpr w code) q refl (dprPlan t u w code) (fair-dprPlan t reply u w code)
+    grants (lst w) q = planned (lst w) q refl (lstPlan t u reply w) (fair-lstPlan t reply u w)
+    grants lstBase q = planned lstBase q refl (lstBasePlan t u reply) (fair-lstBasePlan t reply u)
+
+    go : Course t line text reply u → Came t line text reply u
+    go (untried f h e) = lent f h e
+    go (tried r h e) = grants r (h .asked) e
