@@ -13,7 +13,7 @@ use lib.Dec.{eqb}
 use borrow.Author.Tests.{eq-eqb}
 use Rattle.paper.specs.Number.{numberAt, bytesOf}
 use Rattle.paper.specs.Scan.{allBelow}
-use Rattle.paper.specs.Record.{byte, headingCode, textLength, entryCode, holderOf, headingNamed, userOf, nameLength, nameOf, bytesHeld, headingOf, position, zeros, padded, headingRecord, nameField, entryRecord, textRecord}
+use Rattle.paper.specs.Record.{byte, headingType, headingCode, textLength, entryCode, holderOf, headingNamed, userOf, nameLength, nameOf, bytesHeld, headingOf, position, held, zeros, padded, headingRecord, nameField, entryRecord, textRecord}
 use Rattle.laws.proofs.Numbers.{number-drop, number-bytes}
 use Rattle.laws.proofs.Scans.{all-here}
 
@@ -51,6 +51,10 @@ module _ (type lev code life n : ℕ) where
   pub heading-record-kind : byte (headingRecord type lev code life n) 0 ≡ 1
   unfolding headingRecord
   heading-record-kind = refl
+
+  pub heading-type : headingType (headingRecord type lev code life n) ≡ type
+  unfolding headingRecord
+  heading-type = refl
 
   pub heading-code : headingCode (headingRecord type lev code life n) ≡ code
   unfolding headingRecord
@@ -174,6 +178,10 @@ module _ (heading place : ℕ) (bytes : List ℕ) where
   pub length-text : length bytes ≤ 24 → length (textRecord heading place bytes) ≡ 32
   unfolding textRecord bytesOf
   length-text l = ap (λ (n : ℕ). suc (suc (suc (suc (suc (suc (suc (suc n)))))))) (length-padded 24 bytes l)
+
+  pub text-held : held (textRecord heading place bytes) ≡ bytes
+  unfolding held textRecord bytesOf
+  text-held = take-append-seam bytes (replicate (24 - length bytes) 0)
 
   pub text-gap : zeros 6 2 (textRecord heading place bytes) ≡ true
   unfolding textRecord bytesOf zeros allBelow
