@@ -18,16 +18,18 @@ pub struct Sent {
 impl Sent {
     /// A request for this table, and its outcome.
     fn new(asked: Asked, before: Vec<u8>) -> Sent {
-        let mut sent = Sent {
+        let sent = Sent {
             asked,
             answer: [0; 6],
             before,
             after: Vec::new(),
         };
-        let answer;
-        (answer, sent.after) = sent.stopped(filebox::NO_STOP);
-        sent.answer = answer.numbers();
-        sent
+        let (answer, after) = sent.stopped(filebox::NO_STOP);
+        Sent {
+            answer: answer.numbers(),
+            after,
+            ..sent
+        }
     }
 
     /// The request with a stop number.
