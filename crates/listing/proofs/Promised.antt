@@ -1,6 +1,6 @@
 -- On a sound table what is written is what document 01 lists: no two entries of one list bear one name, so they are picked in order,
 -- and every entry's code is a digit.
-use mathlib.Core.Bool.{Bool, true, _&&_, cond}
+use mathlib.Core.Bool.{Bool, true, cond}
 use mathlib.Core.List.{List, [], _∷_, _++_}
 use mathlib.Core.Logic.{_≢_, by-cases}
 use mathlib.Core.Path.{_≡_, refl, sym, ap₂, _∙_}
@@ -11,16 +11,16 @@ use native.Mathlib.Decide.{ℕ-discrete, decLt}
 use lib.ListN.{length, drop}
 use lib.Seq.{sets, sets-eq}
 use lib.Dec.{leb}
-use borrow.Author.Tests.{eq-eqb, leb-true, le-leb, not-true}
-use Rattle.paper.specs.Scan.{allBelow}
-use Rattle.paper.specs.Record.{byte, isKind, nameOf, entryCode}
+use borrow.Author.Tests.{leb-true, le-leb, not-true}
+use Rattle.paper.specs.Record.{nameOf, entryCode}
 use Rattle.paper.specs.Table.{rooms, rec}
 use Rattle.paper.specs.Entry.{Holder, baseList, inDirectory, holder, stands}
 use Rattle.paper.specs.Listing.{line, lineOf, listed, lines}
-use Rattle.paper.specs.Sound.{sound, every, freeAsAbove, headingAsAbove, entryAsAbove, textAsAbove, asAbove, holdersThere, headingsThere, usersRight, namesPadded, notTwice, noneTwice, allNamed, noneCrowded, directoriesPlain, textsWhole, noOtherText, namesLegal}
-use Rattle.laws.proofs.Tests.{not-both, and-left, and-right, and-parts, implies-use}
-use Rattle.laws.proofs.Scans.{all-true, any-false}
+use Rattle.paper.specs.Sound.{sound, entryAsAbove, notTwice, noneTwice}
+use Rattle.laws.proofs.Tests.{not-both, and-left}
+use Rattle.laws.proofs.Scans.{any-false}
 use Rattle.laws.proofs.Lists.{Every}
+use Rattle.laws.proofs.Sound.{Tested, tested, above-view, every-true}
 use Rattle.laws.proofs.Entries.{Stands, stands-true, bears-by}
 use Rattle.laws.proofs.Orders.{Apart, every-listed}
 use Rattle.listing.specs.declared.Listed.{Listed}
@@ -59,41 +59,17 @@ unfolding holderOf
 listed-stands (Directory h) r e = stands-true (inDirectory (h .0)) r e
 listed-stands (Base u) r e = stands-true (baseList u) r (and-left (stands (baseList u) r) _ e)
 
--- the two clauses that a listing goes by
-record Clauses (t : List ℕ) : Type 0 where
-  pub above : every 2 entryAsAbove t ≡ true
-  pub twice : every 2 (notTwice t) t ≡ true
-
-above-entries : (t : List ℕ) → asAbove t ≡ true → every 2 entryAsAbove t ≡ true
-unfolding asAbove
-above-entries t e =
-    and-right (allBelow (λ i. leb (byte (rec t i) 0) 3) (rooms t) && every 0 freeAsAbove t && every 1 headingAsAbove t) (every 2 entryAsAbove t)
-    (and-left _ (every 3 textAsAbove t) e)
-
-clauses : (t : List ℕ) → sound t ≡ true → Clauses t
-unfolding sound noneTwice
-clauses t e =
-    let ten = and-left _ (textsWhole t) (and-left _ (noOtherText t) (and-left _ (namesLegal t) e)) in
-    let six = and-left _ (allNamed t) (and-left _ (noneCrowded t) (and-left _ (directoriesPlain t) ten)) in
-    let five = and-parts _ (noneTwice t) six in
-    let two = and-left _ (headingsThere t) (and-left _ (usersRight t) (and-left _ (namesPadded t) (five .0))) in
-    record { above = above-entries t (and-left _ (holdersThere t) two); twice = five .1 }
-
-every-entry : (test : ℕ → List ℕ → Bool) (t : List ℕ) → every 2 test t ≡ true → (i : ℕ) → i < rooms t → byte (rec t i) 0 ≡ 2
-    → test i (rec t i) ≡ true
-every-entry test t e i l k =
-    implies-use (isKind 2 (rec t i)) (test i (rec t i)) (all-true _ (rooms t) i l e) (eq-eqb _ _ k)
-
 -- an entry with the same name in the same place does not stand before another
-not-before : (d : Holder) (t : List ℕ) → Clauses t → (i j : ℕ) → i < rooms t → j < i → Stands d (rec t i) → Stands d (rec t j)
+not-before : (d : Holder) (t : List ℕ) → Tested t → (i j : ℕ) → i < rooms t → j < i → Stands d (rec t i) → Stands d (rec t j)
     → nameOf (rec t i) ≡ nameOf (rec t j) → ⊥
+unfolding noneTwice
 not-before d t c i j l m p q e =
     not-both
     (bears-by (holder (rec t i)) (nameOf (rec t i)) (rec t j)
     (record { kind = q .kind; heading = q .heading ∙ sym (p .heading); user = q .user ∙ sym (p .user) }) e)
-    (any-false _ i j m (not-true _ (every-entry (notTwice t) t (c .twice) i l (p .kind))))
+    (any-false _ i j m (not-true _ (every-true 2 (notTwice t) t (c .twice) i l (p .kind))))
 
-sound-apart : (w : Listed) (t : List ℕ) → Clauses t → Apart t (isListed w)
+sound-apart : (w : Listed) (t : List ℕ) → Tested t → Apart t (isListed w)
 sound-apart w t c i j l m p q e =
     by-cases (ℕ-discrete i j) (λ (x : i ≡ j). x)
     (λ (x : i ≢ j).
@@ -101,14 +77,14 @@ sound-apart w t c i j l m p q e =
     (λ (y : j < i). absurd (not-before (holderOf w) t c i j l y (listed-stands w _ p) (listed-stands w _ q) e))
     (λ (y : ¬ (j < i)). absurd (not-before (holderOf w) t c j i m (omega arith) (listed-stands w _ q) (listed-stands w _ p) (sym e))))
 
-sound-code : (w : Listed) (t : List ℕ) → Clauses t → (i : ℕ) → i < rooms t → isListed w (rec t i) ≡ true → entryCode (rec t i) ≤ 7
+sound-code : (w : Listed) (t : List ℕ) → Tested t → (i : ℕ) → i < rooms t → isListed w (rec t i) ≡ true → entryCode (rec t i) ≤ 7
 sound-code w t c i l p =
-    leb-true _ 7 (and-left _ _ (and-left _ _ (every-entry entryAsAbove t (c .above) i l (listed-stands w (rec t i) p .kind))))
+    leb-true _ 7 (and-left _ _ (and-left _ _ (every-true 2 entryAsAbove t (above-view t (c .above) .entry) i l (listed-stands w (rec t i) p .kind))))
 
 -- on a sound table the lines written are those of document 01
 pub sound-listed : (w : Listed) (t : List ℕ) → sound t ≡ true → linesShown t (picked t (isListed w)) ≡ lines t (listed t (isListed w))
 sound-listed w t e =
-    let c = clauses t e in
+    let c = tested t e in
     shown-listed t (isListed w) (sound-apart w t c) (sound-code w t c)
 
 -- bytes that fit, written to the front: "The rest of the buffer is unchanged."
