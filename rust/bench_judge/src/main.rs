@@ -1,5 +1,6 @@
 //! The proved judge on full tables of three shapes, as a ratio to one byte-by-byte pass over the same table in the same run.
-//! Prints a line for each shape and size, or for the one shape that is named; fails if a table is not found sound or a ratio at 2,048 records is above 4.
+//! Prints a line for each shape and size, or for the one shape that is named; fails if a table is not found sound or a ratio
+//! at 2,048 records is above 4.
 use std::hint::black_box;
 
 use bench_judge::{judge, tables};

@@ -119,8 +119,6 @@ fn line(dice: &mut Dice, bench: &Bench) -> String {
 
 /// The directories that an entry in each directory names, and those that the base lists name.
 fn edges(table: &[u8]) -> (Vec<(usize, usize)>, Vec<usize>) {
-    let two =
-        |record: &[u8], at: usize| usize::from(u16::from_le_bytes([record[at], record[at + 1]]));
     let (mut edges, mut bases) = (Vec::new(), Vec::new());
     for entry in table.chunks(32).filter(|record| record[0] == 2) {
         let named = two(entry, 4);
