@@ -143,6 +143,49 @@ fn every_word_up_to_five_characters_is_a_declaration_or_not() {
     assert_eq!(met, 1 + 11 + 12 * 5 * 4);
 }
 
+/// What each function that takes a declaration asks of it, and where the declaration stands: "CRD and CPY and WRS refuse a
+/// type. CRD refuses a lifetime; WRS needs one, M or L; CPY may have M or L ... DUP allows a digit only. DPR needs a digit and
+/// allows nothing else."
+fn asked_with(word: &str, d: Declared) -> [(String, bool, u32); 5] {
+    let typeless = d.file_type.is_none();
+    let medium_or_long = matches!(d.lifetime, Some(DeclaredLifetime::M | DeclaredLifetime::L));
+    let crd = typeless && d.lifetime.is_none();
+    let dup = crd && d.level.is_none();
+    [
+        (format!("CRD .G {word}"), crd, 2),
+        (format!("WRS {word} .G"), typeless && medium_or_long, 1),
+        (
+            format!("CPY .R:A .G {word}"),
+            crd || typeless && medium_or_long,
+            3,
+        ),
+        (format!("DUP .R:A .G {word}"), dup, 3),
+        (format!("DPR .R:A {word}"), dup && d.digit.is_some(), 2),
+    ]
+}
+
+#[test]
+fn every_declaration_in_every_function_that_takes_one() {
+    let bench = Bench::grown(16, &["CRD .R", "WRS M .R:A"]);
+    let mut granted = 0;
+    for (word, declared) in declarations() {
+        for (line, fits, place) in asked_with(&word, declared) {
+            match fits {
+                true => assert_eq!(bench.ask(&line, TEXT).answer.number, 0, "{line}"),
+                false => bench.refuse(&line, TEXT, 9, place),
+            }
+            granted += u32::from(fits);
+        }
+    }
+    // with no type: no lifetime, M or L; then a level, a digit, both or neither, after a point, or nothing at all
+    assert_eq!(granted, 46 + 92 + 138 + 10 + 8);
+    for word in ["MF", "1", ".8", "DD", "UM", "M1", "M.1U", "MM", ".PP", "--"] {
+        for (line, _, place) in asked_with(word, Declared::default()) {
+            bench.refuse(&line, TEXT, 9, place);
+        }
+    }
+}
+
 /// Document 01 once more, with the blanks beside colons taken out first and the rest split at blanks.
 fn words_by_taking_blanks_out(line: &[u8]) -> Vec<Vec<u8>> {
     let mut text: String = line.iter().map(|byte| char::from(*byte)).collect();
