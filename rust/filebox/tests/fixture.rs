@@ -88,7 +88,7 @@ fn an_argument_with_a_blank_is_refused_before_it_is_two_words() -> Result<(), Re
     table.file(1, "M", "A", b"SHEET")?;
     let before = table.clone();
     let six = |refused: Refused| refused.answer().numbers();
-    // with no declaration, the name would be declaration and name; and the other way round
+    // the first would be granted as a line, its name declaration and name; so would the declaration below
     let filed = [("", "M A"), ("M", "A B"), ("M", " "), ("M", "A : B")];
     for (declaration, name) in filed {
         let refused = table.file(1, declaration, name, b"OTHER").unwrap_err();
@@ -97,7 +97,7 @@ fn an_argument_with_a_blank_is_refused_before_it_is_two_words() -> Result<(), Re
     let refused = table.file(1, "M A", "", b"OTHER").unwrap_err();
     assert_eq!(six(refused), [9, 1, 0, 0, 0, 0]);
     // "RDS A " and "LST . " are granted as lines
-    for name in ["A ", " A", ". ", "A B", "\u{20}"] {
+    for name in ["A ", " A", ". ", "A B", " "] {
         let sheet = table.sheet(1, name).unwrap_err();
         let list = table.list(1, name).unwrap_err();
         assert_eq!(six(sheet), [7, 1, 0, 0, 0, 0], "{name:?}");

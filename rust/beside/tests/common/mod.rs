@@ -49,11 +49,16 @@ pub fn mend(table: &mut [u8], stop: u32) -> Answer {
     answer
 }
 
-/// Is the table sound? The second program's test, and the library's: an empty line gets 1 or 2 where it is not, else 5.
+/// Is the table sound? The second program's test, and the library's, which an empty line shows: 1, 2, or past both 5.
 pub fn sound(table: &[u8]) -> bool {
     let sound = beside::sound(table);
-    let asked = filebox::request(&mut table.to_vec(), b"", b"", &mut [], 1, 0);
-    assert_eq!(asked.number.code() == 5, sound, "the library: soundness");
+    let expected = match table.len() {
+        length if length > 65_536 || !length.is_multiple_of(32) => 1,
+        _ if sound => 5,
+        _ => 2,
+    };
+    let proved = filebox::request(&mut table.to_vec(), b"", b"", &mut [], 1, 0);
+    assert_eq!(proved.number.code(), expected, "the library: soundness");
     sound
 }
 
