@@ -1,4 +1,8 @@
 // Has any directory more than 112 entries, or any user more than 100 base files? Entries are chained by a hash of their place.
+use records::bytes::Room;
+use records::bytes::is_sized;
+use records::entry::Entry;
+use records::entry::Holder;
 ghost use mathlib.Core.Path.{_≡_};
 ghost use mathlib.Core.Bool.{_&&_, true};
 ghost use Prim.Native.Nat.{_+_, _<_, _≤_};
@@ -10,8 +14,6 @@ ghost use Rattle.paper.specs.Sound.{noneCrowded};
 ghost use Rattle.judge_laws.specs.Tally.{lastBelow};
 ghost use Rattle.judge_laws.specs.Chains.{lastIn, Linked, Chains};
 ghost use Rattle.judge_laws.specs.Crowds.{placeOf, besideTo, rankOf, roomy, Ranked};
-use fields::Entry;
-use fields::Record;
 
 fn wide(x: u8) -> usize
     ensures { λ r. ⌜ (r ≡ x) × (r < 256) ⌝ }
@@ -30,7 +32,7 @@ fn byte_of(t: &[u8], i: usize, j: usize) -> usize
     requires { ⌜ (i < rooms (now t)) × (j < 32) ⌝ }
     ensures { λ r. ⌜ (r ≡ byte (rec (now (t .entry)) i) j) × (r < 256) ⌝ }
 {
-    wide(t[i * Record::BYTES + j])
+    wide(t[i * Room::SIZE + j])
 }
 
 // The two-byte number at place j of record i, low byte first.
@@ -55,7 +57,7 @@ fn place_of(t: &[u8], i: usize) -> usize
     ensures { λ r. ⌜ (r ≡ placeOf (rec (now (t .entry)) i)) × (r < 2048) ⌝ }
 {
     let a = two_of(t, i, Entry::HOLDER) * 237074338683 + three_of(t, i, Entry::USER) * 159217510859;
-    a / 16777216 % 2048
+    a / 16777216 % Room::MOST
 }
 
 // Whether entry k stands where entry i does.
@@ -70,7 +72,7 @@ fn are_beside(t: &[u8], i: usize, k: usize) -> bool
 }
 
 // One more than the last entry before entry i in its place, or 0: a walk through its bucket.
-fn last_beside(t: &[u8], next: &[u16; 2048], i: usize, first: usize) -> usize
+fn last_beside(t: &[u8], next: &[u16; Room::MOST], i: usize, first: usize) -> usize
     requires { ⌜ (i < rooms (now t)) × (length (now t) ≤ 65536) × (first ≡ lastIn placeOf (now t) (placeOf (rec (now t) i)) i) × Linked placeOf (now t) (now next) i ⌝ }
     ensures { λ r. ⌜ (r ≡ lastBelow (besideTo (now (t .entry)) i) i) × (r ≤ i) ⌝ }
 {
@@ -85,7 +87,7 @@ fn last_beside(t: &[u8], next: &[u16; 2048], i: usize, first: usize) -> usize
 }
 
 // The number of entry i in its place, from the last entry there.
-fn rank_of(t: &[u8], rank: &[u8; 2048], i: usize, last: usize) -> usize
+fn rank_of(t: &[u8], rank: &[u8; Room::MOST], i: usize, last: usize) -> usize
     requires { ⌜ (i < rooms (now t)) × (length (now t) ≤ 65536) × (isKind 2 (rec (now t) i) ≡ true) × Ranked (now t) (now rank) i × (last ≡ lastBelow (besideTo (now t) i) i) × (last ≤ i) ⌝ }
     ensures { λ r. ⌜ r ≡ rankOf (now (t .entry)) i ⌝ }
 {
@@ -100,24 +102,24 @@ fn limit_of(t: &[u8], i: usize) -> usize
     requires { ⌜ i < rooms (now t) ⌝ }
     ensures { λ r. ⌜ (r ≡ limit (holder (rec (now (t .entry)) i))) × (r ≤ 112) ⌝ }
 {
-    if two_of(t, i, Entry::HOLDER) == Entry::BASE {
-        return Entry::IN_BASE;
+    if two_of(t, i, Entry::HOLDER) == Holder::BASE {
+        return Entry::MOST_BASE_FILES;
     }
-    Entry::IN_DIRECTORY
+    Entry::MOST_IN_DIRECTORY
 }
 
 // Whether record i, if it is an entry, is not past the limit of its place; if so it is put into its chain with its number.
 fn crowd_turn(
     t: &[u8],
-    head: &mut [u16; 2048],
-    next: &mut [u16; 2048],
-    rank: &mut [u8; 2048],
+    head: &mut [u16; Room::MOST],
+    next: &mut [u16; Room::MOST],
+    rank: &mut [u8; Room::MOST],
     i: usize,
 ) -> bool
     requires { ⌜ (i < rooms (now t)) × (length (now t) ≤ 65536) × Chains placeOf (now t) (now head) (now next) i × Ranked (now t) (now rank) i ⌝ }
     ensures { λ r. ⌜ (r ≡ roomy (now (t .entry)) i) × (r ≡ true → Chains placeOf (now (t .entry)) (now (head .exit)) (now (next .exit)) (i + 1) × Ranked (now (t .entry)) (now (rank .exit)) (i + 1)) ⌝ }
 {
-    if byte_of(t, i, Record::KIND) != Entry::KIND {
+    if byte_of(t, i, Room::KIND) != Entry::KIND as usize {
         return true;
     }
     let h = place_of(t, i);
@@ -136,14 +138,14 @@ fn crowd_turn(
 // Whether no place has more entries than it may have.
 fn crowd_all(
     t: &[u8],
-    head: &mut [u16; 2048],
-    next: &mut [u16; 2048],
-    rank: &mut [u8; 2048],
+    head: &mut [u16; Room::MOST],
+    next: &mut [u16; Room::MOST],
+    rank: &mut [u8; Room::MOST],
 ) -> bool
     requires { ⌜ (length (now t) ≤ 65536) × Chains placeOf (now t) (now head) (now next) 0 × Ranked (now t) (now rank) 0 ⌝ }
     ensures { λ r. ⌜ r ≡ noneCrowded (now (t .entry)) ⌝ }
 {
-    let n = t.len() / Record::BYTES;
+    let n = t.len() / Room::SIZE;
     let mut i: usize = 0;
     while i < n {
         if !crowd_turn(t, head, next, rank, i) {
@@ -158,11 +160,11 @@ fn crowd_all(
 pub fn none_are_crowded(t: &[u8]) -> bool
     ensures { λ r. ⌜ r ≡ (sized (now (t .entry)) && noneCrowded (now (t .entry))) ⌝ }
 {
-    if !fields::is_sized(t) {
+    if !is_sized(t) {
         return false;
     }
-    let mut head = [0u16; 2048];
-    let mut next = [0u16; 2048];
-    let mut rank = [0u8; 2048];
+    let mut head = [0u16; Room::MOST];
+    let mut next = [0u16; Room::MOST];
+    let mut rank = [0u8; Room::MOST];
     crowd_all(t, &mut head, &mut next, &mut rank)
 }

@@ -1,21 +1,15 @@
 -- Lists copied one after the other are their join copied at once: each begins where those before it end.
 -- Once they fill what they are copied into, the rest changes nothing, since a store past the end changes nothing.
-use mathlib.Core.List.{List, [], _∷_, _++_, append-nil, append-assoc}
+use mathlib.Core.List.{List, _++_, append-nil, append-assoc}
 use mathlib.Core.Path.{_≡_, refl, sym, ap, _∙_}
 use Prim.Native.Nat.{ℕ, zero, suc, _+_, _-_, _≤_}
 use native.Mathlib.Omega.{arith}
 use native.Mathlib.Nat.{add-zero, zero-add, add-suc}
-use lib.ListN.{length, set, length-append}
+use lib.ListN.{length, length-append}
 use lib.Seq.{sets, length-sets}
 use Rattle.paper.specs.Scan.{joinBelow}
 use Rattle.laws.proofs.Lists.{join-more}
-use Rattle.records.proofs.Copies.{sets-out}
-
-sets-append : (a b l : List ℕ) (i : ℕ) → sets l i (a ++ b) ≡ sets (sets l i a) (i + length a) b
-sets-append [] b l i = rw add-zero
-sets-append (x ∷ a) b l i =
-    let e : i + suc (length a) ≡ suc i + length a = omega arith in
-    sets-append a b (set l i x) (suc i) ∙ rw e
+use Rattle.records.proofs.Copies.{sets-out, sets-append}
 
 sets-front : (a b l : List ℕ) → sets l 0 (a ++ b) ≡ sets (sets l 0 a) (length a) b
 sets-front a b l = sets-append a b l 0 ∙ rw zero-add

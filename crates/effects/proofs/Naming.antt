@@ -1,6 +1,6 @@
 -- A file is named after a store in an entry's place by the entries beside it or by what is laid there: every other record is as it was.
 -- So it is lost where nothing beside names it and what is laid does not.
-use mathlib.Core.Bool.{Bool, true, false, _&&_, _||_, not}
+use mathlib.Core.Bool.{Bool, true, false, _||_, not}
 use mathlib.Core.List.{List}
 use mathlib.Core.Logic.{_⊎_, inl, inr, _≢_, by-cases}
 use mathlib.Core.Path.{_≡_, refl, sym, ap, _∙_}

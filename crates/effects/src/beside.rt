@@ -1,5 +1,6 @@
 // Whether another entry names a file.
 use records::bytes::Room;
+use records::bytes::rooms;
 use records::entry::Entry;
 use records::entry::names;
 ghost use mathlib.Core.Path.{_≡_};
@@ -25,7 +26,7 @@ fn names_beside(table: &[u8], i: usize, heading: Room, entry: Room) -> bool
 pub fn is_named_beside(table: &[u8], heading: Room, entry: Room) -> bool
     ensures { λ r. ⌜ r ≡ namedBeside (now (table .entry)) (heading .0) (entry .0) ⌝ }
 {
-    let n = table.len() / Room::SIZE;
+    let n = rooms(table).0;
     let mut i: usize = 0;
     while i < n {
         if names_beside(table, i, heading, entry) {

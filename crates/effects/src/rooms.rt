@@ -1,5 +1,7 @@
 // Record numbers in one pass: the free records in order, and a file's text by position.
 use records::bytes::Room;
+use records::bytes::rooms;
+use records::entry::Entry;
 use records::text::Text;
 use records::text::heading_of;
 use records::text::position_of;
@@ -28,13 +30,13 @@ pub fn room_at(rooms: &[u16], m: usize) -> Room
 }
 
 // The free records, lowest first, and then one past the last; by one cursor that goes on past each.
-pub fn free_rooms(table: &[u8], rooms: &mut [u16; 1002])
+pub fn free_rooms(table: &[u8], rooms: &mut [u16; Entry::MOST_NEW])
     ensures { λ _. ⌜ now (rooms .exit) ≡ freeRooms (now (table .entry)) ⌝ }
 {
-    *rooms = [0u16; 1002];
+    *rooms = [0u16; Entry::MOST_NEW];
     let mut next = next_free(table, Room(0)).0;
     let mut m: usize = 0;
-    while m < 1002 {
+    while m < Entry::MOST_NEW {
         rooms[m] = short(next);
         next = next_free(table, Room(next + 1)).0;
         m += 1;
@@ -42,7 +44,7 @@ pub fn free_rooms(table: &[u8], rooms: &mut [u16; 1002])
 }
 
 // Record i, if it is text of a heading, is put at its position, over what is there.
-fn place_text(table: &[u8], i: usize, heading: Room, places: &mut [u16; 1000])
+fn place_text(table: &[u8], i: usize, heading: Room, places: &mut [u16; Text::MOST])
     requires { ⌜ (i < rooms (now table)) × (length (now places) ≡ 1000) ⌝ }
     ensures { λ _. ⌜ now (places .exit) ≡ withText (now (table .entry)) (heading .0) i (now (places .entry)) ⌝ }
 {
@@ -53,17 +55,17 @@ fn place_text(table: &[u8], i: usize, heading: Room, places: &mut [u16; 1000])
         return;
     }
     let p = position_of(table, Room(i)).0;
-    if p < 1000 {
+    if p < Text::MOST {
         places[p] = short(i);
     }
 }
 
 // The text records of a heading by position, or one past the last; from the last record back, so that the lowest stays.
-pub fn text_rooms(table: &[u8], heading: Room, places: &mut [u16; 1000])
+pub fn text_rooms(table: &[u8], heading: Room, places: &mut [u16; Text::MOST])
     ensures { λ _. ⌜ now (places .exit) ≡ textRooms (now (table .entry)) (heading .0) ⌝ }
 {
-    let n = table.len() / Room::SIZE;
-    *places = [short(n); 1000];
+    let n = rooms(table).0;
+    *places = [short(n); Text::MOST];
     let mut i = n;
     while 0 < i {
         i -= 1;

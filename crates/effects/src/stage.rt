@@ -3,18 +3,18 @@ use crate::rooms::room_at;
 use records::block::blocks;
 use records::bytes::Bytes;
 use records::bytes::Room;
+use records::entry::Entry;
 use records::store::store;
 use records::text::Text;
 ghost use mathlib.Core.List.{[], _∷_};
-ghost use mathlib.Core.Path.{_≡_};
 ghost use Prim.Native.Nat.{_<_};
-ghost use lib.ListN.{getD, length};
+ghost use lib.ListN.{length};
 ghost use Rattle.paper.specs.Block.{blocks};
 ghost use Rattle.paper.specs.Store.{puts};
 ghost use Rattle.effects.specs.Stage.{Made, textStore, textStores, clearStores};
 
 // One record laid.
-pub fn put(table: &mut [u8], room: Room, bytes: [u8; 32], left: usize) -> usize
+pub fn put(table: &mut [u8], room: Room, bytes: [u8; Room::SIZE], left: usize) -> usize
     ensures { λ r. ⌜ Made (now (table .entry)) (now (table .exit)) left r (puts (room .0) bytes ∷ []) ⌝ }
 {
     if left == 0 {
@@ -25,7 +25,13 @@ pub fn put(table: &mut [u8], room: Room, bytes: [u8; 32], left: usize) -> usize
 }
 
 // The text of a new file at a position, where its heading's record and those of its text are listed in `rooms`.
-fn put_text(table: &mut [u8], rooms: &[u16; 1002], text: &[u8], p: usize, left: usize) -> usize
+fn put_text(
+    table: &mut [u8],
+    rooms: &[u16; Entry::MOST_NEW],
+    text: &[u8],
+    p: usize,
+    left: usize,
+) -> usize
     requires { ⌜ p < blocks (length (now text)) ⌝ }
     ensures { λ r. ⌜ Made (now (table .entry)) (now (table .exit)) left r (textStore (now (rooms .entry)) (now (text .entry)) p ∷ []) ⌝ }
 {
@@ -38,7 +44,12 @@ fn put_text(table: &mut [u8], rooms: &[u16; 1002], text: &[u8], p: usize, left: 
 }
 
 // The text of a new file by position.
-pub fn put_texts(table: &mut [u8], rooms: &[u16; 1002], text: &[u8], left: usize) -> usize
+pub fn put_texts(
+    table: &mut [u8],
+    rooms: &[u16; Entry::MOST_NEW],
+    text: &[u8],
+    left: usize,
+) -> usize
     ensures { λ r. ⌜ Made (now (table .entry)) (now (table .exit)) left r (textStores (now (rooms .entry)) (now (text .entry))) ⌝ }
 {
     let n = blocks(Bytes(text.len())).0;
@@ -55,16 +66,17 @@ pub fn put_texts(table: &mut [u8], rooms: &[u16; 1002], text: &[u8], left: usize
 pub fn clear_file(
     table: &mut [u8],
     heading: Room,
-    rooms: &[u16; 1000],
-    count: usize,
+    rooms: &[u16; Text::MOST],
+    count: Room,
     left: usize,
 ) -> usize
-    ensures { λ r. ⌜ Made (now (table .entry)) (now (table .exit)) left r (clearStores (heading .0) (now (rooms .entry)) count) ⌝ }
+    ensures { λ r. ⌜ Made (now (table .entry)) (now (table .exit)) left r (clearStores (heading .0) (now (rooms .entry)) (count .0)) ⌝ }
 {
-    let mut rest = put(table, heading, [0u8; 32], left);
+    let last = count.0;
+    let mut rest = put(table, heading, [0u8; Room::SIZE], left);
     let mut p: usize = 0;
-    while p < count {
-        rest = put(table, room_at(rooms, p), [0u8; 32], rest);
+    while p < last {
+        rest = put(table, room_at(rooms, p), [0u8; Room::SIZE], rest);
         p += 1;
     }
     rest

@@ -1,4 +1,6 @@
 // Is this table sound?
+use records::bytes::Room;
+use records::bytes::is_sized;
 ghost use mathlib.Core.Path.{_≡_};
 ghost use mathlib.Core.Bool.{true};
 ghost use Rattle.paper.specs.Table.{sized};
@@ -8,7 +10,7 @@ ghost use Rattle.judge.specs.Judged.{judged};
 
 // Whether a sized table is sound without the records that go. The records are judged one by one first: then the same bytes are the
 // same name. No entry goes, so twins and crowds are those of the table.
-fn is_sound(table: &[u8], gone: &[u8; 2048]) -> bool
+fn is_sound(table: &[u8], gone: &[u8; Room::MOST]) -> bool
     requires { ⌜ sized (now table) ≡ true ⌝ }
     ensures { λ r. ⌜ r ≡ sound (without (now (gone .entry)) (now (table .entry))) ⌝ }
 {
@@ -28,10 +30,10 @@ fn is_sound(table: &[u8], gone: &[u8; 2048]) -> bool
 }
 
 // The number for the table as it would be without the records that go: those that `gone` marks and that are no entries.
-pub fn judge_without(table: &[u8], gone: &[u8; 2048]) -> u8
+pub fn judge_without(table: &[u8], gone: &[u8; Room::MOST]) -> u8
     ensures { λ r. ⌜ r ≡ judged (without (now (gone .entry)) (now (table .entry))) ⌝ }
 {
-    if !fields::is_sized(table) {
+    if !is_sized(table) {
         return 1;
     }
     if !is_sound(table, gone) {
@@ -44,5 +46,5 @@ pub fn judge_without(table: &[u8], gone: &[u8; 2048]) -> u8
 pub fn judge(table: &[u8]) -> u8
     ensures { λ r. ⌜ r ≡ judged (now (table .entry)) ⌝ }
 {
-    judge_without(table, &[0u8; 2048])
+    judge_without(table, &[0u8; Room::MOST])
 }

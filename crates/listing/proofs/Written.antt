@@ -5,24 +5,20 @@ use mathlib.Core.List.{List, [], _∷_, _++_}
 use mathlib.Core.Path.{_≡_, refl, sym, ap, _∙_}
 use Prim.Native.Nat.{ℕ, zero, suc, _+_, _-_, _≤_, _<_}
 use native.Mathlib.Omega.{arith}
-use native.Mathlib.Nat.{add-zero, suc-add, add-suc}
-use lib.ListN.{length, set, take, length-set}
+use lib.ListN.{length, take, length-set}
 use lib.Seq.{sets}
 use Rattle.paper.specs.Scan as paper
 use Rattle.paper.specs.Record.{nameOf}
 use Rattle.paper.specs.Table.{rooms, rec}
 use Rattle.paper.specs.Listing.{line}
 use Rattle.records.specs.declared.bytes.Room.{Room}
+use Rattle.records.proofs.Copies.{sets-append}
 use Rattle.scans.specs.Shown.{foundShown}
 use Rattle.scans.specs.declared.Found.the-variants.{At, Nowhere}
 use Rattle.listing.specs.Shown.{foundPaper}
 use Rattle.listing.specs.Picked.{passing, nextIn, nextPicked, andThen, picksBy, picked, lineShown, linesShown}
 use Rattle.listing.proofs.Picks.{paper-shown, least-passing}
 use Rattle.listing.proofs.Sizes.{length-line, name-short}
-
-pub sets-append : (xs ys l : List ℕ) (i : ℕ) → sets l i (xs ++ ys) ≡ sets (sets l i xs) (i + length xs) ys
-sets-append [] ys l i = rw add-zero
-sets-append (a ∷ xs) ys l i = sets-append xs ys (set l i a) (suc i) ∙ rw (add-suc, ← suc-add)
 
 -- ---- a line
 

@@ -5,11 +5,12 @@ use mathlib.Core.Path.{_≡_, sym, ap, _∙_}
 use Prim.Native.Nat.{ℕ, zero, suc, _+_, _*_, _-_, _/_, _%_, _≤_, _<_}
 use native.Mathlib.Omega.{arith}
 use native.Mathlib.Nat.{sub-zero, zero-sub, suc-sub-suc}
-use lib.ListN.{length, take, drop, replicate, length-append, length-replicate, length-take, length-drop, replicate-append-replicate, drop-of-length-le}
+use lib.ListN.{length, take, drop, replicate, length-append, length-replicate, length-take, replicate-append-replicate, drop-of-length-le}
 use lib.Seq.{sets, sets-eq, take-append-seam, drop-append-add, take-all}
 use Rattle.paper.specs.Number.{bytesOf}
-use Rattle.paper.specs.Record.{padded, nameOf, held, nameField, textRecord}
+use Rattle.paper.specs.Record.{padded, nameField, textRecord}
 use Rattle.paper.specs.Table.{rooms, rec}
+use Rattle.laws.proofs.Fields.{length-padded, length-name}
 use Rattle.laws.proofs.Lay.{length-rec}
 use Rattle.paper.specs.Block.{block}
 
@@ -40,13 +41,6 @@ to-end l s i e =
 pub length-cut : (n : ℕ) (s : List ℕ) → length (take n s) ≤ n
 length-cut n s = rw length-take (omega arith)
 
-pub length-padded : (n : ℕ) (s : List ℕ) → length s ≤ n → length (padded n s) ≡ n
-length-padded n s h = rw (length-append, length-replicate) (omega arith)
-
-length-name-field : (s : List ℕ) → length s ≤ 10 → length (nameField s) ≡ 23
-unfolding nameField
-length-name-field s h = rw (length-append, length-padded 10 s h)
-
 -- a stretch of at most n bytes
 pub length-kept : (n : ℕ) (s kept : List ℕ) → kept ≡ take n s → length kept ≤ n
 length-kept n s kept e = rw e (length-cut n s)
@@ -73,7 +67,7 @@ name-over name kept e = over-zeros (length kept ∷ []) kept 10 12 (length-kept 
 -- a name put at the end of 32 bytes
 pub name-end : (r name : List ℕ) → length r ≡ 32
     → sets r 9 (nameField (take 10 name)) ≡ take 9 r ++ nameField (take 10 name)
-name-end r name e = to-end r (nameField (take 10 name)) 9 (rw (length-name-field (take 10 name) (length-cut 10 name), e))
+name-end r name e = to-end r (nameField (take 10 name)) 9 (rw (length-name (take 10 name) (length-cut 10 name), e))
 
 pub text-over : (h p : ℕ) (bytes kept : List ℕ) → kept ≡ take 24 bytes
     → sets (3 ∷ length kept ∷ h % 256 ∷ h / 256 % 256 ∷ p % 256 ∷ p / 256 % 256 ∷ 0 ∷ 0 ∷ replicate 24 0) 8 kept
@@ -84,15 +78,7 @@ text-over h p bytes kept e =
     (length-kept 24 bytes kept e)
     ∙ rw (append-nil, e)
 
--- what is handed out of a record or a text is no longer than its field
+-- a block of a text is no longer than its field
 pub take-block : (t : List ℕ) (p : ℕ) → take 24 (block t p) ≡ block t p
 unfolding block
 take-block t p = take-all 24 (block t p) (length-cut 24 (drop (p * 24) t))
-
-pub take-held : (t : List ℕ) (i : ℕ) → take 24 (held (rec t i)) ≡ held (rec t i)
-unfolding held rec
-take-held t i = take-all 24 _ (simp (length-take, length-drop) (omega arith))
-
-pub take-name : (r : List ℕ) → take 10 (nameOf r) ≡ nameOf r
-unfolding nameOf
-take-name r = take-all 10 _ (simp (length-take, length-drop) (omega arith))

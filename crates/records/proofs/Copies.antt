@@ -1,6 +1,6 @@
 -- Bytes laid one after the other: one more is one store at the next place, and those past the end change nothing,
 -- since a store there changes nothing.
-use mathlib.Core.List.{List, [], _∷_}
+use mathlib.Core.List.{List, [], _∷_, _++_}
 use mathlib.Core.Path.{_≡_, refl, sym, ap, _∙_}
 use Prim.Native.Nat.{ℕ, zero, suc, _+_, _-_, _≤_, _<_}
 use native.Mathlib.Omega.{arith}
@@ -26,6 +26,11 @@ sets-more [] l i j h = let z : ⊥ = omega arith in absurd z
 sets-more (a ∷ vs) l i zero h = rw add-zero
 sets-more (a ∷ vs) l i (suc j) h =
     rw (add-one, add-suc, ← suc-add) (rw add-one at (sets-more vs (set l i a) (suc i) j (omega arith)))
+
+-- one list after the other
+pub sets-append : (a b l : List ℕ) (i : ℕ) → sets l i (a ++ b) ≡ sets (sets l i a) (i + length a) b
+sets-append [] b l i = rw add-zero
+sets-append (x ∷ a) b l i = sets-append a b (set l i x) (suc i) ∙ rw (add-suc, ← suc-add)
 
 -- a stretch that is as much of s as fits
 module _ (l s fit : List ℕ) (at : ℕ) (e : fit ≡ take (length l - at) s) where

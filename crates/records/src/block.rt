@@ -11,7 +11,7 @@ pub fn blocks(length: Bytes) -> Room
     ensures { λ r. ⌜ r .0 ≡ blocks (length .0) ⌝ }
 {
     let n = length.0;
-    Room(n / Text::MOST_HELD + (n % Text::MOST_HELD + 23) / Text::MOST_HELD)
+    Room(n / Text::MOST_HELD + (n % Text::MOST_HELD + (Text::MOST_HELD - 1)) / Text::MOST_HELD)
 }
 
 // What a position holds of so many bytes.
@@ -39,5 +39,5 @@ pub fn block_at(text: &[u8], position: Room) -> &[u8]
     if n / Text::MOST_HELD < p {
         return &text[n..];
     }
-    part(text, p * Text::MOST_HELD, Text::MOST_HELD)
+    part(text, p * Text::MOST_HELD, Bytes(Text::MOST_HELD))
 }

@@ -2,7 +2,7 @@
 ghost use mathlib.Core.Path.{_≡_};
 ghost use lib.ListN.{take, drop};
 ghost use Rattle.paper.specs.Record.{byte, two, three};
-ghost use Rattle.paper.specs.Table.{rec};
+ghost use Rattle.paper.specs.Table.{sized, rooms, rec};
 
 // A record's number, or a count of records.
 pub struct Room(pub usize);
@@ -11,22 +11,46 @@ pub struct Room(pub usize);
 pub struct Bytes(pub usize);
 
 impl Room {
-    // The bytes of a record.
+    // "records of 32 bytes"
     pub const SIZE: usize = 32;
+    // "0 to 2,048 of them"
+    pub const MOST: usize = 2048;
+    // "Kind (byte 0)"
+    pub const KIND: usize = 0;
+    // "0 free"
+    pub const FREE: u8 = 0;
 }
 
-// At most `most` bytes of s, from a place on.
-pub fn part(s: &[u8], from: usize, most: usize) -> &[u8]
-    ensures { λ r. ⌜ now r ≡ take most (drop from (now (s .entry))) ⌝ }
+// How many records a table has.
+pub fn rooms(table: &[u8]) -> Room
+    ensures { λ r. ⌜ r .0 ≡ rooms (now (table .entry)) ⌝ }
+{
+    Room(table.len() / Room::SIZE)
+}
+
+// Whether the table has a whole number of records, at most 2,048.
+pub fn is_sized(table: &[u8]) -> bool
+    ensures { λ r. ⌜ r ≡ sized (now (table .entry)) ⌝ }
+{
+    if table.len() % Room::SIZE != 0 {
+        return false;
+    }
+    table.len() <= Room::MOST * Room::SIZE
+}
+
+// At most so many bytes of s, from a place on.
+pub fn part(s: &[u8], from: usize, most: Bytes) -> &[u8]
+    ensures { λ r. ⌜ now r ≡ take (most .0) (drop from (now (s .entry))) ⌝ }
 {
     let n = s.len();
+    let m = most.0;
     if n <= from {
         return &s[n..];
     }
-    if n - from <= most {
+    if n - from <= m {
         return &s[from..];
     }
-    let end = from + most;
+    let end = from + m;
     &s[from..end]
 }
 
@@ -36,10 +60,10 @@ pub fn record_at(table: &[u8], room: Room) -> &[u8]
 {
     let n = table.len();
     let i = room.0;
-    if n / Room::SIZE < i {
+    if rooms(table).0 < i {
         return &table[n..];
     }
-    part(table, i * Room::SIZE, Room::SIZE)
+    part(table, i * Room::SIZE, Bytes(Room::SIZE))
 }
 
 // The byte at a place; past the end, 0.
@@ -98,5 +122,5 @@ pub fn three_of(table: &[u8], room: Room, place: usize) -> u32
 pub fn kind_of(table: &[u8], room: Room) -> u8
     ensures { λ r. ⌜ r ≡ byte (rec (now (table .entry)) (room .0)) 0 ⌝ }
 {
-    byte_of(table, room, 0)
+    byte_of(table, room, Room::KIND)
 }

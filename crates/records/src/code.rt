@@ -11,6 +11,8 @@ impl Code {
     pub const READ: u8 = 2;
 
     pub const WRITE: u8 = 1;
+    // "code 0..7"
+    pub const ALL: u8 = 7;
 
     // What either of two codes inhibits.
     pub fn joined(self, other: Code) -> Code

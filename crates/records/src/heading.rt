@@ -25,9 +25,16 @@ pub struct Heading {
 impl Heading {
     pub const KIND: u8 = 1;
 
+    // "1 type (0 directory, 1 simple)"
     pub const DIRECTORY: u8 = 0;
 
     pub const SIMPLE: u8 = 1;
+    // "2 level (0 U, 1 P, 2 A, 3 S)"
+    pub const LAST_LEVEL: u8 = 3;
+    // "4 lifetime (1 M, 2 L)"
+    pub const MEDIUM: u8 = 1;
+
+    pub const LONG: u8 = 2;
 
     pub const TYPE: usize = 1;
 
@@ -38,14 +45,24 @@ impl Heading {
     pub const LIFETIME: usize = 4;
 
     pub const LENGTH: usize = 10;
+    // The bytes between lifetime and length and those past the length, which are zero.
+    pub const GAP: usize = 5;
+
+    pub const GAP_SIZE: usize = 5;
+
+    pub const REST: usize = 12;
+
+    pub const REST_SIZE: usize = 20;
+    // "a simple file of length n (at most 24,000)"
+    pub const MOST_LENGTH: usize = 24000;
 
     // The record of this heading.
-    pub fn laid(self) -> [u8; 32]
+    pub fn laid(self) -> [u8; Room::SIZE]
         ensures { λ r. ⌜ r ≡ headingRecord (self .ty) (self .level) (self .code .0) (self .lifetime) (self .length .0) ⌝ }
     {
         let n = self.length.0;
-        let mut r = [0u8; 32];
-        r[0] = Heading::KIND;
+        let mut r = [0u8; Room::SIZE];
+        r[Room::KIND] = Heading::KIND;
         r[Heading::TYPE] = self.ty;
         r[Heading::LEVEL] = self.level;
         r[Heading::CODE] = self.code.0;
@@ -109,7 +126,7 @@ pub fn is_simple(table: &[u8], room: Room) -> bool
 }
 
 // A heading's record with another code.
-pub fn recoded(table: &[u8], room: Room, code: Code) -> [u8; 32]
+pub fn recoded(table: &[u8], room: Room, code: Code) -> [u8; Room::SIZE]
     ensures { λ r. ⌜ r ≡ recoded (padded 32 (rec (now (table .entry)) (room .0))) (code .0) ⌝ }
 {
     let mut r = whole(table, room);

@@ -1,4 +1,4 @@
-// Bytes, records, stores and scans of a lent table.
+// The records of a lent table: bytes and numbers in them, codes, names, the kinds of record, and one store.
 pub mod block;
 pub mod bytes;
 pub mod code;

@@ -1,7 +1,9 @@
 // Stores: bytes copied into a lent stretch, and one record laid or cleared.
+use crate::bytes::Bytes;
 use crate::bytes::Room;
 use crate::bytes::part;
 use crate::bytes::record_at;
+use crate::bytes::rooms;
 ghost use mathlib.Core.Path.{_≡_};
 ghost use lib.Seq.{sets};
 ghost use Rattle.paper.specs.Record.{blank, padded};
@@ -15,7 +17,7 @@ pub fn copy_in(into: &mut [u8], at: usize, from: &[u8])
     if n <= at {
         return;
     }
-    let fit = part(from, 0, n - at);
+    let fit = part(from, 0, Bytes(n - at));
     let mut j: usize = 0;
     while j < fit.len() {
         into[at + j] = fit[j];
@@ -24,11 +26,11 @@ pub fn copy_in(into: &mut [u8], at: usize, from: &[u8])
 }
 
 // One store: a record laid at its place. Past the end nothing changes.
-pub fn store(table: &mut [u8], room: Room, bytes: [u8; 32])
+pub fn store(table: &mut [u8], room: Room, bytes: [u8; Room::SIZE])
     ensures { λ _. ⌜ now (table .exit) ≡ lay (now (table .entry)) (room .0) bytes ⌝ }
 {
     let i = room.0;
-    if table.len() / Room::SIZE < i {
+    if rooms(table).0 < i {
         return;
     }
     copy_in(table, i * Room::SIZE, &bytes);
@@ -38,14 +40,14 @@ pub fn store(table: &mut [u8], room: Room, bytes: [u8; 32])
 pub fn clear(table: &mut [u8], room: Room)
     ensures { λ _. ⌜ now (table .exit) ≡ lay (now (table .entry)) (room .0) blank ⌝ }
 {
-    store(table, room, [0u8; 32]);
+    store(table, room, [0u8; Room::SIZE]);
 }
 
 // A record's 32 bytes, zero where the table has none.
-pub fn whole(table: &[u8], room: Room) -> [u8; 32]
+pub fn whole(table: &[u8], room: Room) -> [u8; Room::SIZE]
     ensures { λ r. ⌜ r ≡ padded 32 (rec (now (table .entry)) (room .0)) ⌝ }
 {
-    let mut r = [0u8; 32];
+    let mut r = [0u8; Room::SIZE];
     copy_in(&mut r, 0, record_at(table, room));
     r
 }

@@ -10,8 +10,7 @@ use crate::store::copy_in;
 ghost use mathlib.Core.Path.{_≡_};
 ghost use Prim.Native.Nat.{_<_};
 ghost use lib.ListN.{take};
-ghost use lib.Seq.{sets};
-ghost use Rattle.paper.specs.Record.{bytesHeld, headingOf, position, held, textAt, textRecord};
+ghost use Rattle.paper.specs.Record.{bytesHeld, headingOf, position, held, textRecord};
 ghost use Rattle.paper.specs.Table.{rec};
 ghost use Rattle.paper.specs.Block.{block};
 
@@ -30,18 +29,24 @@ impl Text {
     pub const POSITION: usize = 4;
 
     pub const BYTES: usize = 8;
+    // The bytes between position and bytes, which are zero.
+    pub const GAP: usize = 6;
 
+    pub const GAP_SIZE: usize = 2;
+    // "bytes held, 1..24"
     pub const MOST_HELD: usize = 24;
+    // "24,000 takes 1,000"
+    pub const MOST: usize = 1000;
 
     // The record of this text, with at most 24 bytes.
-    pub fn laid(self, bytes: &[u8]) -> [u8; 32]
+    pub fn laid(self, bytes: &[u8]) -> [u8; Room::SIZE]
         ensures { λ r. ⌜ r ≡ textRecord (self .heading .0) (self .position .0) (take 24 (now (bytes .entry))) ⌝ }
     {
         let h = self.heading.0;
         let p = self.position.0;
-        let held = part(bytes, 0, Text::MOST_HELD);
-        let mut r = [0u8; 32];
-        r[0] = Text::KIND;
+        let held = part(bytes, 0, Bytes(Text::MOST_HELD));
+        let mut r = [0u8; Room::SIZE];
+        r[Room::KIND] = Text::KIND;
         r[Text::HELD] = held.len() as u8;
         r[Text::HEADING] = (h % 256) as u8;
         r[Text::HEADING + 1] = (h / 256 % 256) as u8;
@@ -52,18 +57,11 @@ impl Text {
     }
 
     // The record of this text, with its block of a lent text.
-    pub fn of_text(self, text: &[u8]) -> [u8; 32]
+    pub fn of_text(self, text: &[u8]) -> [u8; Room::SIZE]
         ensures { λ r. ⌜ r ≡ textRecord (self .heading .0) (self .position .0) (block (now (text .entry)) (self .position .0)) ⌝ }
     {
         let p = self.position;
         self.laid(block_at(text, p))
-    }
-
-    // The record of this text, with what another text record holds.
-    pub fn of_held(self, table: &[u8], room: Room) -> [u8; 32]
-        ensures { λ r. ⌜ r ≡ textRecord (self .heading .0) (self .position .0) (held (rec (now (table .entry)) (room .0))) ⌝ }
-    {
-        self.laid(held_at(table, room))
     }
 }
 
@@ -89,25 +87,6 @@ pub fn position_of(table: &[u8], room: Room) -> Room
 pub fn held_at(table: &[u8], room: Room) -> &[u8]
     ensures { λ r. ⌜ now r ≡ held (rec (now (table .entry)) (room .0)) ⌝ }
 {
-    let most = bytes_held(table, room).0;
+    let most = bytes_held(table, room);
     part(record_at(table, room), Text::BYTES, most)
-}
-
-// What a text record holds, copied into a reply from a place on.
-pub fn copy_held(reply: &mut [u8], at: usize, table: &[u8], room: Room)
-    ensures { λ _. ⌜ now (reply .exit) ≡ sets (now (reply .entry)) at (held (rec (now (table .entry)) (room .0))) ⌝ }
-{
-    copy_in(reply, at, held_at(table, room));
-}
-
-// Whether a record is the text of a heading at a position.
-pub fn is_text(table: &[u8], room: Room, heading: Room, position: Room) -> bool
-    ensures { λ r. ⌜ r ≡ textAt (heading .0) (position .0) (rec (now (table .entry)) (room .0)) ⌝ }
-{
-    if byte_of(table, room, 0) == Text::KIND {
-        if heading_of(table, room).0 == heading.0 {
-            return position_of(table, room).0 == position.0;
-        }
-    }
-    false
 }

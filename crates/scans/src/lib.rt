@@ -1,16 +1,16 @@
 // Scans of a lent table, each record's kind read first.
 use records::bytes::Room;
+use records::bytes::rooms;
 use records::entry::Entry;
 use records::entry::Holder;
 use records::entry::bears;
-use records::entry::names;
 use records::entry::stands;
 ghost use mathlib.Core.Path.{_≡_};
 ghost use Prim.Native.Nat.{_<_};
 ghost use lib.ListN.{length};
-ghost use Rattle.paper.specs.Record.{isKind, names};
+ghost use Rattle.paper.specs.Record.{isKind};
 ghost use Rattle.paper.specs.Table.{rooms, rec, frees};
-ghost use Rattle.paper.specs.Entry.{stands, bears, find, crowd, full, named, peopled};
+ghost use Rattle.paper.specs.Entry.{stands, bears, find, crowd, full, peopled};
 ghost use Rattle.records.specs.Shown.{holderShown};
 ghost use Rattle.scans.specs.Shown.{foundShown};
 ghost use Rattle.scans.specs.Free.{nextFree};
@@ -27,16 +27,6 @@ fn is_kind(table: &[u8], i: usize, kind: u8) -> bool
     ensures { λ r. ⌜ r ≡ isKind kind (rec (now (table .entry)) i) ⌝ }
 {
     table[i * Room::SIZE] == kind
-}
-
-fn names_here(table: &[u8], i: usize, heading: Room) -> bool
-    requires { ⌜ i < rooms (now table) ⌝ }
-    ensures { λ r. ⌜ r ≡ names (heading .0) (rec (now (table .entry)) i) ⌝ }
-{
-    if is_kind(table, i, Entry::KIND) {
-        return names(table, Room(i), heading);
-    }
-    false
 }
 
 fn stands_here(table: &[u8], i: usize, d: Holder) -> bool
@@ -59,26 +49,11 @@ fn bears_here(table: &[u8], i: usize, d: Holder, name: &[u8]) -> bool
     false
 }
 
-// Whether some entry names a heading.
-pub fn is_named(table: &[u8], heading: Room) -> bool
-    ensures { λ r. ⌜ r ≡ named (now (table .entry)) (heading .0) ⌝ }
-{
-    let n = table.len() / Room::SIZE;
-    let mut i: usize = 0;
-    while i < n {
-        if names_here(table, i, heading) {
-            return true;
-        }
-        i += 1;
-    }
-    false
-}
-
 // How many entries stand in d.
 pub fn crowd(table: &[u8], d: Holder) -> Room
     ensures { λ r. ⌜ r .0 ≡ crowd (now (table .entry)) (holderShown d) ⌝ }
 {
-    let n = table.len() / Room::SIZE;
+    let n = rooms(table).0;
     let mut count: usize = 0;
     let mut i: usize = 0;
     while i < n {
@@ -101,14 +76,14 @@ pub fn is_peopled(table: &[u8], heading: Room) -> bool
 pub fn is_full(table: &[u8], d: Holder) -> bool
     ensures { λ r. ⌜ r ≡ full (now (table .entry)) (holderShown d) ⌝ }
 {
-    d.limit() <= crowd(table, d).0
+    d.limit().0 <= crowd(table, d).0
 }
 
 // The entry that bears a name in d.
 pub fn find(table: &[u8], d: Holder, name: &[u8]) -> Found
     ensures { λ r. ⌜ r ≡ foundShown (find (now (table .entry)) (holderShown d) (now (name .entry))) ⌝ }
 {
-    let n = table.len() / Room::SIZE;
+    let n = rooms(table).0;
     let mut i: usize = 0;
     while i < n {
         if bears_here(table, i, d, name) {
@@ -123,11 +98,11 @@ pub fn find(table: &[u8], d: Holder, name: &[u8]) -> Found
 pub fn count_free(table: &[u8]) -> Room
     ensures { λ r. ⌜ r .0 ≡ length (frees (now (table .entry))) ⌝ }
 {
-    let n = table.len() / Room::SIZE;
+    let n = rooms(table).0;
     let mut count: usize = 0;
     let mut i: usize = 0;
     while i < n {
-        if is_kind(table, i, 0) {
+        if is_kind(table, i, Room::FREE) {
             count += 1;
         }
         i += 1;
@@ -139,10 +114,10 @@ pub fn count_free(table: &[u8]) -> Room
 pub fn next_free(table: &[u8], from: Room) -> Room
     ensures { λ r. ⌜ r .0 ≡ nextFree (now (table .entry)) (from .0) ⌝ }
 {
-    let n = table.len() / Room::SIZE;
+    let n = rooms(table).0;
     let mut i = from.0;
     while i < n {
-        if is_kind(table, i, 0) {
+        if is_kind(table, i, Room::FREE) {
             return Room(i);
         }
         i += 1;

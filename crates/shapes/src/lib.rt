@@ -1,4 +1,11 @@
 // What each record shows by itself and by the records it names: one pass over the table.
+use records::bytes::Room;
+use records::bytes::is_sized;
+use records::code::Code;
+use records::entry::Entry;
+use records::entry::Holder;
+use records::heading::Heading;
+use records::text::Text;
 ghost use mathlib.Core.Path.{_≡_};
 ghost use mathlib.Core.Bool.{_&&_, true};
 ghost use Prim.Native.Nat.{_+_, _<_, _≤_, _%_};
@@ -10,10 +17,6 @@ ghost use Rattle.paper.specs.Table.{sized, rooms, rec};
 ghost use Rattle.paper.specs.Sound.{textAsAbove};
 ghost use Rattle.judge_laws.specs.Mask.{without};
 ghost use Rattle.judge_laws.specs.Shapes.{plainTest, area, headingRight, baseRight, entryRight, rightAt, shaped};
-use fields::Entry;
-use fields::Heading;
-use fields::Record;
-use fields::Text;
 
 fn wide(x: u8) -> usize
     ensures { λ r. ⌜ (r ≡ x) × (r < 256) ⌝ }
@@ -26,7 +29,7 @@ fn raw_of(t: &[u8], i: usize, j: usize) -> u8
     requires { ⌜ (i < rooms (now t)) × (j < 32) ⌝ }
     ensures { λ r. ⌜ r ≡ byte (rec (now (t .entry)) i) j ⌝ }
 {
-    t[i * Record::BYTES + j]
+    t[i * Room::SIZE + j]
 }
 
 fn byte_of(t: &[u8], i: usize, j: usize) -> usize
@@ -173,31 +176,31 @@ fn is_legal_base(t: &[u8], i: usize, n: usize) -> bool
 }
 
 // Whether record h is a heading that stays.
-fn is_heading(t: &[u8], gone: &[u8; 2048], h: usize) -> bool
+fn is_heading(t: &[u8], gone: &[u8; Room::MOST], h: usize) -> bool
     requires { ⌜ (length (now t) % 32 ≡ 0) × (length (now t) ≤ 65536) ⌝ }
     ensures { λ r. ⌜ r ≡ isKind 1 (rec (without (now (gone .entry)) (now (t .entry))) h) ⌝ }
 {
-    if t.len() / Record::BYTES <= h {
+    if t.len() / Room::SIZE <= h {
         return false;
     }
-    if byte_of(t, h, Record::KIND) != Heading::KIND {
+    if raw_of(t, h, Room::KIND) != Heading::KIND {
         return false;
     }
     gone[h] == 0
 }
 
 // Whether record h is a directory's heading that stays.
-fn is_directory(t: &[u8], gone: &[u8; 2048], h: usize) -> bool
+fn is_directory(t: &[u8], gone: &[u8; Room::MOST], h: usize) -> bool
     requires { ⌜ (length (now t) % 32 ≡ 0) × (length (now t) ≤ 65536) ⌝ }
     ensures { λ r. ⌜ r ≡ directory (rec (without (now (gone .entry)) (now (t .entry))) h) ⌝ }
 {
-    if t.len() / Record::BYTES <= h {
+    if t.len() / Room::SIZE <= h {
         return false;
     }
-    if byte_of(t, h, Record::KIND) != Heading::KIND {
+    if raw_of(t, h, Room::KIND) != Heading::KIND {
         return false;
     }
-    if byte_of(t, h, Heading::TYPE) != Heading::DIRECTORY {
+    if raw_of(t, h, Heading::TYPE) != Heading::DIRECTORY {
         return false;
     }
     gone[h] == 0
@@ -208,38 +211,39 @@ fn is_base_right(t: &[u8], i: usize, n: usize) -> bool
     requires { ⌜ (i < rooms (now t)) × (n ≡ nameLength (rec (now t) i)) × (n ≤ 10) ⌝ }
     ensures { λ r. ⌜ r ≡ baseRight (rec (now (t .entry)) i) ⌝ }
 {
-    if Entry::LAST_USER < three_of(t, i, Entry::USER) {
+    let last = Holder::LAST_USER as usize;
+    if last < three_of(t, i, Entry::USER) {
         return false;
     }
     is_legal_base(t, i, n)
 }
 
 // Whether entry i is right.
-fn is_entry_right(t: &[u8], gone: &[u8; 2048], i: usize) -> bool
+fn is_entry_right(t: &[u8], gone: &[u8; Room::MOST], i: usize) -> bool
     requires { ⌜ (i < rooms (now t)) × (length (now t) % 32 ≡ 0) × (length (now t) ≤ 65536) ⌝ }
     ensures { λ r. ⌜ r ≡ entryRight (without (now (gone .entry)) (now (t .entry))) (rec (now (t .entry)) i) ⌝ }
 {
-    if 7 < byte_of(t, i, Entry::CODE) {
+    if Code::ALL < raw_of(t, i, Entry::CODE) {
         return false;
     }
     let n = byte_of(t, i, Entry::NAME_LENGTH);
-    if 10 < n {
+    if Entry::MOST_NAME < n {
         return false;
     }
-    if !are_zeros(t, i, 20, 12) {
+    if !are_zeros(t, i, Entry::REST, Entry::REST_SIZE) {
         return false;
     }
-    if !are_zeros(t, i, Entry::NAME + n, 10 - n) {
+    if !are_zeros(t, i, Entry::NAME + n, Entry::MOST_NAME - n) {
         return false;
     }
-    if !is_heading(t, gone, two_of(t, i, Entry::NAMED)) {
+    if !is_heading(t, gone, two_of(t, i, Entry::HEADING)) {
         return false;
     }
     if !is_link(t, i, n) {
         return false;
     }
     let holder = two_of(t, i, Entry::HOLDER);
-    if holder == Entry::BASE {
+    if holder == Holder::BASE {
         return is_base_right(t, i, n);
     }
     if !is_directory(t, gone, holder) {
@@ -253,10 +257,10 @@ fn is_plain(t: &[u8], i: usize) -> bool
     requires { ⌜ i < rooms (now t) ⌝ }
     ensures { λ r. ⌜ r ≡ plainTest (rec (now (t .entry)) i) ⌝ }
 {
-    if byte_of(t, i, Heading::TYPE) != Heading::DIRECTORY {
+    if raw_of(t, i, Heading::TYPE) != Heading::DIRECTORY {
         return true;
     }
-    if byte_of(t, i, Heading::LIFETIME) != Heading::MEDIUM {
+    if raw_of(t, i, Heading::LIFETIME) != Heading::MEDIUM {
         return false;
     }
     two_of(t, i, Heading::LENGTH) == 0
@@ -267,26 +271,26 @@ fn is_heading_right(t: &[u8], i: usize) -> bool
     requires { ⌜ i < rooms (now t) ⌝ }
     ensures { λ r. ⌜ r ≡ headingRight (rec (now (t .entry)) i) ⌝ }
 {
-    if 1 < byte_of(t, i, Heading::TYPE) {
+    if Heading::SIMPLE < raw_of(t, i, Heading::TYPE) {
         return false;
     }
-    if 3 < byte_of(t, i, Heading::LEVEL) {
+    if Heading::LAST_LEVEL < raw_of(t, i, Heading::LEVEL) {
         return false;
     }
-    if 7 < byte_of(t, i, Heading::CODE) {
+    if Code::ALL < raw_of(t, i, Heading::CODE) {
         return false;
     }
-    let lifetime = byte_of(t, i, Heading::LIFETIME);
-    if lifetime < 1 {
+    let lifetime = raw_of(t, i, Heading::LIFETIME);
+    if lifetime < Heading::MEDIUM {
         return false;
     }
-    if 2 < lifetime {
+    if Heading::LONG < lifetime {
         return false;
     }
-    if !are_zeros(t, i, 5, 5) {
+    if !are_zeros(t, i, Heading::GAP, Heading::GAP_SIZE) {
         return false;
     }
-    if !are_zeros(t, i, 12, 20) {
+    if !are_zeros(t, i, Heading::REST, Heading::REST_SIZE) {
         return false;
     }
     is_plain(t, i)
@@ -301,21 +305,21 @@ fn is_text_right(t: &[u8], i: usize) -> bool
     if held < 1 {
         return false;
     }
-    if Text::MOST < held {
+    if Text::MOST_HELD < held {
         return false;
     }
-    if !are_zeros(t, i, 6, 2) {
+    if !are_zeros(t, i, Text::GAP, Text::GAP_SIZE) {
         return false;
     }
-    are_zeros(t, i, Text::BYTES + held, Text::MOST - held)
+    are_zeros(t, i, Text::BYTES + held, Text::MOST_HELD - held)
 }
 
 // Whether record i is right, by its kind; one that goes will be free.
-fn is_right(t: &[u8], gone: &[u8; 2048], i: usize) -> bool
+fn is_right(t: &[u8], gone: &[u8; Room::MOST], i: usize) -> bool
     requires { ⌜ (i < rooms (now t)) × (length (now t) % 32 ≡ 0) × (length (now t) ≤ 65536) ⌝ }
     ensures { λ r. ⌜ r ≡ rightAt (without (now (gone .entry)) (now (t .entry))) i ⌝ }
 {
-    let kind = byte_of(t, i, Record::KIND);
+    let kind = raw_of(t, i, Room::KIND);
     if kind == Entry::KIND {
         return is_entry_right(t, gone, i);
     }
@@ -328,15 +332,15 @@ fn is_right(t: &[u8], gone: &[u8; 2048], i: usize) -> bool
     if kind == Heading::KIND {
         return is_heading_right(t, i);
     }
-    are_zeros(t, i, 0, 32)
+    are_zeros(t, i, Room::KIND, Room::SIZE)
 }
 
 // Whether every record is right.
-fn are_right(t: &[u8], gone: &[u8; 2048]) -> bool
+fn are_right(t: &[u8], gone: &[u8; Room::MOST]) -> bool
     requires { ⌜ (length (now t) % 32 ≡ 0) × (length (now t) ≤ 65536) ⌝ }
     ensures { λ r. ⌜ r ≡ shaped (without (now (gone .entry)) (now (t .entry))) ⌝ }
 {
-    let n = t.len() / Record::BYTES;
+    let n = t.len() / Room::SIZE;
     let mut i: usize = 0;
     while i < n {
         if !is_right(t, gone, i) {
@@ -348,10 +352,10 @@ fn are_right(t: &[u8], gone: &[u8; 2048]) -> bool
 }
 
 // Whether the table is sized and, without the records that go, each record shows what it must.
-pub fn records_are_right(t: &[u8], gone: &[u8; 2048]) -> bool
+pub fn records_are_right(t: &[u8], gone: &[u8; Room::MOST]) -> bool
     ensures { λ r. ⌜ r ≡ (sized (now (t .entry)) && shaped (without (now (gone .entry)) (now (t .entry)))) ⌝ }
 {
-    if !fields::is_sized(t) {
+    if !is_sized(t) {
         return false;
     }
     are_right(t, gone)

@@ -1,4 +1,7 @@
 // Has any directory or base list a name twice? Entries are chained by a hash of their place and name.
+use records::bytes::Room;
+use records::bytes::is_sized;
+use records::entry::Entry;
 ghost use mathlib.Core.Path.{_≡_};
 ghost use mathlib.Core.Bool.{_&&_, true};
 ghost use Prim.Native.Nat.{_+_, _<_, _≤_};
@@ -8,8 +11,6 @@ ghost use Rattle.paper.specs.Record.{byte, two, three, isKind};
 ghost use Rattle.paper.specs.Table.{sized, rooms, rec};
 ghost use Rattle.judge_laws.specs.Chains.{lastIn, Linked, Chains};
 ghost use Rattle.judge_laws.specs.Twins.{hashOf, twin, twinTo, single, noTwins};
-use fields::Entry;
-use fields::Record;
 
 fn wide(x: u8) -> usize
     ensures { λ r. ⌜ (r ≡ x) × (r < 256) ⌝ }
@@ -28,7 +29,7 @@ fn byte_of(t: &[u8], i: usize, j: usize) -> usize
     requires { ⌜ (i < rooms (now t)) × (j < 32) ⌝ }
     ensures { λ r. ⌜ (r ≡ byte (rec (now (t .entry)) i) j) × (r < 256) ⌝ }
 {
-    wide(t[i * Record::BYTES + j])
+    wide(t[i * Room::SIZE + j])
 }
 
 // The two-byte number at place j of record i, low byte first.
@@ -62,7 +63,7 @@ fn hash_of(t: &[u8], i: usize) -> usize
     let d = c
         + two_of(t, i, Entry::NAME + 6) * 266225641653
         + two_of(t, i, Entry::NAME + 8) * 260119046801;
-    d / 16777216 % 2048
+    d / 16777216 % Room::MOST
 }
 
 // Whether entry k stands where entry i does and bears its name.
@@ -87,7 +88,7 @@ fn are_twins(t: &[u8], i: usize, k: usize) -> bool
 }
 
 // Whether entry i has a twin before it: a walk through its bucket, from one more than the last entry there.
-fn twin_before(t: &[u8], next: &[u16; 2048], i: usize, first: usize) -> bool
+fn twin_before(t: &[u8], next: &[u16; Room::MOST], i: usize, first: usize) -> bool
     requires { ⌜ (i < rooms (now t)) × (length (now t) ≤ 65536) × (first ≡ lastIn hashOf (now t) (hashOf (rec (now t) i)) i) × Linked hashOf (now t) (now next) i ⌝ }
     ensures { λ r. ⌜ r ≡ anyBelow (twinTo (now (t .entry)) i) i ⌝ }
 {
@@ -102,11 +103,16 @@ fn twin_before(t: &[u8], next: &[u16; 2048], i: usize, first: usize) -> bool
 }
 
 // Whether record i, if it is an entry, has no twin before it; if so it is put into its chain.
-fn chain_turn(t: &[u8], head: &mut [u16; 2048], next: &mut [u16; 2048], i: usize) -> bool
+fn chain_turn(
+    t: &[u8],
+    head: &mut [u16; Room::MOST],
+    next: &mut [u16; Room::MOST],
+    i: usize,
+) -> bool
     requires { ⌜ (i < rooms (now t)) × (length (now t) ≤ 65536) × Chains hashOf (now t) (now head) (now next) i ⌝ }
     ensures { λ r. ⌜ (r ≡ single (now (t .entry)) i) × (r ≡ true → Chains hashOf (now (t .entry)) (now (head .exit)) (now (next .exit)) (i + 1)) ⌝ }
 {
-    if byte_of(t, i, Record::KIND) != Entry::KIND {
+    if byte_of(t, i, Room::KIND) != Entry::KIND as usize {
         return true;
     }
     let h = hash_of(t, i);
@@ -120,11 +126,11 @@ fn chain_turn(t: &[u8], head: &mut [u16; 2048], next: &mut [u16; 2048], i: usize
 }
 
 // Whether no entry has a twin before it.
-fn chain_all(t: &[u8], head: &mut [u16; 2048], next: &mut [u16; 2048]) -> bool
+fn chain_all(t: &[u8], head: &mut [u16; Room::MOST], next: &mut [u16; Room::MOST]) -> bool
     requires { ⌜ (length (now t) ≤ 65536) × Chains hashOf (now t) (now head) (now next) 0 ⌝ }
     ensures { λ r. ⌜ r ≡ noTwins (now (t .entry)) ⌝ }
 {
-    let n = t.len() / Record::BYTES;
+    let n = t.len() / Room::SIZE;
     let mut i: usize = 0;
     while i < n {
         if !chain_turn(t, head, next, i) {
@@ -139,10 +145,10 @@ fn chain_all(t: &[u8], head: &mut [u16; 2048], next: &mut [u16; 2048]) -> bool
 pub fn none_are_twins(t: &[u8]) -> bool
     ensures { λ r. ⌜ r ≡ (sized (now (t .entry)) && noTwins (now (t .entry))) ⌝ }
 {
-    if !fields::is_sized(t) {
+    if !is_sized(t) {
         return false;
     }
-    let mut head = [0u16; 2048];
-    let mut next = [0u16; 2048];
+    let mut head = [0u16; Room::MOST];
+    let mut next = [0u16; Room::MOST];
     chain_all(t, &mut head, &mut next)
 }

@@ -1,5 +1,4 @@
 -- The states and answers of the code, and those of `Walk` that they stand for.
-use Prim.Native.Nat.{ℕ}
 use Rattle.paper.specs.Walk.{on, off, reached, stopped}
 use Rattle.paper.specs.Walk as W
 use Rattle.records.specs.Shown.{holderShown}

@@ -18,6 +18,9 @@ use Rattle.crowds.proofs.crowd_turn.Tie as tie
 byte-of-requires : tie.Need-byte-of-requires
 byte-of-requires c κs = search needs
 
+cast-if1 : tie.Need-cast-if1
+cast-if1 c = search needs
+
 returns : tie.Need-returns
 returns c =
     let a = c .before .before .before in
@@ -106,6 +109,7 @@ crowd-turn-spec =
     tie.close
     (tie.spec
     byte-of-requires
+    cast-if1
     returns
     place-of-requires
     mul-first

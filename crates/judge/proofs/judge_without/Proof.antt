@@ -18,8 +18,10 @@ is-sized-requires c κs = search needs
 returns : tie.Need-returns
 unfolding judged
 returns c =
-    let a = c .before .before .before .args in
-    let e : sized (without (a .gone .now) (a .table .now)) ≡ false = sized-without (a .gone .now) (a .table .now) ∙ sym (c .before .is-sized .ensures) ∙ not-true _ (c .if1 .taken) in
+    let c3 = c .before .before .before in
+    let a = c3 .args in
+    let w = sized-without (a .gone .now) (a .table .now) in
+    let e : sized (without (a .gone .now) (a .table .now)) ≡ false = w ∙ sym (c .before .is-sized .ensures) ∙ not-true _ (c .if1 .taken) in
     rw e
 
 is-sound-requires : tie.Need-is-sound-requires
@@ -28,16 +30,24 @@ is-sound-requires c κs = sym (c .before .is-sized .ensures) ∙ not-false _ (c 
 returns-2 : tie.Need-returns-2
 unfolding judged
 returns-2 c =
-    let a = c .before .before .before .before .before .args in
-    let e : sized (without (a .gone .now) (a .table .now)) ≡ true = sized-without (a .gone .now) (a .table .now) ∙ sym (c .before .before .before .is-sized .ensures) ∙ not-false _ (c .before .before .if1 .left) in
+    let c3 = c .before .before .before in
+    let c5 = c3 .before .before in
+    let a = c5 .args in
+    let w = sized-without (a .gone .now) (a .table .now) in
+    let s = sym (c3 .is-sized .ensures) ∙ not-false _ (c .before .before .if1 .left) in
+    let e : sized (without (a .gone .now) (a .table .now)) ≡ true = w ∙ s in
     let f : sound (without (a .gone .now) (a .table .now)) ≡ false = sym (c .before .is-sound .ensures) ∙ not-true _ (c .if2 .taken) in
     rw (e, f)
 
 returns-3 : tie.Need-returns-3
 unfolding judged
 returns-3 c =
-    let a = c .before .before .before .before .before .args in
-    let e : sized (without (a .gone .now) (a .table .now)) ≡ true = sized-without (a .gone .now) (a .table .now) ∙ sym (c .before .before .before .is-sized .ensures) ∙ not-false _ (c .before .before .if1 .left) in
+    let c3 = c .before .before .before in
+    let c5 = c3 .before .before in
+    let a = c5 .args in
+    let w = sized-without (a .gone .now) (a .table .now) in
+    let s = sym (c3 .is-sized .ensures) ∙ not-false _ (c .before .before .if1 .left) in
+    let e : sized (without (a .gone .now) (a .table .now)) ≡ true = w ∙ s in
     let f : sound (without (a .gone .now) (a .table .now)) ≡ true = sym (c .before .is-sound .ensures) ∙ not-false _ (c .if2 .left) in
     rw (e, f)
 

@@ -3,6 +3,7 @@
 use mathlib.Core.Path.{_∙_}
 use native.Mathlib.Omega.{arith}
 use borrow.Author.Tests.{ne-eqb}
+use borrow.Author.Needs.{needs}
 use Rattle.judge_laws.proofs.Mask.{heading-without, named-without}
 use Rattle.judge_laws.proofs.Naming.{mark-tells}
 use Rattle.marks.proofs.heading_marked.Statement.{statement}
@@ -10,6 +11,9 @@ use Rattle.marks.proofs.heading_marked.Tie as tie
 
 byte-of-requires : tie.Need-byte-of-requires
 byte-of-requires c κs = omega arith
+
+cast-if1 : tie.Need-cast-if1
+cast-if1 c = search needs
 
 returns : tie.Need-returns
 returns c =
@@ -38,6 +42,7 @@ heading-marked-spec =
     tie.close
     (tie.spec
     byte-of-requires
+    cast-if1
     returns
     element-copy-out-if2
     returns-2

@@ -3,12 +3,16 @@
 use mathlib.Core.Path.{sym, _∙_}
 use native.Mathlib.Omega.{arith}
 use borrow.Author.Tests.{ne-eqb}
+use borrow.Author.Needs.{needs}
 use Rattle.judge_laws.proofs.Mask.{simple-without}
 use Rattle.marks.proofs.is_simple.Statement.{statement}
 use Rattle.marks.proofs.is_simple.Tie as tie
 
 byte-of-requires : tie.Need-byte-of-requires
 byte-of-requires c κs = omega arith
+
+cast-if1 : tie.Need-cast-if1
+cast-if1 c = search needs
 
 returns : tie.Need-returns
 returns c =
@@ -17,6 +21,9 @@ returns c =
 
 byte-of-requires-2 : tie.Need-byte-of-requires-2
 byte-of-requires-2 c κs = omega arith
+
+cast-if2 : tie.Need-cast-if2
+cast-if2 c = search needs
 
 returns-2 : tie.Need-returns-2
 returns-2 c =
@@ -34,4 +41,4 @@ returns-3 c =
 pub is-simple-spec : {M : Type 1} → statement M
 is-simple-spec =
     tie.close
-    (tie.spec byte-of-requires returns byte-of-requires-2 returns-2 element-copy-out-result returns-3)
+    (tie.spec byte-of-requires cast-if1 returns byte-of-requires-2 cast-if2 returns-2 element-copy-out-result returns-3)

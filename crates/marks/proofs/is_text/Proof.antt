@@ -3,12 +3,16 @@
 use mathlib.Core.Path.{sym, _∙_}
 use native.Mathlib.Omega.{arith}
 use borrow.Author.Tests.{ne-eqb}
+use borrow.Author.Needs.{needs}
 use Rattle.judge_laws.proofs.Mask.{text-without}
 use Rattle.marks.proofs.is_text.Statement.{statement}
 use Rattle.marks.proofs.is_text.Tie as tie
 
 byte-of-requires : tie.Need-byte-of-requires
 byte-of-requires c κs = omega arith
+
+cast-if1 : tie.Need-cast-if1
+cast-if1 c = search needs
 
 returns : tie.Need-returns
 returns c =
@@ -24,4 +28,4 @@ returns-2 c =
     sym (text-without (a .gone .now) (a .t .now) (omega arith) (a .i) ∙ rw (← c .before .before .byte-of .ensures .0, c .before .if1 .left))
 
 pub is-text-spec : {M : Type 1} → statement M
-is-text-spec = tie.close (tie.spec byte-of-requires returns element-copy-out-result returns-2)
+is-text-spec = tie.close (tie.spec byte-of-requires cast-if1 returns element-copy-out-result returns-2)

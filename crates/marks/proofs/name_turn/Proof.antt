@@ -2,11 +2,15 @@
 -- The three ways through the code are the cases of the definition.
 use native.Mathlib.Omega.{arith}
 use borrow.Author.Tests.{ne-eqb, lt-ltb, le-ltb}
+use borrow.Author.Needs.{needs}
 use Rattle.marks.proofs.name_turn.Statement.{statement}
 use Rattle.marks.proofs.name_turn.Tie as tie
 
 byte-of-requires : tie.Need-byte-of-requires
 byte-of-requires c κs = omega arith
+
+cast-if1 : tie.Need-cast-if1
+cast-if1 c = search needs
 
 two-of-requires : tie.Need-two-of-requires
 two-of-requires c κs = omega arith
@@ -26,4 +30,4 @@ returns-3 c = rw (← c .before .byte-of .ensures .0, ne-eqb _ _ (c .if1 .left))
 pub name-turn-spec : {M : Type 1} → statement M
 name-turn-spec =
     tie.close
-    (tie.spec byte-of-requires two-of-requires element-write-mark returns returns-2 returns-3)
+    (tie.spec byte-of-requires cast-if1 two-of-requires element-write-mark returns returns-2 returns-3)

@@ -5,6 +5,7 @@ use mathlib.Core.Path.{_≡_, refl, sym, _∙_}
 use mathlib.Core.Logic.{⊎-elim}
 use Prim.Native.Nat.{ℕ, _-_, _≤_}
 use native.Mathlib.Omega.{arith}
+use borrow.Author.Needs.{needs}
 use Rattle.paper.specs.Scan.{countBelow}
 use Rattle.paper.specs.Table.{rooms, rec}
 use Rattle.paper.specs.Entry.{stands, crowd}
@@ -20,11 +21,14 @@ Inv-loop table d n count₀ i₀ count i =
 abbrev μ-loop : tie.MeasureT-loop
 μ-loop table d n count₀ i₀ count i = n - i
 
+rooms-requires : tie.Need-rooms-requires Inv-loop μ-loop
+rooms-requires c κs = search needs
+
 loop-holds : tie.Need-loop-holds Inv-loop μ-loop
 loop-holds c = (
-  count-start (λ j. stands (holderShown (c .before .args .d)) (rec (c .before .args .table .now) j)),
+  count-start (λ j. stands (holderShown (c .before .before .args .d)) (rec (c .before .before .args .table .now) j)),
   omega arith,
-  refl,
+  c .rooms .ensures,
   omega arith,
 )
 
@@ -43,19 +47,19 @@ loop-less c = omega arith
 loop-again : tie.Need-loop-again Inv-loop μ-loop
 loop-again c =
     let k = c .before .before .before in
-    let s = k .before .before in
+    let s = k .before .before .before in
     let p : ℕ → Bool = λ j. stands (holderShown (s .args .d)) (rec (s .args .table .now) j) in
     let tested = sym (c .before .stands-here .ensures) in
     ⊎-elim
-    (λ w. (w .1 ∙ count-on p (k .loop .i) (k .loop .count) (tested ∙ w .0 .taken) (k .loop .inv .0), omega arith, refl, omega arith))
-    (λ w. (w .1 ∙ count-off p (k .loop .i) (k .loop .count) (tested ∙ w .0 .left) (k .loop .inv .0), omega arith, refl, omega arith))
+    (λ w. (w .1 ∙ count-on p (k .loop .i) (k .loop .count) (tested ∙ w .0 .taken) (k .loop .inv .0), omega arith, k .loop .inv .2, omega arith))
+    (λ w. (w .1 ∙ count-off p (k .loop .i) (k .loop .count) (tested ∙ w .0 .left) (k .loop .inv .0), omega arith, k .loop .inv .2, omega arith))
     (c .if1 .came)
 
 returns : tie.Need-returns Inv-loop μ-loop
 unfolding crowd
 returns c =
-    let c3 = c .before .before .before in
-    let e : c .before .loop .i ≡ rooms (c3 .args .table .now) = omega arith in rw (← e) (c .before .loop .inv .0)
+    let c4 = c .before .before .before .before in
+    let e : c .before .loop .i ≡ rooms (c4 .args .table .now) = omega arith in rw (← e) (c .before .loop .inv .0)
 
 pub crowd-spec : {M : Type 1} → statement M
 crowd-spec =
@@ -63,6 +67,7 @@ crowd-spec =
     (tie.spec
     Inv-loop
     μ-loop
+    rooms-requires
     loop-holds
     stands-here-requires
     add-count

@@ -4,6 +4,7 @@ use mathlib.Core.Bool.{Bool, false}
 use mathlib.Core.Path.{_≡_, refl, sym, ap, _∙_}
 use Prim.Native.Nat.{ℕ, _-_, _≤_}
 use native.Mathlib.Omega.{arith}
+use borrow.Author.Needs.{needs}
 use Rattle.paper.specs.Scan.{anyBelow}
 use Rattle.paper.specs.Table.{rooms, rec}
 use Rattle.paper.specs.Entry.{bears, find}
@@ -21,12 +22,15 @@ Inv-loop table d name n i₀ i =
 abbrev μ-loop : tie.MeasureT-loop
 μ-loop table d name n i₀ i = n - i
 
+rooms-requires : tie.Need-rooms-requires Inv-loop μ-loop
+rooms-requires c κs = search needs
+
 loop-holds : tie.Need-loop-holds Inv-loop μ-loop
 loop-holds c =
-    let c2 = c .before .before in (
-      any-start (λ j. bears (holderShown (c2 .args .d)) (c2 .args .name .now) (rec (c2 .args .table .now) j)),
+    let c3 = c .before .before .before in (
+      any-start (λ j. bears (holderShown (c3 .args .d)) (c3 .args .name .now) (rec (c3 .args .table .now) j)),
       omega arith,
-      refl,
+      c .rooms .ensures,
     )
 
 bears-here-requires : tie.Need-bears-here-requires Inv-loop μ-loop
@@ -36,7 +40,7 @@ returns : tie.Need-returns Inv-loop μ-loop
 unfolding find
 returns c =
     let k = c .before .before .before in
-    let s = k .before .before .before in
+    let s = k .before .before .before .before in
     let p : ℕ → Bool = λ j. bears (holderShown (s .args .d)) (s .args .name .now) (rec (s .args .table .now) j) in
     let here = sym (c .before .bears-here .ensures) ∙ c .if1 .taken in
     sym (ap foundShown (first-here p (rooms (s .args .table .now)) (k .loop .i) (omega arith) here (k .loop .inv .0)))
@@ -50,14 +54,14 @@ loop-less c = omega arith
 loop-again : tie.Need-loop-again Inv-loop μ-loop
 loop-again c =
     let k = c .before .before .before in
-    let s = k .before .before .before in
+    let s = k .before .before .before .before in
     let p : ℕ → Bool = λ j. bears (holderShown (s .args .d)) (s .args .name .now) (rec (s .args .table .now) j) in
-    (any-still p (k .loop .i) (sym (c .before .bears-here .ensures) ∙ c .if1 .left) (k .loop .inv .0), omega arith, refl)
+    (any-still p (k .loop .i) (sym (c .before .bears-here .ensures) ∙ c .if1 .left) (k .loop .inv .0), omega arith, k .loop .inv .2)
 
 returns-2 : tie.Need-returns-2 Inv-loop μ-loop
 unfolding find
 returns-2 c =
-    let s = c .before .before .before .before in
+    let s = c .before .before .before .before .before in
     let p : ℕ → Bool = λ j. bears (holderShown (s .args .d)) (s .args .name .now) (rec (s .args .table .now) j) in
     let n : ℕ = rooms (s .args .table .now) in
     sym (ap foundShown (first-none p n (any-shorter p n (c .before .loop .i) (omega arith) (c .before .loop .inv .0))))
@@ -68,6 +72,7 @@ find-spec =
     (tie.spec
     Inv-loop
     μ-loop
+    rooms-requires
     loop-holds
     bears-here-requires
     returns

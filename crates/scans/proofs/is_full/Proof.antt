@@ -11,7 +11,7 @@ crowd-requires : tie.Need-crowd-requires
 crowd-requires c κs = search needs
 
 returns : tie.Need-returns
-returns c = rw (c .before .before .limit .ensures, c .before .crowd .ensures)
+returns c = rw (c .before .before .before .limit .ensures, c .before .before .crowd .ensures)
 
 pub is-full-spec : {M : Type 1} → statement M
 is-full-spec = tie.close (tie.spec limit-requires crowd-requires returns)

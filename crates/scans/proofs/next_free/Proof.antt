@@ -5,6 +5,7 @@ use mathlib.Core.Bool.{false}
 use Prim.Native.Nat.{_-_, _≤_}
 use native.Mathlib.Omega.{arith}
 use lib.Dec.{leb}
+use borrow.Author.Needs.{needs}
 use Rattle.paper.specs.Scan.{anyBelow}
 use Rattle.paper.specs.Table.{rooms}
 use Rattle.laws.proofs.Tests.{and-no-right}
@@ -20,8 +21,12 @@ Inv-loop table n i₀ i = (anyBelow (freeFrom table i₀) i ≡ false) × (i₀ 
 abbrev μ-loop : tie.MeasureT-loop
 μ-loop table n i₀ i = n - i
 
+rooms-requires : tie.Need-rooms-requires Inv-loop μ-loop
+rooms-requires c κs = search needs
+
 loop-holds : tie.Need-loop-holds Inv-loop μ-loop
-loop-holds c = (none-before (c .before .args .table .now) (c .before .args .from .0), omega arith, refl)
+loop-holds c =
+    let a = c .before .before .args in (none-before (a .table .now) (a .from .0), omega arith, c .rooms .ensures)
 
 is-kind-requires : tie.Need-is-kind-requires Inv-loop μ-loop
 is-kind-requires c κs = omega arith
@@ -29,7 +34,7 @@ is-kind-requires c κs = omega arith
 returns : tie.Need-returns Inv-loop μ-loop
 returns c =
     let k = c .before .before .before in
-    let s = k .before .before in
+    let s = k .before .before .before in
     let here = sym (c .before .is-kind .ensures) ∙ c .if1 .taken in
     sym (next-here (s .args .table .now) (s .args .from .0) (k .loop .i) (omega arith) (omega arith) here (k .loop .inv .0))
 
@@ -42,18 +47,19 @@ loop-less c = omega arith
 loop-again : tie.Need-loop-again Inv-loop μ-loop
 loop-again c =
     let k = c .before .before .before in
-    let s = k .before .before in
+    let s = k .before .before .before in
     let i₀ = s .args .from .0 in
     let not-free = sym (c .before .is-kind .ensures) ∙ c .if1 .left in (
       any-still (freeFrom (s .args .table .now) i₀) (k .loop .i) (and-no-right (leb i₀ (k .loop .i)) _ not-free) (k .loop .inv .0),
       omega arith,
-      refl,
+      k .loop .inv .2,
     )
 
 returns-2 : tie.Need-returns-2 Inv-loop μ-loop
 returns-2 c =
-    let c3 = c .before .before .before in
-    sym (next-none (c3 .args .table .now) (c3 .args .from .0) (c .before .loop .i) (omega arith) (c .before .loop .inv .0))
+    let c4 = c .before .before .before .before in
+    c .before .before .rooms .ensures
+    ∙ sym (next-none (c4 .args .table .now) (c4 .args .from .0) (c .before .loop .i) (omega arith) (c .before .loop .inv .0))
 
 pub next-free-spec : {M : Type 1} → statement M
 next-free-spec =
@@ -61,6 +67,7 @@ next-free-spec =
     (tie.spec
     Inv-loop
     μ-loop
+    rooms-requires
     loop-holds
     is-kind-requires
     returns

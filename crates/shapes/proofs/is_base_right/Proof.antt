@@ -7,6 +7,9 @@ use Rattle.judge_laws.specs.Shapes.{baseRight}
 use Rattle.shapes.proofs.is_base_right.Statement.{statement}
 use Rattle.shapes.proofs.is_base_right.Tie as tie
 
+cast-last : tie.Need-cast-last
+cast-last c = search needs
+
 three-of-requires : tie.Need-three-of-requires
 three-of-requires c κs = search needs
 
@@ -23,4 +26,4 @@ returns-2 c = rw (← c .before .before .three-of .ensures .0, le-leb (c .before
 
 pub is-base-right-spec : {M : Type 1} → statement M
 is-base-right-spec =
-    tie.close (tie.spec three-of-requires returns is-legal-base-requires returns-2)
+    tie.close (tie.spec cast-last three-of-requires returns is-legal-base-requires returns-2)

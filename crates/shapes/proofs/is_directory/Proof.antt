@@ -14,21 +14,21 @@ returns c =
     let a = c .before .before .args in
     sym (directory-without (a .gone .now) (a .t .now) (omega arith) (a .h) ∙ rw (rec-past (a .t .now) (a .h) (omega arith) (omega arith)))
 
-byte-of-requires : tie.Need-byte-of-requires
-byte-of-requires c κs = search needs
+raw-of-requires : tie.Need-raw-of-requires
+raw-of-requires c κs = search needs
 
 returns-2 : tie.Need-returns-2
 returns-2 c =
     let a = c .before .before .before .before .args in
-    sym (directory-without (a .gone .now) (a .t .now) (omega arith) (a .h) ∙ rw (← c .before .byte-of .ensures .0, ne-eqb _ _ (c .if2 .taken)))
+    sym (directory-without (a .gone .now) (a .t .now) (omega arith) (a .h) ∙ rw (← c .before .raw-of .ensures, ne-eqb _ _ (c .if2 .taken)))
 
-byte-of-requires-2 : tie.Need-byte-of-requires-2
-byte-of-requires-2 c κs = search needs
+raw-of-requires-2 : tie.Need-raw-of-requires-2
+raw-of-requires-2 c κs = search needs
 
 returns-3 : tie.Need-returns-3
 returns-3 c =
     let a = c .before .before .before .before .before .before .args in
-    sym (directory-without (a .gone .now) (a .t .now) (omega arith) (a .h) ∙ rw (← c .before .before .before .byte-of .ensures .0, c .before .before .if2 .left, ← c .before .byte-of2 .ensures .0, ne-eqb _ _ (c .if3 .taken)))
+    sym (directory-without (a .gone .now) (a .t .now) (omega arith) (a .h) ∙ rw (← c .before .before .before .raw-of .ensures, c .before .before .if2 .left, ← c .before .raw-of2 .ensures, ne-eqb _ _ (c .if3 .taken)))
 
 element-copy-out-result : tie.Need-element-copy-out-result
 element-copy-out-result c = omega arith
@@ -36,16 +36,16 @@ element-copy-out-result c = omega arith
 returns-4 : tie.Need-returns-4
 returns-4 c =
     let a = c .before .before .before .before .before .before .before .args in
-    sym (directory-without (a .gone .now) (a .t .now) (omega arith) (a .h) ∙ rw (← c .before .before .before .before .byte-of .ensures .0, c .before .before .before .if2 .left, ← c .before .before .byte-of2 .ensures .0, c .before .if3 .left))
+    sym (directory-without (a .gone .now) (a .t .now) (omega arith) (a .h) ∙ rw (← c .before .before .before .before .raw-of .ensures, c .before .before .before .if2 .left, ← c .before .before .raw-of2 .ensures, c .before .if3 .left))
 
 pub is-directory-spec : {M : Type 1} → statement M
 is-directory-spec =
     tie.close
     (tie.spec
     returns
-    byte-of-requires
+    raw-of-requires
     returns-2
-    byte-of-requires-2
+    raw-of-requires-2
     returns-3
     element-copy-out-result
     returns-4)

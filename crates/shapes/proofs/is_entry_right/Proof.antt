@@ -14,8 +14,8 @@ use Rattle.judge_laws.proofs.Shapes.{Entered, entry-not, entry-left, inside-not
 use Rattle.shapes.proofs.is_entry_right.Statement.{statement}
 use Rattle.shapes.proofs.is_entry_right.Tie as tie
 
-byte-of-requires : tie.Need-byte-of-requires
-byte-of-requires c κs = search needs
+raw-of-requires : tie.Need-raw-of-requires
+raw-of-requires c κs = search needs
 
 returns : tie.Need-returns
 returns c =
@@ -24,8 +24,8 @@ returns c =
     let r = rec (a .t .now) (a .i) in
     sym (entry-not t r (λ (h : Entered t r). let z : ⊥ = omega arith in z))
 
-byte-of-requires-2 : tie.Need-byte-of-requires-2
-byte-of-requires-2 c κs = search needs
+byte-of-requires : tie.Need-byte-of-requires
+byte-of-requires c κs = search needs
 
 returns-2 : tie.Need-returns-2
 returns-2 c =
@@ -55,7 +55,7 @@ returns-4 c =
     let a = c .before .before .before .before .before .before .before .before .before .args in
     let t = without (a .gone .now) (a .t .now) in
     let r = rec (a .t .now) (a .i) in
-    let e : zeros (10 + nameLength r) (10 - nameLength r) r ≡ false = rw (← c .before .before .before .before .before .byte-of2 .ensures .0) (sym (c .before .are-zeros2 .ensures) ∙ not-true _ (c .if4 .taken)) in
+    let e : zeros (10 + nameLength r) (10 - nameLength r) r ≡ false = rw (← c .before .before .before .before .before .byte-of .ensures .0) (sym (c .before .are-zeros2 .ensures) ∙ not-true _ (c .if4 .taken)) in
     sym (entry-not t r (λ (h : Entered t r). true≢false (sym (h .padded) ∙ e)))
 
 two-of-requires : tie.Need-two-of-requires
@@ -93,7 +93,7 @@ returns-7 c =
     let a = c .before .before .before .before .before .before .before .before .before .before .before .before .before .before .before .before .before .args in
     let t = without (a .gone .now) (a .t .now) in
     let r = rec (a .t .now) (a .i) in
-    let p : zeros (10 + nameLength r) (10 - nameLength r) r ≡ true = rw (← c .before .before .before .before .before .before .before .before .before .before .before .before .before .byte-of2 .ensures .0) (sym (c .before .before .before .before .before .before .before .before .before .are-zeros2 .ensures) ∙ not-false _ (c .before .before .before .before .before .before .before .before .if4 .left)) in
+    let p : zeros (10 + nameLength r) (10 - nameLength r) r ≡ true = rw (← c .before .before .before .before .before .before .before .before .before .before .before .before .before .byte-of .ensures .0) (sym (c .before .before .before .before .before .before .before .before .before .are-zeros2 .ensures) ∙ not-false _ (c .before .before .before .before .before .before .before .before .if4 .left)) in
     let n : isKind 1 (rec t (headingNamed r)) ≡ true = rw (← c .before .before .before .before .before .before .before .two-of .ensures .0) (sym (c .before .before .before .before .before .before .is-heading .ensures) ∙ not-false _ (c .before .before .before .before .before .if5 .left)) in
     let b : isBase r ≡ true = eq-eqb _ _ (sym (c .before .before .two-of2 .ensures .0) ∙ c .before .if7 .taken) in
     c .is-base-right .ensures
@@ -119,7 +119,7 @@ returns-9 c =
     let a = c .before .before .before .before .before .before .before .before .before .before .before .before .before .before .before .before .before .before .before .args in
     let t = without (a .gone .now) (a .t .now) in
     let r = rec (a .t .now) (a .i) in
-    let p : zeros (10 + nameLength r) (10 - nameLength r) r ≡ true = rw (← c .before .before .before .before .before .before .before .before .before .before .before .before .before .before .before .byte-of2 .ensures .0) (sym (c .before .before .before .before .before .before .before .before .before .before .before .are-zeros2 .ensures) ∙ not-false _ (c .before .before .before .before .before .before .before .before .before .before .if4 .left)) in
+    let p : zeros (10 + nameLength r) (10 - nameLength r) r ≡ true = rw (← c .before .before .before .before .before .before .before .before .before .before .before .before .before .before .before .byte-of .ensures .0) (sym (c .before .before .before .before .before .before .before .before .before .before .before .are-zeros2 .ensures) ∙ not-false _ (c .before .before .before .before .before .before .before .before .before .before .if4 .left)) in
     let n : isKind 1 (rec t (headingNamed r)) ≡ true = rw (← c .before .before .before .before .before .before .before .before .before .two-of .ensures .0) (sym (c .before .before .before .before .before .before .before .before .is-heading .ensures) ∙ not-false _ (c .before .before .before .before .before .before .before .if5 .left)) in
     let b : isBase r ≡ false = ne-eqb _ _ (λ q. c .before .before .before .if7 .left (c .before .before .before .before .two-of2 .ensures .0 ∙ q)) in
     let d : directory (rec t (holderOf r)) ≡ true = rw (← c .before .before .before .before .two-of2 .ensures .0) (sym (c .before .before .is-directory .ensures) ∙ not-false _ (c .before .if8 .left)) in
@@ -130,9 +130,9 @@ pub is-entry-right-spec : {M : Type 1} → statement M
 is-entry-right-spec =
     tie.close
     (tie.spec
-    byte-of-requires
+    raw-of-requires
     returns
-    byte-of-requires-2
+    byte-of-requires
     returns-2
     are-zeros-requires
     returns-3

@@ -14,13 +14,13 @@ returns c =
     let a = c .before .before .args in
     sym (heading-without (a .gone .now) (a .t .now) (omega arith) (a .h) ∙ rw (rec-past (a .t .now) (a .h) (omega arith) (omega arith)))
 
-byte-of-requires : tie.Need-byte-of-requires
-byte-of-requires c κs = search needs
+raw-of-requires : tie.Need-raw-of-requires
+raw-of-requires c κs = search needs
 
 returns-2 : tie.Need-returns-2
 returns-2 c =
     let a = c .before .before .before .before .args in
-    sym (heading-without (a .gone .now) (a .t .now) (omega arith) (a .h) ∙ rw (← c .before .byte-of .ensures .0, ne-eqb _ _ (c .if2 .taken)))
+    sym (heading-without (a .gone .now) (a .t .now) (omega arith) (a .h) ∙ rw (← c .before .raw-of .ensures, ne-eqb _ _ (c .if2 .taken)))
 
 element-copy-out-result : tie.Need-element-copy-out-result
 element-copy-out-result c = omega arith
@@ -28,7 +28,7 @@ element-copy-out-result c = omega arith
 returns-3 : tie.Need-returns-3
 returns-3 c =
     let a = c .before .before .before .before .before .args in
-    sym (heading-without (a .gone .now) (a .t .now) (omega arith) (a .h) ∙ rw (← c .before .before .byte-of .ensures .0, c .before .if2 .left))
+    sym (heading-without (a .gone .now) (a .t .now) (omega arith) (a .h) ∙ rw (← c .before .before .raw-of .ensures, c .before .if2 .left))
 
 pub is-heading-spec : {M : Type 1} → statement M
-is-heading-spec = tie.close (tie.spec returns byte-of-requires returns-2 element-copy-out-result returns-3)
+is-heading-spec = tie.close (tie.spec returns raw-of-requires returns-2 element-copy-out-result returns-3)

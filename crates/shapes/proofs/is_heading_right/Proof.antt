@@ -10,32 +10,32 @@ use Rattle.judge_laws.proofs.Shapes.{Heading, heading-not, heading-left}
 use Rattle.shapes.proofs.is_heading_right.Statement.{statement}
 use Rattle.shapes.proofs.is_heading_right.Tie as tie
 
-byte-of-requires : tie.Need-byte-of-requires
-byte-of-requires c κs = search needs
+raw-of-requires : tie.Need-raw-of-requires
+raw-of-requires c κs = search needs
 
 returns : tie.Need-returns
 returns c =
     let r = rec (c .before .before .before .args .t .now) (c .before .before .before .args .i) in
     sym (heading-not r (λ (h : Heading r). let z : ⊥ = omega arith in z))
 
-byte-of-requires-2 : tie.Need-byte-of-requires-2
-byte-of-requires-2 c κs = search needs
+raw-of-requires-2 : tie.Need-raw-of-requires-2
+raw-of-requires-2 c κs = search needs
 
 returns-2 : tie.Need-returns-2
 returns-2 c =
     let r = rec (c .before .before .before .before .before .args .t .now) (c .before .before .before .before .before .args .i) in
     sym (heading-not r (λ (h : Heading r). let z : ⊥ = omega arith in z))
 
-byte-of-requires-3 : tie.Need-byte-of-requires-3
-byte-of-requires-3 c κs = search needs
+raw-of-requires-3 : tie.Need-raw-of-requires-3
+raw-of-requires-3 c κs = search needs
 
 returns-3 : tie.Need-returns-3
 returns-3 c =
     let r = rec (c .before .before .before .before .before .before .before .args .t .now) (c .before .before .before .before .before .before .before .args .i) in
     sym (heading-not r (λ (h : Heading r). let z : ⊥ = omega arith in z))
 
-byte-of-requires-4 : tie.Need-byte-of-requires-4
-byte-of-requires-4 c κs = search needs
+raw-of-requires-4 : tie.Need-raw-of-requires-4
+raw-of-requires-4 c κs = search needs
 
 returns-4 : tie.Need-returns-4
 returns-4 c =
@@ -76,13 +76,13 @@ pub is-heading-right-spec : {M : Type 1} → statement M
 is-heading-right-spec =
     tie.close
     (tie.spec
-    byte-of-requires
+    raw-of-requires
     returns
-    byte-of-requires-2
+    raw-of-requires-2
     returns-2
-    byte-of-requires-3
+    raw-of-requires-3
     returns-3
-    byte-of-requires-4
+    raw-of-requires-4
     returns-4
     returns-5
     are-zeros-requires

@@ -5,25 +5,25 @@ use borrow.Author.Needs.{needs}
 use Rattle.shapes.proofs.is_plain.Statement.{statement}
 use Rattle.shapes.proofs.is_plain.Tie as tie
 
-byte-of-requires : tie.Need-byte-of-requires
-byte-of-requires c κs = search needs
+raw-of-requires : tie.Need-raw-of-requires
+raw-of-requires c κs = search needs
 
 returns : tie.Need-returns
-returns c = rw (← c .before .byte-of .ensures .0, ne-eqb _ _ (c .if1 .taken))
+returns c = rw (← c .before .raw-of .ensures, ne-eqb _ _ (c .if1 .taken))
 
-byte-of-requires-2 : tie.Need-byte-of-requires-2
-byte-of-requires-2 c κs = search needs
+raw-of-requires-2 : tie.Need-raw-of-requires-2
+raw-of-requires-2 c κs = search needs
 
 returns-2 : tie.Need-returns-2
-returns-2 c = rw (← c .before .before .before .byte-of .ensures .0, c .before .before .if1 .left, ← c .before .byte-of2 .ensures .0, ne-eqb _ _ (c .if2 .taken))
+returns-2 c = rw (← c .before .before .before .raw-of .ensures, c .before .before .if1 .left, ← c .before .raw-of2 .ensures, ne-eqb _ _ (c .if2 .taken))
 
 two-of-requires : tie.Need-two-of-requires
 two-of-requires c κs = search needs
 
 returns-3 : tie.Need-returns-3
-returns-3 c = rw (← c .before .before .before .before .byte-of .ensures .0, c .before .before .before .if1 .left, ← c .before .before .byte-of2 .ensures .0, c .before .if2 .left, ← c .two-of .ensures .0)
+returns-3 c = rw (← c .before .before .before .before .raw-of .ensures, c .before .before .before .if1 .left, ← c .before .before .raw-of2 .ensures, c .before .if2 .left, ← c .two-of .ensures .0)
 
 pub is-plain-spec : {M : Type 1} → statement M
 is-plain-spec =
     tie.close
-    (tie.spec byte-of-requires returns byte-of-requires-2 returns-2 two-of-requires returns-3)
+    (tie.spec raw-of-requires returns raw-of-requires-2 returns-2 two-of-requires returns-3)

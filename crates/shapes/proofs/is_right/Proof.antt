@@ -13,8 +13,8 @@ use Rattle.judge_laws.proofs.Mask.{rec-entry, rec-stays, right-gone}
 use Rattle.shapes.proofs.is_right.Statement.{statement}
 use Rattle.shapes.proofs.is_right.Tie as tie
 
-byte-of-requires : tie.Need-byte-of-requires
-byte-of-requires c κs = search needs
+raw-of-requires : tie.Need-raw-of-requires
+raw-of-requires c κs = search needs
 
 is-entry-right-requires : tie.Need-is-entry-right-requires
 is-entry-right-requires c κs = search needs
@@ -22,7 +22,7 @@ is-entry-right-requires c κs = search needs
 returns : tie.Need-returns
 returns c =
     let a = c .before .before .before .before .args in
-    let k = sym (c .before .before .byte-of .ensures .0) ∙ c .before .if1 .taken in
+    let k = sym (c .before .before .raw-of .ensures) ∙ c .before .if1 .taken in
     let e = rec-entry (a .gone .now) (a .t .now) (omega arith) (a .i) (eq-eqb _ _ k) in
     let w = without (a .gone .now) (a .t .now) in
     c .is-entry-right .ensures ∙ ap (entryRight w) (sym e) ∙ sym (right-entry w (a .i) (ap (λ r. byte r 0) e ∙ k))
@@ -33,7 +33,7 @@ element-copy-out-if2 c = omega arith
 returns-2 : tie.Need-returns-2
 returns-2 c =
     let a = c .before .before .before .before .before .args in
-    sym (right-gone (a .gone .now) (a .t .now) (a .i) (omega arith) (ne-eqb _ _ (λ q. c .before .before .if1 .left (c .before .before .before .byte-of .ensures .0 ∙ q))) (ne-eqb _ _ (c .if2 .taken)))
+    sym (right-gone (a .gone .now) (a .t .now) (a .i) (omega arith) (ne-eqb _ _ (λ q. c .before .before .if1 .left (c .before .before .before .raw-of .ensures ∙ q))) (ne-eqb _ _ (c .if2 .taken)))
 
 is-text-right-requires : tie.Need-is-text-right-requires
 is-text-right-requires c κs = search needs
@@ -41,7 +41,7 @@ is-text-right-requires c κs = search needs
 returns-3 : tie.Need-returns-3
 returns-3 c =
     let a = c .before .before .before .before .before .before .before .args in
-    let k = sym (c .before .before .before .before .before .byte-of .ensures .0) ∙ c .before .if3 .taken in
+    let k = sym (c .before .before .before .before .before .raw-of .ensures) ∙ c .before .if3 .taken in
     let e = rec-stays (a .gone .now) (a .t .now) (omega arith) (a .i) (eq-eqb _ _ (c .before .before .if2 .left)) in
     let w = without (a .gone .now) (a .t .now) in
     c .is-text-right .ensures ∙ ap (textAsAbove 0) (sym e) ∙ sym (right-text w (a .i) (ap (λ r. byte r 0) e ∙ k))
@@ -52,7 +52,7 @@ is-heading-right-requires c κs = search needs
 returns-4 : tie.Need-returns-4
 returns-4 c =
     let a = c .before .before .before .before .before .before .before .before .args in
-    let k = sym (c .before .before .before .before .before .before .byte-of .ensures .0) ∙ c .before .if4 .taken in
+    let k = sym (c .before .before .before .before .before .before .raw-of .ensures) ∙ c .before .if4 .taken in
     let e = rec-stays (a .gone .now) (a .t .now) (omega arith) (a .i) (eq-eqb _ _ (c .before .before .before .if2 .left)) in
     let w = without (a .gone .now) (a .t .now) in
     c .is-heading-right .ensures ∙ ap headingRight (sym e) ∙ sym (right-heading w (a .i) (ap (λ r. byte r 0) e ∙ k))
@@ -63,7 +63,7 @@ are-zeros-requires c κs = search needs
 returns-5 : tie.Need-returns-5
 returns-5 c =
     let a = c .before .before .before .before .before .before .before .before .args in
-    let k = c .before .before .before .before .before .before .byte-of .ensures .0 in
+    let k = c .before .before .before .before .before .before .raw-of .ensures in
     let e = rec-stays (a .gone .now) (a .t .now) (omega arith) (a .i) (eq-eqb _ _ (c .before .before .before .if2 .left)) in
     let w = without (a .gone .now) (a .t .now) in
     let b = k ∙ ap (λ r. byte r 0) (sym e) in
@@ -73,7 +73,7 @@ pub is-right-spec : {M : Type 1} → statement M
 is-right-spec =
     tie.close
     (tie.spec
-    byte-of-requires
+    raw-of-requires
     is-entry-right-requires
     returns
     element-copy-out-if2

@@ -18,6 +18,9 @@ use Rattle.twins.proofs.chain_turn.Tie as tie
 byte-of-requires : tie.Need-byte-of-requires
 byte-of-requires c κs = search needs
 
+cast-if1 : tie.Need-cast-if1
+cast-if1 c = search needs
+
 returns : tie.Need-returns
 returns c =
     let a = c .before .before .before in
@@ -86,6 +89,7 @@ chain-turn-spec =
     tie.close
     (tie.spec
     byte-of-requires
+    cast-if1
     returns
     hash-of-requires
     mul-first

@@ -4,6 +4,7 @@ use mathlib.Core.Path.{_≡_, refl, sym, _∙_}
 use mathlib.Core.Bool.{false}
 use Prim.Native.Nat.{_-_, _≤_}
 use native.Mathlib.Omega.{arith}
+use borrow.Author.Needs.{needs}
 use Rattle.paper.specs.Scan.{anyBelow}
 use Rattle.paper.specs.Table.{rooms}
 use Rattle.laws.proofs.Scans.{any-here}
@@ -18,8 +19,11 @@ Inv-loop table heading entry n i₀ i = (anyBelow (beside table (heading .0) (en
 abbrev μ-loop : tie.MeasureT-loop
 μ-loop table heading entry n i₀ i = n - i
 
+rooms-requires : tie.Need-rooms-requires Inv-loop μ-loop
+rooms-requires c κs = search needs
+
 loop-holds : tie.Need-loop-holds Inv-loop μ-loop
-loop-holds c = (any-start _, omega arith, refl)
+loop-holds c = (any-start _, omega arith, c .rooms .ensures)
 
 names-beside-requires : tie.Need-names-beside-requires Inv-loop μ-loop
 names-beside-requires c κs = omega arith
@@ -27,8 +31,9 @@ names-beside-requires c κs = omega arith
 returns : tie.Need-returns Inv-loop μ-loop
 unfolding namedBeside
 returns c =
-    let s = c .before .before .before .before .before .args in
-    sym (any-here (beside (s .table .now) (s .heading .0) (s .entry .0)) (rooms (s .table .now)) (c .before .before .before .loop .i) (omega arith)
+    let l = c .before .before .before in
+    let s = l .before .before .before .args in
+    sym (any-here (beside (s .table .now) (s .heading .0) (s .entry .0)) (rooms (s .table .now)) (l .loop .i) (omega arith)
     (sym (c .before .names-beside .ensures) ∙ c .if1 .taken))
 
 add-i : tie.Need-add-i Inv-loop μ-loop
@@ -39,13 +44,16 @@ loop-less c = omega arith
 
 loop-again : tie.Need-loop-again Inv-loop μ-loop
 loop-again c =
-    (any-still _ (c .before .before .before .loop .i) (sym (c .before .names-beside .ensures) ∙ c .if1 .left) (c .before .before .before .loop .inv .0), omega arith, refl)
+    let l = c .before .before .before .loop in
+    (any-still _ (l .i) (sym (c .before .names-beside .ensures) ∙ c .if1 .left) (l .inv .0), omega arith, l .inv .2)
 
 returns-2 : tie.Need-returns-2 Inv-loop μ-loop
 unfolding namedBeside
 returns-2 c =
-    let s = c .before .before .before .args in
-    sym (any-shorter (beside (s .table .now) (s .heading .0) (s .entry .0)) (rooms (s .table .now)) (c .before .loop .i) (omega arith) (c .before .loop .inv .0))
+    let l = c .before .loop in
+    let s = c .before .before .before .before .args in
+    let p = beside (s .table .now) (s .heading .0) (s .entry .0) in
+    sym (any-shorter p (rooms (s .table .now)) (l .i) (omega arith) (l .inv .0))
 
 pub is-named-beside-spec : {M : Type 1} → statement M
 is-named-beside-spec =
@@ -53,6 +61,7 @@ is-named-beside-spec =
     (tie.spec
     Inv-loop
     μ-loop
+    rooms-requires
     loop-holds
     names-beside-requires
     returns

@@ -12,15 +12,15 @@ use Rattle.effects.proofs.reading.read_text.Statement.{statement}
 use Rattle.effects.proofs.reading.read_text.Tie as tie
 
 abbrev Inv-loop : tie.InvT-loop
-Inv-loop table rooms count into₀ n at₀ p₀ into at p =
+Inv-loop table rooms into₀ n last at₀ p₀ into at p =
     Read into₀ (λ k. held (rec table (getD rooms k 0))) into at p
     × (length into ≡ length into₀)
     × (at ≤ n)
     × (n ≡ length into₀)
-    × (p ≤ count)
+    × (p ≤ last)
 
 abbrev μ-loop : tie.MeasureT-loop
-μ-loop table rooms count into₀ n at₀ p₀ into at p = count - p
+μ-loop table rooms into₀ n last at₀ p₀ into at p = last - p
 
 loop-holds : tie.Need-loop-holds Inv-loop μ-loop
 loop-holds c = (read-none _ _, refl, omega arith, refl, omega arith)
@@ -42,9 +42,12 @@ same-length c = omega arith
 
 returns : tie.Need-returns Inv-loop μ-loop
 returns c =
-    read-full _ _ _ _ _ (c .before .before .before .before .before .before .before .before .before .before .before .before .args .count)
-    (read-more _ _ _ _ _ _ _ (c .before .before .before .before .before .before .before .before .before .loop .inv .0)
-    (rw (c .before .before .before .before .before .before .room-at .ensures) at (c .before .before .before .before .before .held-at .ensures)) (c .before .before .before .copy-in .ensures))
+    let c3 = c .before .before .before in
+    let held = c3 .before .before .held-at in
+    let room = c3 .before .before .before .room-at in
+    let c9 = c3 .before .before .before .before .before .before in
+    read-full _ _ _ _ _ (c9 .before .before .before .args .count .0)
+    (read-more _ _ _ _ _ _ _ (c9 .loop .inv .0) (rw (room .ensures) at (held .ensures)) (c3 .copy-in .ensures))
     (omega arith) (omega arith)
 
 add-at : tie.Need-add-at Inv-loop μ-loop
@@ -57,21 +60,24 @@ loop-less : tie.Need-loop-less Inv-loop μ-loop
 loop-less c = omega arith
 
 loop-again : tie.Need-loop-again Inv-loop μ-loop
-loop-again c = (
-  read-more _ _ _ _ _ _ _ (c .before .before .before .before .before .before .before .before .before .loop .inv .0)
-      (rw (c .before .before .before .before .before .before .room-at .ensures) at (c .before .before .before .before .before .held-at .ensures)) (c .before .before .before .copy-in .ensures),
-  omega arith,
-  omega arith,
-  refl,
-  omega arith,
-)
+loop-again c =
+    let c3 = c .before .before .before in
+    let held = c3 .before .before .held-at in
+    let room = c3 .before .before .before .room-at in
+    let l = c3 .before .before .before .before .before .before .loop in (
+      read-more _ _ _ _ _ _ _ (l .inv .0) (rw (room .ensures) at (held .ensures)) (c3 .copy-in .ensures),
+      omega arith,
+      omega arith,
+      refl,
+      omega arith,
+    )
 
 same-length-2 : tie.Need-same-length-2 Inv-loop μ-loop
 same-length-2 c = c .before .loop .inv .1
 
 returns-2 : tie.Need-returns-2 Inv-loop μ-loop
 returns-2 c =
-    let e : c .before .loop .p ≡ c .before .before .before .before .args .count = omega arith in
+    let e : c .before .loop .p ≡ c .before .before .before .before .args .count .0 = omega arith in
     rw e at (c .before .loop .inv .0 .bytes)
 
 pub read-text-spec : {M : Type 1} → statement M

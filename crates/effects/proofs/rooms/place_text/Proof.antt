@@ -41,16 +41,23 @@ element-write-places c = search needs
 
 returns-3 : tie.Need-returns-3
 returns-3 c =
-    let s = c .before .before .before .before .before .before .before .before .before .before .args in
-    rw (text-by (s .table .now) (s .heading .0) (s .i) (c .before .before .before .before .before .before .before .if1 .left)
-    (sym (c .before .before .before .before .before .before .heading-of .ensures .0) ∙ c .before .before .before .if2 .left))
+    let c3 = c .before .before .before in
+    let c6 = c3 .before .before .before in
+    let c7 = c6 .before in
+    let c10 = c7 .before .before .before in
+    let s = c10 .args in
+    rw (text-by (s .table .now) (s .heading .0) (s .i) (c7 .if1 .left)
+    (sym (c6 .heading-of .ensures .0) ∙ c3 .if2 .left))
     (rw (← (c .before .before .position-of .ensures .0), ← (c .short .ensures)))
 
 returns-4 : tie.Need-returns-4
 returns-4 c =
-    let s = c .before .before .before .before .before .before .before .before .before .args in
-    rw (text-by (s .table .now) (s .heading .0) (s .i) (c .before .before .before .before .before .before .if1 .left)
-    (sym (c .before .before .before .before .before .heading-of .ensures .0) ∙ c .before .before .if2 .left))
+    let c5 = c .before .before .before .before .before in
+    let c6 = c5 .before in
+    let c9 = c6 .before .before .before in
+    let s = c9 .args in
+    rw (text-by (s .table .now) (s .heading .0) (s .i) (c6 .if1 .left)
+    (sym (c5 .heading-of .ensures .0) ∙ c .before .before .if2 .left))
     (sym (set-out _ _ _ (omega (arith, c .before .position-of .ensures .0))))
 
 pub place-text-spec : {M : Type 1} → statement M

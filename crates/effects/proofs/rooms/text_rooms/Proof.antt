@@ -15,11 +15,17 @@ Inv-loop table heading places₀ n i₀ places i = Placed table (heading .0) pla
 abbrev μ-loop : tie.MeasureT-loop
 μ-loop table heading places₀ n i₀ places i = i
 
+rooms-requires : tie.Need-rooms-requires Inv-loop μ-loop
+rooms-requires c κs = search needs
+
 short-requires : tie.Need-short-requires Inv-loop μ-loop
 short-requires c κs = search needs
 
 loop-holds : tie.Need-loop-holds Inv-loop μ-loop
-loop-holds c = (placed-start _ _ _ (c .before .short .ensures), omega arith, refl)
+loop-holds c =
+    let short = c .before .short in
+    let rooms = c .before .before .rooms in
+    (rw (rooms .ensures) (placed-start _ _ _ (rw (rooms .ensures) at (short .ensures))), omega arith, rooms .ensures)
 
 sub-i : tie.Need-sub-i Inv-loop μ-loop
 sub-i c = omega arith
@@ -32,8 +38,9 @@ loop-less c = omega arith
 
 loop-again : tie.Need-loop-again Inv-loop μ-loop
 loop-again c =
-    let e : c .before .before .before .loop .i ≡ c .before .before .before .loop .i - 1 + 1 = omega arith in
-    (placed-turn _ _ _ _ _ (omega arith) (rw e at (c .before .before .before .loop .inv .0)) (c .place-text .ensures), omega arith, refl)
+    let l = c .before .before .before .loop in
+    let e : l .i ≡ l .i - 1 + 1 = omega arith in
+    (placed-turn _ _ _ _ _ (omega arith) (rw e at (l .inv .0)) (c .place-text .ensures), omega arith, l .inv .2)
 
 returns : tie.Need-returns Inv-loop μ-loop
 returns c =
@@ -46,6 +53,7 @@ text-rooms-spec =
     (tie.spec
     Inv-loop
     μ-loop
+    rooms-requires
     short-requires
     loop-holds
     sub-i

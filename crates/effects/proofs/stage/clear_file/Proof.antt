@@ -14,13 +14,13 @@ use Rattle.effects.proofs.stage.clear_file.Statement.{statement}
 use Rattle.effects.proofs.stage.clear_file.Tie as tie
 
 abbrev Inv-loop : tie.InvT-loop
-Inv-loop table₀ rooms count left rest₀ p₀ table rest p =
+Inv-loop table₀ rooms left last rest₀ p₀ table rest p =
     Made table₀ table rest₀ rest (eachBelow (λ i. clear (getD rooms i 0)) p)
     × (length table ≡ length table₀)
-    × (p ≤ count)
+    × (p ≤ last)
 
 abbrev μ-loop : tie.MeasureT-loop
-μ-loop table₀ rooms count left rest₀ p₀ table rest p = count - p
+μ-loop table₀ rooms left last rest₀ p₀ table rest p = last - p
 
 put-requires : tie.Need-put-requires Inv-loop μ-loop
 put-requires c κs = search needs
@@ -55,8 +55,9 @@ same-length c = omega arith
 returns : tie.Need-returns Inv-loop μ-loop
 unfolding clearStores blank
 returns c =
-    let e : c .before .loop .p ≡ c .before .before .before .before .before .before .before .args .count = omega arith in
-    made-both _ _ _ _ _ _ _ _ (c .before .before .before .before .put .ensures) (rw e at (c .before .loop .inv .0))
+    let c4 = c .before .before .before .before in
+    let e : c .before .loop .p ≡ c4 .before .before .before .args .count .0 = omega arith in
+    made-both _ _ _ _ _ _ _ _ (c4 .put .ensures) (rw e at (c .before .loop .inv .0))
 
 pub clear-file-spec : {M : Type 1} → statement M
 clear-file-spec =

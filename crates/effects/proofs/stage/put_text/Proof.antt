@@ -24,7 +24,10 @@ same-length c = search needs
 
 returns : tie.Need-returns
 returns c =
-    rw (c .before .before .before .room-at2 .ensures, c .before .before .before .before .before .before .of-text .ensures, c .before .before .before .before .before .before .before .room-at .ensures)
+    let c3 = c .before .before .before in
+    let c6 = c3 .before .before .before in
+    let c7 = c6 .before in
+    rw (c3 .room-at2 .ensures, c6 .of-text .ensures, c7 .room-at .ensures)
     at (c .before .before .put .ensures)
 
 pub put-text-spec : {M : Type 1} → statement M

@@ -23,7 +23,7 @@ returns : tie.Need-returns
 returns c =
     let c2 = c .before .before in
     let s : List ℕ = c2 .args .s .now in
-    stretch-past s (length s) (c2 .args .from) (length s - length s) (c2 .args .most) (omega arith) (omega arith)
+    stretch-past s (length s) (c2 .args .from) (length s - length s) (c2 .args .most .0) (omega arith) (omega arith)
 
 sub-if2 : tie.Need-sub-if2
 sub-if2 c = search needs
@@ -40,7 +40,7 @@ part-result-end-2 c = search needs
 returns-2 : tie.Need-returns-2
 returns-2 c =
     let c3 = c .before .before .before in
-    stretch-whole (c3 .args .s .now) (c3 .args .from) (length (c3 .args .s .now) - c3 .args .from) (c3 .args .most) (omega arith) (omega arith)
+    stretch-whole (c3 .args .s .now) (c3 .args .from) (length (c3 .args .s .now) - c3 .args .from) (c3 .args .most .0) (omega arith) (omega arith)
 
 add-end : tie.Need-add-end
 add-end c = search needs
@@ -57,7 +57,7 @@ part-result-end-3 c = search needs
 returns-3 : tie.Need-returns-3
 returns-3 c =
     let c3 = c .before .before .before in
-    let e : c3 .args .from + c3 .args .most - c3 .args .from ≡ c3 .args .most = omega arith in rw e
+    let e : c3 .args .from + c3 .args .most .0 - c3 .args .from ≡ c3 .args .most .0 = omega arith in rw e
 
 pub part-spec : {M : Type 1} → statement M
 part-spec =

@@ -1,7 +1,7 @@
 -- A number past the last has nothing behind it, so that its place need not be computed;
 -- elsewhere the record is the stretch of 32 bytes at its place.
 use mathlib.Core.List.{List}
-use Prim.Native.Nat.{ℕ, _*_, _-_}
+use Prim.Native.Nat.{ℕ, _*_, _-_, _≤_}
 use native.Mathlib.Omega.{arith}
 use lib.ListN.{length}
 use borrow.Author.Needs.{needs}
@@ -9,6 +9,9 @@ use Rattle.paper.specs.Table.{rec}
 use Rattle.records.proofs.Stretches.{stretch-past}
 use Rattle.records.proofs.bytes.record_at.Statement.{statement}
 use Rattle.records.proofs.bytes.record_at.Tie as tie
+
+rooms-requires : tie.Need-rooms-requires
+rooms-requires c κs = search needs
 
 sub-result : tie.Need-sub-result
 sub-result c = search needs
@@ -23,11 +26,13 @@ returns : tie.Need-returns
 unfolding rec
 returns c =
     let c3 = c .before .before .before in
-    let s : List ℕ = c3 .args .table .now in
-    stretch-past s (length s) (c3 .args .room .0 * 32) (length s - length s) 32 (omega arith) (omega arith)
+    let c5 = c3 .before .before in
+    let s : List ℕ = c5 .args .table .now in
+    let past : length s ≤ c5 .args .room .0 * 32 = omega (arith, c3 .rooms .ensures) in
+    stretch-past s (length s) (c5 .args .room .0 * 32) (length s - length s) 32 (omega arith) past
 
 mul-part : tie.Need-mul-part
-mul-part c = search needs
+mul-part c = omega (arith, c .before .before .rooms .ensures)
 
 part-requires : tie.Need-part-requires
 part-requires c κs = search needs
@@ -40,6 +45,7 @@ pub record-at-spec : {M : Type 1} → statement M
 record-at-spec =
     tie.close
     (tie.spec
+    rooms-requires
     sub-result
     part-result-start
     part-result-end

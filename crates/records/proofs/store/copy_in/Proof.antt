@@ -22,8 +22,8 @@ returns c =
     let c3 = c .before .before .before in
     sym (sets-out (c3 .args .from .now) (c3 .args .into .now) (c3 .args .at) (c .if1 .taken))
 
-sub-part : tie.Need-sub-part Inv-loop μ-loop
-sub-part c = omega arith
+sub-t8 : tie.Need-sub-t8 Inv-loop μ-loop
+sub-t8 c = omega arith
 
 part-requires : tie.Need-part-requires Inv-loop μ-loop
 part-requires c κs = search needs
@@ -80,7 +80,7 @@ copy-in-spec =
     Inv-loop
     μ-loop
     returns
-    sub-part
+    sub-t8
     part-requires
     loop-holds
     shared-slice-read-into

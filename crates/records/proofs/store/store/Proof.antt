@@ -9,14 +9,21 @@ use Rattle.records.proofs.Copies.{sets-out}
 use Rattle.records.proofs.store.store.Statement.{statement}
 use Rattle.records.proofs.store.store.Tie as tie
 
+rooms-requires : tie.Need-rooms-requires
+rooms-requires c κs = search needs
+
+same-length : tie.Need-same-length
+same-length c = search needs
+
 returns : tie.Need-returns
 unfolding lay
 returns c =
     let c2 = c .before .before in
-    sym (sets-out (c2 .args .t3) (c2 .args .table .now) (c2 .args .room .0 * 32) (omega arith))
+    let a = c2 .before .before .before .args in
+    sym (sets-out (a .t3) (a .table .now) (a .room .0 * 32) (omega (arith, c2 .rooms .ensures)))
 
 mul-copy-in : tie.Need-mul-copy-in
-mul-copy-in c = search needs
+mul-copy-in c = omega (arith, c .before .before .before .rooms .ensures)
 
 slice-aggregate-copy-in : tie.Need-slice-aggregate-copy-in
 slice-aggregate-copy-in c = search needs
@@ -24,8 +31,8 @@ slice-aggregate-copy-in c = search needs
 copy-in-requires : tie.Need-copy-in-requires
 copy-in-requires c κs = search needs
 
-same-length : tie.Need-same-length
-same-length c = search needs
+same-length-2 : tie.Need-same-length-2
+same-length-2 c = search needs
 
 returns-2 : tie.Need-returns-2
 unfolding lay
@@ -34,4 +41,12 @@ returns-2 c = c .before .before .copy-in .ensures
 pub store-spec : {M : Type 1} → statement M
 store-spec =
     tie.close
-    (tie.spec returns mul-copy-in slice-aggregate-copy-in copy-in-requires same-length returns-2)
+    (tie.spec
+    rooms-requires
+    same-length
+    returns
+    mul-copy-in
+    slice-aggregate-copy-in
+    copy-in-requires
+    same-length-2
+    returns-2)
