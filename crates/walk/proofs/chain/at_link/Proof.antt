@@ -1,5 +1,5 @@
 -- Each kind of step is one case of `linked`.
--- Assumes nothing.
+-- A step on hands the state on, a step off its number with the link.
 use borrow.Author.Needs.{needs}
 use Rattle.walk.proofs.chain.at_link.Statement.{statement}
 use Rattle.walk.proofs.chain.at_link.Tie as tie

@@ -1,5 +1,5 @@
 -- The name is the cut of the line, the step that follows it is the paper's, and its number goes with the link.
--- Assumes nothing.
+-- So what is done at a link is what the definition does there.
 use mathlib.Core.Path.{_∙_}
 use borrow.Author.Needs.{needs}
 use Rattle.paper.specs.Walk.{follow}

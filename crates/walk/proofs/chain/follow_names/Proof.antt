@@ -50,31 +50,49 @@ enum-told-2 c = search needs
 
 returns-2 : tie.Need-returns-2 Inv-loop μ-loop
 returns-2 c =
-    let a = c .before .before .before .before .before .before .before .before .before .before .args in
-    let l = c .before .before .before .before .before .before .before .loop in
-    let n = next-there (a .line .now) (l .i) _ (sym (c .before .before .before .before .before .before .next-name .ensures) ∙ c .before .before .before .before .q .given .1) in
+    let c4 = c .before .before .before .before in
+    let c6 = c4 .before .before in
+    let c7 = c6 .before in
+    let c10 = c7 .before .before .before in
+    let a = c10 .args in
+    let l = c7 .loop in
+    let n = next-there (a .line .now) (l .i) _ (sym (c6 .next-name .ensures) ∙ c4 .q .given .1) in
     let w = c .before .before .follow-name in
-    rw (← l .inv .0, names-more (a .line .now) (l .i) (n .0)) (walk-off (a .table .now) (l .k) (l .state) (a .line .now) _ _ (w .result) (w .ensures) _ _ (c .enum-told2 .given .1))
+    rw (← l .inv .0, names-more (a .line .now) (l .i) (n .0))
+    (walk-off (a .table .now) (l .k) (l .state) (a .line .now) _ _ (w .result) (w .ensures) _ _ (c .enum-told2 .given .1))
 
 add-k : tie.Need-add-k Inv-loop μ-loop
 add-k c =
-    let line = c .before .before .before .before .before .before .before .before .before .before .before .args .line .now in
-    let n = next-on line (c .before .before .before .before .before .before .before .before .loop .i) _ (sym (c .before .before .before .before .before .before .before .next-name .ensures) ∙ c .before .before .before .before .before .q .given .1) in
+    let c5 = c .before .before .before .before .before in
+    let c7 = c5 .before .before in
+    let c8 = c7 .before in
+    let c11 = c8 .before .before .before in
+    let line = c11 .args .line .now in
+    let n = next-on line (c8 .loop .i) _ (sym (c7 .next-name .ensures) ∙ c5 .q .given .1) in
     record { fits = omega arith }
 
 loop-less : tie.Need-loop-less Inv-loop μ-loop
 loop-less c =
-    let line = c .before .before .before .before .before .before .before .before .before .before .before .args .line .now in
-    let n = next-on line (c .before .before .before .before .before .before .before .before .loop .i) _ (sym (c .before .before .before .before .before .before .before .next-name .ensures) ∙ c .before .before .before .before .before .q .given .1) in
+    let c5 = c .before .before .before .before .before in
+    let c7 = c5 .before .before in
+    let c8 = c7 .before in
+    let c11 = c8 .before .before .before in
+    let line = c11 .args .line .now in
+    let n = next-on line (c8 .loop .i) _ (sym (c7 .next-name .ensures) ∙ c5 .q .given .1) in
     omega arith
 
 loop-again : tie.Need-loop-again Inv-loop μ-loop
 loop-again c =
-    let a = c .before .before .before .before .before .before .before .before .before .before .before .args in
-    let l = c .before .before .before .before .before .before .before .before .loop in
-    let e = sym (c .before .before .before .before .before .before .before .next-name .ensures) ∙ c .before .before .before .before .before .q .given .1 in
+    let c3 = c .before .before .before in
+    let c5 = c3 .before .before in
+    let c7 = c5 .before .before in
+    let c8 = c7 .before in
+    let c11 = c8 .before .before .before in
+    let a = c11 .args in
+    let l = c8 .loop in
+    let e = sym (c7 .next-name .ensures) ∙ c5 .q .given .1 in
     let n = next-there (a .line .now) (l .i) _ e in
-    let w = c .before .before .before .follow-name in
+    let w = c3 .follow-name in
     let s = c .before .walked .given in
     let turn = walk-on (a .table .now) (l .k) (l .state) (a .line .now) _ _ (w .result) (w .ensures) (s .0 .0) (s .1) in
     (rw (n .1) (turn ∙ (rw (← names-more (a .line .now) (l .i) (n .0)) (l .inv .0))), omega (arith, next-on (a .line .now) (l .i) _ e))

@@ -1,6 +1,6 @@
 -- The last name of what is left is the last of the chain: a word of one name ends it, and the supplied `.W` is never the last.
 -- The measure is what is left of the line, in which every joining colon stands.
-use mathlib.Core.Path.{_≡_, refl, sym, _∙_}
+use mathlib.Core.Path.{_≡_, sym, _∙_}
 use Prim.Native.Nat.{_-_}
 use native.Mathlib.Omega.{arith}
 use lib.ListN.{length}
@@ -43,8 +43,11 @@ returns c =
 
 loop-less : tie.Need-loop-less Inv-loop μ-loop
 loop-less c =
-    let line = c .before .before .before .before .before .before .args .line .now in
-    let n = next-on line (c .before .before .before .before .loop .i) _ (sym (c .before .before .before .next-name .ensures) ∙ c .before .q .given .1) in
+    let c3 = c .before .before .before in
+    let c4 = c3 .before in
+    let c6 = c4 .before .before in
+    let line = c6 .args .line .now in
+    let n = next-on line (c4 .loop .i) _ (sym (c3 .next-name .ensures) ∙ c .before .q .given .1) in
     omega arith
 
 loop-again : tie.Need-loop-again Inv-loop μ-loop

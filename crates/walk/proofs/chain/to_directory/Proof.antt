@@ -42,22 +42,36 @@ enum-told c = search needs
 
 returns-2 : tie.Need-returns-2
 returns-2 c =
-    let a = c .before .before .before .before .before .before .before .before .before .before .args in
-    let e = rw (c .before .before .before .before .before .before .is-pointed .ensures, c .before .before .before .before .before .before .before .name .ensures) at (c .before .before .before .before .before .if1 .left) in
+    let c3 = c .before .before .before in
+    let c5 = c3 .before .before in
+    let c6 = c5 .before in
+    let c7 = c6 .before in
+    let c10 = c7 .before .before .before in
+    let a = c10 .args in
+    let e = rw (c6 .is-pointed .ensures, c7 .name .ensures) at (c5 .if1 .left) in
     let w = c .before .before .at-link in
     rw (chain-bare (a .line .now) (a .p) e)
-    (walk-off (a .table .now) 1 (a .start) (a .line .now) (a .p) dotW (w .result) (w .ensures ∙ link-shown _ _ (follow (a .table .now) (meant (a .start)) dotW) (c .before .before .before .follow .ensures)) _ _ (c .enum-told .given .1))
+    (walk-off (a .table .now) 1 (a .start) (a .line .now) (a .p) dotW (w .result)
+    (w .ensures ∙ link-shown _ _ (follow (a .table .now) (meant (a .start)) dotW) (c3 .follow .ensures)) _ _ (c .enum-told .given .1))
 
 follow-names-requires-2 : tie.Need-follow-names-requires-2
 follow-names-requires-2 c κs = search needs
 
 returns-3 : tie.Need-returns-3
 returns-3 c =
-    let a = c .before .before .before .before .before .before .before .before .before .before .before .before .args in
-    let e = rw (c .before .before .before .before .before .before .before .before .is-pointed .ensures, c .before .before .before .before .before .before .before .before .before .name .ensures) at (c .before .before .before .before .before .before .before .if1 .left) in
-    let l = c .before .before .before .before .at-link in
+    let c4 = c .before .before .before .before in
+    let c5 = c4 .before in
+    let c7 = c5 .before .before in
+    let c8 = c7 .before in
+    let c9 = c8 .before in
+    let c12 = c9 .before .before .before in
+    let a = c12 .args in
+    let e = rw (c8 .is-pointed .ensures, c9 .name .ensures) at (c7 .if1 .left) in
+    let l = c4 .at-link in
     let s = c .before .before .walked .given in
-    let w = walk-on (a .table .now) 1 (a .start) (a .line .now) (a .p) dotW (l .result) (l .ensures ∙ link-shown _ _ (follow (a .table .now) (meant (a .start)) dotW) (c .before .before .before .before .before .follow .ensures)) (s .0 .0) (s .1) in
+    let f = follow (a .table .now) (meant (a .start)) dotW in
+    let shown = l .ensures ∙ link-shown _ _ f (c5 .follow .ensures) in
+    let w = walk-on (a .table .now) 1 (a .start) (a .line .now) (a .p) dotW (l .result) shown (s .0 .0) (s .1) in
     rw (chain-bare (a .line .now) (a .p) e, ← w) (c .follow-names2 .ensures)
 
 pub to-directory-spec : {M : Type 1} → statement M

@@ -1,5 +1,5 @@
 -- The last name is the chain's, and is looked up as its last link.
--- Assumes nothing.
+-- Its number goes with the count of the links.
 use mathlib.Core.Path.{_∙_}
 use borrow.Author.Needs.{needs}
 use Rattle.paper.specs.Walk.{look}

@@ -19,7 +19,9 @@ joined-requires c κs = search needs
 
 returns : tie.Need-returns
 unfolding applies
-returns c = rw (c .joined .ensures, c .before .entry-code .ensures, c .before .before .heading-code .ensures, c .before .before .before .heading-named .ensures .0)
+returns c =
+    let c3 = c .before .before .before in
+    rw (c .joined .ensures, c .before .entry-code .ensures, c .before .before .heading-code .ensures, c3 .heading-named .ensures .0)
 
 pub applies-spec : {M : Type 1} → statement M
 applies-spec = tie.close (tie.spec heading-named-requires heading-code-requires entry-code-requires joined-requires returns)

@@ -22,15 +22,23 @@ inhibits-read-requires c κs = search needs
 
 returns-2 : tie.Need-returns-2
 returns-2 c =
-    let a = c .before .before .before .before .before .before .before .before .args in
-    let h = c .before .before .before .before .heading-named in
-    enter-shut (a .table .now) (a .self) (h .result) (h .ensures .0) (rw (c .before .before .before .is-directory .ensures) at (c .before .before .if1 .left)) (rw (c .before .inhibits-read .ensures) at (c .if2 .taken))
+    let c3 = c .before .before .before in
+    let c4 = c3 .before in
+    let c8 = c4 .before .before .before .before in
+    let a = c8 .args in
+    let h = c4 .heading-named in
+    enter-shut (a .table .now) (a .self) (h .result) (h .ensures .0)
+    (rw (c3 .is-directory .ensures) at (c .before .before .if1 .left)) (rw (c .before .inhibits-read .ensures) at (c .if2 .taken))
 
 returns-3 : tie.Need-returns-3
 returns-3 c =
-    let a = c .before .before .before .before .before .before .before .before .args in
-    let h = c .before .before .before .before .heading-named in
-    enter-open (a .table .now) (a .self) (h .result) (h .ensures .0) (rw (c .before .before .before .is-directory .ensures) at (c .before .before .if1 .left)) (rw (c .before .inhibits-read .ensures) at (c .if2 .left))
+    let c3 = c .before .before .before in
+    let c4 = c3 .before in
+    let c8 = c4 .before .before .before .before in
+    let a = c8 .args in
+    let h = c4 .heading-named in
+    enter-open (a .table .now) (a .self) (h .result) (h .ensures .0)
+    (rw (c3 .is-directory .ensures) at (c .before .before .if1 .left)) (rw (c .before .inhibits-read .ensures) at (c .if2 .left))
 
 pub enter-spec : {M : Type 1} → statement M
 enter-spec =

@@ -25,9 +25,11 @@ applies-requires c κs = search needs
 
 returns-2 : tie.Need-returns-2
 returns-2 c =
-    let a = c .before .before .before .before .before .before .before .before .args in
+    let c4 = c .before .before .before .before in
+    let c8 = c4 .before .before .before .before in
+    let a = c8 .args in
     let f = c .before .before .found .given in
-    look-found (a .table .now) (a .self) (a .name .now) (f .0 .0) (c .applies .result) (sym (c .before .before .before .before .find .ensures) ∙ f .1) (c .applies .ensures)
+    look-found (a .table .now) (a .self) (a .name .now) (f .0 .0) (c .applies .result) (sym (c4 .find .ensures) ∙ f .1) (c .applies .ensures)
 
 pub look-spec : {M : Type 1} → statement M
 look-spec =
