@@ -11,7 +11,9 @@ use borrow.Author.Tests.{leb-true, not-false}
 use Rattle.paper.specs.Name.{lonePoint}
 use Rattle.paper.specs.Line.{Word, words, word, legalLine}
 use Rattle.paper.specs.Check.{Check, Verdict, passed, refused, verdict}
-use Rattle.paper.specs.Request.{Request, del, Read, request, unread, readAs, counted, miscounted, malformed, illegal, each, between, misnamed, readCrd, readWrs, readRds, readLst, readCpy, readDup, readChn, readDpr, readDel, isFunction, readFunction, read}
+use Rattle.paper.specs.Declaration.{Part, wrsLifetime, dprCode}
+use Rattle.paper.specs.Declaration as part
+use Rattle.paper.specs.Request.{Request, del, Read, request, unread, after, needed, readAs, counted, miscounted, malformed, illegal, each, between, misnamed, declaredAt, readCrd, readWrs, readRds, readLst, readCpy, readDup, readChn, readDpr, readDel, isFunction, readFunction, read}
 use Rattle.laws.proofs.Tests.{and-right, either, clash}
 use Rattle.laws.proofs.Lists.{Every, every-append}
 use Rattle.reader.specs.Asked.{shownRead, shownRefusal}
@@ -34,12 +36,16 @@ unfolding verdict
 verdict-near [] h = tt
 verdict-near (c ∷ cs) h = either NearVerdict (c .when) (refused (c .refusal)) (verdict cs) (h .0) (verdict-near cs (h .1))
 
-read-near : (r : Request) (v : Verdict) → NearVerdict v → Near (readAs r v)
-read-near r passed h = tt
-read-near r (refused f) h = h
+read-near : (x : Read) (v : Verdict) → NearVerdict v → Near x → Near (after v x)
+read-near x passed h n = n
+read-near x (refused f) h n = h
 
 near-as : (r : Request) (cs : List Check) → Every NearCheck cs → Near (readAs r (verdict cs))
-near-as r cs h = read-near r (verdict cs) (verdict-near cs h)
+near-as r cs h = read-near (request r) (verdict cs) (verdict-near cs h) tt
+
+near-needed : (place : ℕ) (p : Part) (r : ℕ → Request) → place ≤ 8 → Near (needed place p r)
+near-needed place (part.given n) r l = tt
+near-needed place part.notGiven r l = l
 
 -- a check for each of some words
 each-near : (f : ℕ → Word → Check) → ((p : ℕ) (w : Word) → f p w .refusal .place ≡ p) → (p : ℕ) (ws : List Word) → p + length ws ≤ 9 → Every NearCheck (each f p ws)
@@ -60,13 +66,20 @@ module _ (line : List ℕ) where
       → Near (readAs r (verdict (miscounted least most line ∷ misnamed a b line ++ cs)))
   near-names r least most a b cs l h = near-as r _ (omega arith, every-append NearCheck (misnamed a b line) cs (misnamed-near a b line l) h)
 
+  -- the count and the names, and what is read after them
+  near-after : (x : Read) (least most a b : ℕ) → a + (b - a) ≤ 9 → Near x
+      → Near (after (verdict (miscounted least most line ∷ misnamed a b line)) x)
+  near-after x least most a b l n =
+      let cs = miscounted least most line ∷ misnamed a b line in
+      read-near x (verdict cs) (verdict-near cs (omega arith, misnamed-near a b line l)) n
+
   near-crd : Near (readCrd line)
   unfolding readCrd
   near-crd = near-names _ 1 2 1 2 _ (omega arith) (omega arith, tt)
 
   near-wrs : Near (readWrs line)
   unfolding readWrs
-  near-wrs = near-names _ 2 2 2 3 _ (omega arith) (omega arith, tt)
+  near-wrs = near-after _ 2 2 2 3 (omega arith) (near-needed 1 (wrsLifetime (declaredAt line 1)) _ (omega arith))
 
   near-rds : Near (readRds line)
   unfolding readRds
@@ -92,7 +105,7 @@ module _ (line : List ℕ) where
 
   near-dpr : Near (readDpr line)
   unfolding readDpr
-  near-dpr = near-names _ 2 2 1 2 _ (omega arith) (omega arith, tt)
+  near-dpr = near-after _ 2 2 1 2 (omega arith) (near-needed 2 (dprCode (declaredAt line 2)) _ (omega arith))
 
   -- "DEL 1 to 8 names"
   few-words : counted 1 8 line ≡ true → length (words line) - 1 ≤ 8

@@ -104,6 +104,11 @@ abbrev pub fits : (Parts → Bool) → Declared → Bool
 fits test (right p) = test p
 fits test wrong = false
 
+-- a part of a declaration that fits
+abbrev pub taking : (Parts → Bool) → (Parts → Part) → Declared → Part
+taking test part (right p) = cond (test p) (part p) notGiven
+taking test part wrong = notGiven
+
 -- "M or L"
 abbrev pub mediumOrLong : Part → Bool
 mediumOrLong (given n) = leb 1 n
@@ -117,6 +122,9 @@ fitCrd p = not (isGiven (p .type)) && not (isGiven (p .lifetime))
 abbrev pub fitWrs : Parts → Bool
 fitWrs p = not (isGiven (p .type)) && mediumOrLong (p .lifetime)
 
+abbrev pub wrsLifetime : Declared → Part
+wrsLifetime = taking fitWrs (λ p. p .lifetime)
+
 -- "CPY may have M or L"
 abbrev pub fitCpy : Parts → Bool
 fitCpy p = not (isGiven (p .type)) && (not (isGiven (p .lifetime)) || mediumOrLong (p .lifetime))
@@ -126,5 +134,5 @@ abbrev pub fitDup : Parts → Bool
 fitDup p = not (isGiven (p .type)) && (not (isGiven (p .lifetime)) && not (isGiven (p .level)))
 
 -- "DPR needs a digit and allows nothing else."
-abbrev pub fitDpr : Parts → Bool
-fitDpr p = fitDup p && isGiven (p .code)
+abbrev pub dprCode : Declared → Part
+dprCode = taking fitDup (λ p. p .code)

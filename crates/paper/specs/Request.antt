@@ -1,11 +1,11 @@
 -- "The first word is the function." Reading a line: the request, or number 4 to 9, and 10 for its text.
-use mathlib.Core.Bool.{Bool, true, false, _&&_, not, cond}
+use mathlib.Core.Bool.{Bool, false, _&&_, not, cond}
 use mathlib.Core.List.{List, [], _∷_, _++_}
 use Prim.Native.Nat.{ℕ, suc, _+_, _-_}
 use lib.Dec.{eqb, leb, ltb}
 use lib.ListN.{length, getD, take, drop}
-use Rattle.paper.specs.Name.{linkName, linkNames, pointed, chain, alone, dash, lonePoint, wellFormed, legalBase, baseName}
-use Rattle.paper.specs.Declaration.{Part, orElse, Parts, Declared, right, nothing, declared, partsOf, fits, fitCrd, fitWrs, fitCpy, fitDup, fitDpr}
+use Rattle.paper.specs.Name.{linkName, pointed, chain, alone, dash, lonePoint, wellFormed, legalBase, baseName}
+use Rattle.paper.specs.Declaration.{Part, given, notGiven, Parts, Declared, right, nothing, declared, partsOf, fits, fitCrd, fitCpy, fitDup, wrsLifetime, dprCode}
 use Rattle.paper.specs.Line.{Word, words, word, legalLine}
 use Rattle.paper.specs.Check.{Refusal, Check, check, Verdict, passed, refused, verdict}
 
@@ -26,9 +26,13 @@ pub data Read : Type 0 where
   request : Request → Read
   unread : Refusal → Read
 
+-- what is read after checks: the refusal of the first that refuses comes before it
+abbrev pub after : Verdict → Read → Read
+after passed x = x
+after (refused f) x = unread f
+
 abbrev pub readAs : Request → Verdict → Read
-readAs r passed = request r
-readAs r (refused f) = unread f
+readAs r v = after v (request r)
 
 -- 6: the line has from least to most arguments
 unfoldable pub counted : ℕ → ℕ → List ℕ → Bool
@@ -83,6 +87,11 @@ declaredAt line k = cond (ltb k (length (words line))) (declared (word line k .n
 abbrev pub partsAt : List ℕ → ℕ → Parts
 partsAt line k = partsOf (declaredAt line k)
 
+-- the request with the number of a part that it needs, or 9 for the declaration at this place
+abbrev pub needed : ℕ → Part → (ℕ → Request) → Read
+needed place (given n) r = request (r n)
+needed place notGiven r = unread (record { number = 9; place = place; link = 0 })
+
 -- "CRD name [decl]"
 unfoldable pub readCrd : List ℕ → Read
 readCrd line =
@@ -92,8 +101,8 @@ readCrd line =
 -- "WRS decl name"
 unfoldable pub readWrs : List ℕ → Read
 readWrs line =
-    readAs (wrs (orElse (partsAt line 1 .lifetime) 1) (partsAt line 1 .level) (partsAt line 1 .code) (word line 2))
-    (verdict (miscounted 2 2 line ∷ misnamed 2 3 line ++ unfit 1 (fits fitWrs (declaredAt line 1)) ∷ []))
+    after (verdict (miscounted 2 2 line ∷ misnamed 2 3 line))
+    (needed 1 (wrsLifetime (declaredAt line 1)) (λ lifetime. wrs lifetime (partsAt line 1 .level) (partsAt line 1 .code) (word line 2)))
 
 -- "RDS, LST name"
 unfoldable pub readRds : List ℕ → Read
@@ -144,8 +153,7 @@ readChn line =
 -- "DPR name decl"
 unfoldable pub readDpr : List ℕ → Read
 readDpr line =
-    readAs (dpr (word line 1) (orElse (partsAt line 2 .code) 0))
-    (verdict (miscounted 2 2 line ∷ misnamed 1 2 line ++ unfit 2 (fits fitDpr (declaredAt line 2)) ∷ []))
+    after (verdict (miscounted 2 2 line ∷ misnamed 1 2 line)) (needed 2 (dprCode (declaredAt line 2)) (λ code. dpr (word line 1) code))
 
 -- "DEL 1 to 8 names"
 unfoldable pub readDel : List ℕ → Read

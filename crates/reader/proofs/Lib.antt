@@ -1,4 +1,3 @@
-pub mod Declarations
 pub mod Verdicts
 pub mod Functions
 pub mod Ties

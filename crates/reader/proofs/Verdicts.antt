@@ -9,24 +9,24 @@ use native.Mathlib.Numerals.{add-one}
 use lib.ListN.{length, drop-of-length-le}
 use lib.Seq.{drop-cons, take-nil}
 use Rattle.paper.specs.Line.{Word, words, word}
-use Rattle.paper.specs.Declaration.{Parts, Declared, partsOf, fits}
+use Rattle.paper.specs.Declaration.{Part, given, notGiven, Parts, Declared, partsOf, fits}
 use Rattle.paper.specs.Check as paper
 use Rattle.paper.specs.Check.{Check, passed, refused, verdict}
 use Rattle.paper.specs.Request as asked
-use Rattle.paper.specs.Request.{readAs, unfit, each, between}
-use Rattle.words.specs.Place.{namesFrom}
+use Rattle.paper.specs.Request.{after, needed, readAs, unfit, each, between}
+use Rattle.words.specs.Place.{wordAt}
 use Rattle.laws.proofs.Tests.{clash}
 use Rattle.words.proofs.Words.{word-here}
-use Rattle.reader.specs.Given.{shownParts, shownDeclared, taken}
+use Rattle.declarations.specs.Given.{shownParts, shownDeclared, taken}
 use Rattle.reader.specs.Asked.{shownRefusal, firstOf, shownVerdict, shownRequest, shownRead}
 use Rattle.reader.specs.declared.request.Refusal.{Refusal}
 use Rattle.reader.specs.declared.request.Verdict.{Verdict}
 use Rattle.reader.specs.declared.request.Verdict.the-variants.{Passed, Refused}
 use Rattle.reader.specs.declared.request.Read.the-variants as answers
-use Rattle.reader.specs.declared.declaration.Parts as rust
-use Rattle.reader.specs.declared.declaration.Declaration.{Declaration}
-use Rattle.reader.specs.declared.declaration.Declaration.the-variants.{Right, Wrong}
-use Rattle.reader.proofs.Declarations.{fits-not, fits-taken}
+use Rattle.declarations.specs.declared.declaration.Parts as rust
+use Rattle.declarations.specs.declared.declaration.Declaration.{Declaration}
+use Rattle.declarations.specs.declared.declaration.Declaration.the-variants.{Right, Wrong}
+use Rattle.declarations.proofs.Parts.{fits-not, fits-taken}
 
 -- a check alone
 pub check-holds : (c : Check) → c .when ≡ true → shownVerdict (verdict (c ∷ [])) ≡ Refused (shownRefusal (c .refusal))
@@ -43,17 +43,20 @@ unfolding verdict
 verdict-passed [] ds e = refl
 verdict-passed (c ∷ cs) ds e = go (c .when) (verdict-passed cs ds) e
   where
-    go : (b : Bool) → (shownVerdict (verdict cs) ≡ Passed → verdict (cs ++ ds) ≡ verdict ds) → shownVerdict (cond b (refused (c .refusal)) (verdict cs)) ≡ Passed
+    go : (b : Bool) → (shownVerdict (verdict cs) ≡ Passed → verdict (cs ++ ds) ≡ verdict ds)
+        → shownVerdict (cond b (refused (c .refusal)) (verdict cs)) ≡ Passed
         → cond b (refused (c .refusal)) (verdict (cs ++ ds)) ≡ verdict ds
-    go true h f = let z : _≡_ {A = ℕ} 0 1 = cc in clash z
+    go true h f = clash (cc)
     go false h f = h f
 
-pub verdict-refused : (cs ds : List Check) (g : Refusal) → shownVerdict (verdict cs) ≡ Refused g → shownVerdict (verdict (cs ++ ds)) ≡ Refused g
+pub verdict-refused : (cs ds : List Check) (g : Refusal) → shownVerdict (verdict cs) ≡ Refused g
+    → shownVerdict (verdict (cs ++ ds)) ≡ Refused g
 unfolding verdict
-verdict-refused [] ds g e = let z : _≡_ {A = ℕ} 0 1 = cc in clash z
+verdict-refused [] ds g e = clash (cc)
 verdict-refused (c ∷ cs) ds g e = go (c .when) (verdict-refused cs ds g) e
   where
-    go : (b : Bool) → (shownVerdict (verdict cs) ≡ Refused g → shownVerdict (verdict (cs ++ ds)) ≡ Refused g) → shownVerdict (cond b (refused (c .refusal)) (verdict cs)) ≡ Refused g
+    go : (b : Bool) → (shownVerdict (verdict cs) ≡ Refused g → shownVerdict (verdict (cs ++ ds)) ≡ Refused g)
+        → shownVerdict (cond b (refused (c .refusal)) (verdict cs)) ≡ Refused g
         → shownVerdict (cond b (refused (c .refusal)) (verdict (cs ++ ds))) ≡ Refused g
     go true h f = f
     go false h f = h f
@@ -65,34 +68,49 @@ verdict-then cs ds = go (verdict cs) refl
     go passed e = rw (verdict-passed cs ds (ap shownVerdict e))
     go (refused f) e = sym (verdict-refused cs ds (shownRefusal f) (ap shownVerdict e))
 
--- what a verdict v on the checks says of the reading
-pub read-passed : (r : asked.Request) (cs : List Check) (v : Verdict) → v ≡ shownVerdict (verdict cs) → v ≡ Passed → shownRead (readAs r (verdict cs)) ≡ answers.Granted (shownRequest r)
-read-passed r cs v a b = go (verdict cs) (sym a ∙ b)
-  where
-    go : (u : paper.Verdict) → shownVerdict u ≡ Passed → shownRead (readAs r u) ≡ answers.Granted (shownRequest r)
-    go passed e = refl
-    go (refused f) e = let z : _≡_ {A = ℕ} 0 1 = cc in clash z
+-- what a verdict v on the checks says of the reading x after them
+module _ (x : asked.Read) (cs : List Check) (v : Verdict) (a : v ≡ shownVerdict (verdict cs)) where
+  pub read-passed : v ≡ Passed → shownRead (after (verdict cs) x) ≡ shownRead x
+  read-passed b = go (verdict cs) (sym a ∙ b)
+    where
+      go : (u : paper.Verdict) → shownVerdict u ≡ Passed → shownRead (after u x) ≡ shownRead x
+      go passed e = refl
+      go (refused f) e = clash (cc)
 
-pub read-refused : (r : asked.Request) (cs : List Check) (v : Verdict) (g : Refusal) → v ≡ shownVerdict (verdict cs) → v ≡ Refused g → shownRead (readAs r (verdict cs)) ≡ answers.Refused g
-read-refused r cs v g a b = go (verdict cs) (sym a ∙ b)
-  where
-    go : (u : paper.Verdict) → shownVerdict u ≡ Refused g → shownRead (readAs r u) ≡ answers.Refused g
-    go passed e = let z : _≡_ {A = ℕ} 0 1 = cc in clash z
-    go (refused f) e = cc
+  pub read-refused : (g : Refusal) → v ≡ Refused g → shownRead (after (verdict cs) x) ≡ answers.Refused g
+  read-refused g b = go (verdict cs) (sym a ∙ b)
+    where
+      go : (u : paper.Verdict) → shownVerdict u ≡ Refused g → shownRead (after u x) ≡ answers.Refused g
+      go passed e = clash (cc)
+      go (refused f) e = cc
+
+-- a part that is needed
+pub needed-given : (place : ℕ) (p : Part) (r : ℕ → asked.Request) (n : ℕ) → p ≡ given n
+    → shownRead (needed place p r) ≡ answers.Granted (shownRequest (r n))
+needed-given place p r n e = rw e
+
+pub needed-none : (place : ℕ) (p : Part) (r : ℕ → asked.Request) → p ≡ notGiven
+    → shownRead (needed place p r) ≡ answers.Refused (record { number = 9; place = place; link = 0 })
+needed-none place p r e = rw e
 
 -- checks with the verdict v, then the declaration d at this place, shown as e, of which the function takes t
-module _ (r : asked.Request) (cs : List Check) (place : ℕ) (test : Parts → Bool) (d : Declared) (v : Verdict) (a : v ≡ shownVerdict (verdict cs)) where
+module _ (r : asked.Request) (cs : List Check) (place : ℕ) (test : Parts → Bool) (d : Declared) (v : Verdict)
+    (a : v ≡ shownVerdict (verdict cs)) where
   pub form-refused : (g : Refusal) → v ≡ Refused g → shownRead (readAs r (verdict (cs ++ unfit place (fits test d) ∷ []))) ≡ answers.Refused g
-  form-refused g b = read-refused r (cs ++ unfit place (fits test d) ∷ []) (Refused g) g (sym (verdict-refused cs (unfit place (fits test d) ∷ []) g (sym a ∙ b))) refl
+  form-refused g b =
+      let ds = unfit place (fits test d) ∷ [] in
+      read-refused (asked.request r) (cs ++ ds) (Refused g) (sym (verdict-refused cs ds g (sym a ∙ b))) g refl
 
   module _ (passes : v ≡ Passed) (e t : Declaration) (shown : e ≡ shownDeclared d) (takes : t ≡ taken test e) where
-    pub form-unfit : t ≡ Wrong → shownRead (readAs r (verdict (cs ++ unfit place (fits test d) ∷ []))) ≡ answers.Refused (record { number = 9; place = place; link = 0 })
+    pub form-unfit : t ≡ Wrong
+        → shownRead (readAs r (verdict (cs ++ unfit place (fits test d) ∷ []))) ≡ answers.Refused (record { number = 9; place = place; link = 0 })
     unfolding verdict
     form-unfit h =
         rw (verdict-passed cs (unfit place (fits test d) ∷ []) (sym a ∙ passes), fits-not test d (sym (rw shown at takes) ∙ h))
 
     pub form-fit : (q : rust.Parts) → t ≡ Right q
-        → (shownRead (readAs r (verdict (cs ++ unfit place (fits test d) ∷ []))) ≡ answers.Granted (shownRequest r)) × (q ≡ shownParts (partsOf d))
+        → (shownRead (readAs r (verdict (cs ++ unfit place (fits test d) ∷ []))) ≡ answers.Granted (shownRequest r))
+        × (q ≡ shownParts (partsOf d))
     unfolding verdict
     form-fit q h =
         let u = fits-taken test d q (sym (rw shown at takes) ∙ h) in
@@ -100,12 +118,13 @@ module _ (r : asked.Request) (cs : List Check) (place : ℕ) (test : Parts → B
 
 -- a check of word k, which is found by its place
 pub at-word : (check : Word → Check) (line : List ℕ) (k p : ℕ) (v : Verdict) → p ≡ word line k .start
-    → v ≡ shownVerdict (verdict (check (record { start = p; names = namesFrom line p }) ∷ [])) → v ≡ shownVerdict (verdict (check (word line k) ∷ []))
+    → v ≡ shownVerdict (verdict (check (wordAt line p) ∷ [])) → v ≡ shownVerdict (verdict (check (word line k) ∷ []))
 at-word check line k p v e h = subst (λ (w : Word). v ≡ shownVerdict (verdict (check w ∷ []))) (word-here line k p e) h
 
 -- a check for each word of a range, one word at a time
 module _ (check : ℕ → Word → Check) (line : List ℕ) (a b : ℕ) where
-  each-more : a < b → a < length (words line) → each check a (between a b line) ≡ (check a (word line a) ∷ []) ++ each check (a + 1) (between (a + 1) b line)
+  each-more : a < b → a < length (words line)
+      → each check a (between a b line) ≡ (check a (word line a) ∷ []) ++ each check (a + 1) (between (a + 1) b line)
   unfolding each between word
   each-more l h =
       let z : b - a ≡ suc (b - suc a) = omega arith in

@@ -1,13 +1,17 @@
 -- The request, the refusal and the answer of the reader, for the paper's. A name stands by the place where its word starts.
+use mathlib.Core.Bool.{cond}
 use mathlib.Core.List.{List, [], _∷_}
 use Prim.Native.Nat.{ℕ}
 use lib.ListN.{length}
 use Rattle.paper.specs.Line.{Word}
+use Rattle.paper.specs.Name.{alone}
 use Rattle.paper.specs.Check as paper
 use Rattle.paper.specs.Check.{Check, passed, refused}
-use Rattle.paper.specs.Request.{malformed, illegal, crd, wrs, rds, cpy, dup, chn, del, dpr, lst, lstBase, request, unread}
+use Rattle.paper.specs.Request.{malformed, illegal, readCrd, readWrs, readRds, readLst, readCpy, readDup, readChn, readDpr, readDel, crd, wrs, rds, cpy, dup, chn, del, dpr, lst, lstBase, request, unread}
 use Rattle.paper.specs.Request as asked
-use Rattle.reader.specs.Given.{shownLifetime, shownLevel, shownDigit}
+use Rattle.declarations.specs.Given.{shownLifetime, shownLevel, shownDigit}
+use Rattle.reader.specs.declared.function.Function.{Function}
+use Rattle.reader.specs.declared.function.Function.the-variants as function
 use Rattle.reader.specs.declared.request.Request.{Request}
 use Rattle.reader.specs.declared.request.Request.the-variants.{Crd, Wrs, Rds, Cpy, Dup, Chn, Del, Dpr, Lst, LstBase}
 use Rattle.reader.specs.declared.request.Refusal.{Refusal}
@@ -56,3 +60,30 @@ shownRead (unread f) = answers.Refused (shownRefusal f)
 abbrev pub faultCheck : Fault → ℕ → Word → Check
 faultCheck faults.Malformed = malformed
 faultCheck faults.Illegal = illegal
+
+-- the function that a word of these names is
+unfoldable pub functionOf : List (List ℕ) → Function
+functionOf ns =
+    cond (alone (67 ∷ 82 ∷ 68 ∷ []) ns) function.Crd
+    (cond (alone (87 ∷ 82 ∷ 83 ∷ []) ns) function.Wrs
+    (cond (alone (82 ∷ 68 ∷ 83 ∷ []) ns) function.Rds
+    (cond (alone (67 ∷ 80 ∷ 89 ∷ []) ns) function.Cpy
+    (cond (alone (68 ∷ 85 ∷ 80 ∷ []) ns) function.Dup
+    (cond (alone (67 ∷ 72 ∷ 78 ∷ []) ns) function.Chn
+    (cond (alone (68 ∷ 69 ∷ 76 ∷ []) ns) function.Del
+    (cond (alone (68 ∷ 80 ∷ 82 ∷ []) ns) function.Dpr
+    (cond (alone (76 ∷ 83 ∷ 84 ∷ []) ns) function.Lst
+    function.Nothing))))))))
+
+-- and what it reads of a line
+abbrev pub readBy : Function → List ℕ → asked.Read
+readBy function.Crd = readCrd
+readBy function.Wrs = readWrs
+readBy function.Rds = readRds
+readBy function.Cpy = readCpy
+readBy function.Dup = readDup
+readBy function.Chn = readChn
+readBy function.Del = readDel
+readBy function.Dpr = readDpr
+readBy function.Lst = readLst
+readBy function.Nothing = λ line. unread (record { number = 5; place = 0; link = 0 })

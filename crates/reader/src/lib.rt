@@ -1,3 +1,4 @@
-// Reading a request line: its declaration, and the request or the number that refuses it.
-pub mod declaration;
+// Reading a request line: the request that it is, or the number that refuses it.
+mod argument;
+mod function;
 pub mod request;

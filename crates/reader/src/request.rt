@@ -1,25 +1,25 @@
 // The request that a line is, or the number that refuses it.
-use crate::declaration::Declaration;
-use crate::declaration::Digit;
-use crate::declaration::Level;
-use crate::declaration::Lifetime;
-use crate::declaration::declared_at;
-use crate::declaration::taken_by_cpy;
-use crate::declaration::taken_by_crd;
-use crate::declaration::taken_by_dpr;
-use crate::declaration::taken_by_dup;
-use crate::declaration::taken_by_wrs;
-use words::line::Next;
+use crate::argument::declared_at;
+use crate::function::Function;
+use declarations::declaration::Declaration;
+use declarations::part::Digit;
+use declarations::part::Level;
+use declarations::part::Lifetime;
+use declarations::taken::taken_by_cpy;
+use declarations::taken::taken_by_crd;
+use declarations::taken::taken_by_dpr;
+use declarations::taken::taken_by_dup;
+use declarations::taken::taken_by_wrs;
+use records::name::are_same;
 use words::line::count_words;
 use words::line::is_legal_line;
+use words::line::lone_word;
 use words::line::name;
-use words::line::next_name;
 use words::line::next_word;
 use words::line::word_at;
 use words::name::count_links;
 use words::name::first_wrong;
 use words::name::has_legal_base;
-use words::name::is_alone;
 use words::name::is_legal_base;
 use words::name::is_link_name;
 use words::name::is_well_formed;
@@ -30,7 +30,7 @@ ghost use lib.ListN.{length};
 ghost use Rattle.paper.specs.Line.{Word, words};
 ghost use Rattle.paper.specs.Check.{verdict};
 ghost use Rattle.paper.specs.Request.{each, between, unlinked, misbased, miscounted, misnamed, linkAlone, readCrd, readWrs, readRds, readLst, readCpy, readDup, readChn, readDpr, readDel, readFunction, read};
-ghost use Rattle.words.specs.Place.{namesFrom};
+ghost use Rattle.words.specs.Place.{namesFrom, wordAt};
 ghost use Rattle.reader.specs.Asked.{faultCheck, firstOf, shownVerdict, shownRead};
 
 // The nine functions, and LST of a lone point. Names stand by the places where they start in the line; the names of DEL are
@@ -78,6 +78,11 @@ pub enum Request {
         name: usize,
     },
     LstBase,
+}
+
+impl Request {
+    // The most names that a DEL has.
+    const MOST_NAMES: usize = 8;
 }
 
 // The reply number, the argument from 1 or 0, and the link of its chain from 1 or 0.
@@ -163,7 +168,7 @@ fn check_count(line: &[u8], least: usize, most: usize) -> Verdict
 
 // 7 or 8 for the name at p, the argument at this place.
 fn check_name(line: &[u8], p: usize, fault: Fault, place: usize) -> Verdict
-    ensures { λ r. ⌜ r ≡ shownVerdict (verdict (faultCheck fault place (record { start = p; names = namesFrom (now (line .entry)) p }) ∷ [])) ⌝ }
+    ensures { λ r. ⌜ r ≡ shownVerdict (verdict (faultCheck fault place (wordAt (now (line .entry)) p) ∷ [])) ⌝ }
 {
     match fault {
         Fault::Malformed => {
@@ -241,14 +246,16 @@ fn read_wrs(line: &[u8]) -> Read
     if let Verdict::Refused(refusal) = check_form(line, 2, 2, 2, 3) {
         return Read::Refused(refusal);
     }
-    let Declaration::Right(parts) = taken_by_wrs(declared_at(line, 1)) else {
+    let Declaration::Right(parts) = declared_at(line, 1) else {
         return unfit_at(1);
     };
-    let lifetime = parts.lifetime;
+    let Lifetime::Given(lifetime) = taken_by_wrs(parts) else {
+        return unfit_at(1);
+    };
     let level = parts.level;
     let digit = parts.digit;
     Read::Granted(Request::Wrs {
-        lifetime: lifetime.or_else(1),
+        lifetime: lifetime,
         level: level,
         digit: digit,
         name: word_at(line, 2),
@@ -272,7 +279,7 @@ fn read_lst(line: &[u8]) -> Read
     ensures { λ r. ⌜ r ≡ shownRead (readLst (now (line .entry))) ⌝ }
 {
     let p = word_at(line, 1);
-    if is_alone(line, p, b".") {
+    if are_same(lone_word(line, p), b".") {
         if let Verdict::Refused(refusal) = check_count(line, 1, 1) {
             return Read::Refused(refusal);
         }
@@ -328,18 +335,16 @@ fn read_dup(line: &[u8]) -> Read
 fn is_link_alone(line: &[u8], p: usize) -> bool
     ensures { λ r. ⌜ r ≡ linkAlone (namesFrom (now (line .entry)) p) ⌝ }
 {
-    let Next::Nothing = next_name(line, p) else {
-        return false;
-    };
-    if !is_link_name(name(line, p)) {
+    let w = lone_word(line, p);
+    if !is_link_name(w) {
         return false;
     }
-    !is_alone(line, p, b"-")
+    !are_same(w, b"-")
 }
 
 // 7 where CHN's link is not one link name.
 fn check_link(line: &[u8], p: usize) -> Verdict
-    ensures { λ r. ⌜ r ≡ shownVerdict (verdict (unlinked 2 (record { start = p; names = namesFrom (now (line .entry)) p }) ∷ [])) ⌝ }
+    ensures { λ r. ⌜ r ≡ shownVerdict (verdict (unlinked 2 (wordAt (now (line .entry)) p) ∷ [])) ⌝ }
 {
     if is_link_alone(line, p) {
         return Verdict::Passed;
@@ -349,7 +354,7 @@ fn check_link(line: &[u8], p: usize) -> Verdict
 
 // 8 where old is a base file and CHN's link is no legal base name.
 fn check_base(line: &[u8], old: usize, link: usize) -> Verdict
-    ensures { λ r. ⌜ r ≡ shownVerdict (verdict (misbased 2 (record { start = old; names = namesFrom (now (line .entry)) old }) (record { start = link; names = namesFrom (now (line .entry)) link }) ∷ [])) ⌝ }
+    ensures { λ r. ⌜ r ≡ shownVerdict (verdict (misbased 2 (wordAt (now (line .entry)) old) (wordAt (now (line .entry)) link) ∷ [])) ⌝ }
 {
     if count_links(line, old) != 1 {
         return Verdict::Passed;
@@ -387,13 +392,15 @@ fn read_dpr(line: &[u8]) -> Read
     if let Verdict::Refused(refusal) = check_form(line, 2, 2, 1, 2) {
         return Read::Refused(refusal);
     }
-    let Declaration::Right(parts) = taken_by_dpr(declared_at(line, 2)) else {
+    let Declaration::Right(parts) = declared_at(line, 2) else {
         return unfit_at(2);
     };
-    let digit = parts.digit;
+    let Digit::Given(code) = taken_by_dpr(parts) else {
+        return unfit_at(2);
+    };
     Read::Granted(Request::Dpr {
         name: word_at(line, 1),
-        code: digit.or_else(0),
+        code: code,
     })
 }
 
@@ -401,7 +408,13 @@ fn read_dpr(line: &[u8]) -> Read
 fn read_del(line: &[u8]) -> Read
     ensures { λ r. ⌜ r ≡ shownRead (readDel (now (line .entry))) ⌝ }
 {
-    if let Verdict::Refused(refusal) = check_form(line, 1, 8, 1, count_words(line)) {
+    if let Verdict::Refused(refusal) = check_form(
+        line,
+        1,
+        Request::MOST_NAMES,
+        1,
+        count_words(line),
+    ) {
         return Read::Refused(refusal);
     }
     Read::Granted(Request::Del {
@@ -414,39 +427,23 @@ fn read_del(line: &[u8]) -> Read
 fn read_function(line: &[u8]) -> Read
     ensures { λ r. ⌜ r ≡ shownRead (readFunction (now (line .entry))) ⌝ }
 {
-    let p = word_at(line, 0);
-    if is_alone(line, p, b"CRD") {
-        return read_crd(line);
+    let function = Function::of(lone_word(line, word_at(line, 0)));
+    match function {
+        Function::Crd => read_crd(line),
+        Function::Wrs => read_wrs(line),
+        Function::Rds => read_rds(line),
+        Function::Cpy => read_cpy(line),
+        Function::Dup => read_dup(line),
+        Function::Chn => read_chn(line),
+        Function::Del => read_del(line),
+        Function::Dpr => read_dpr(line),
+        Function::Lst => read_lst(line),
+        Function::Nothing => Read::Refused(Refusal {
+            number: 5,
+            place: 0,
+            link: 0,
+        }),
     }
-    if is_alone(line, p, b"WRS") {
-        return read_wrs(line);
-    }
-    if is_alone(line, p, b"RDS") {
-        return read_rds(line);
-    }
-    if is_alone(line, p, b"CPY") {
-        return read_cpy(line);
-    }
-    if is_alone(line, p, b"DUP") {
-        return read_dup(line);
-    }
-    if is_alone(line, p, b"CHN") {
-        return read_chn(line);
-    }
-    if is_alone(line, p, b"DEL") {
-        return read_del(line);
-    }
-    if is_alone(line, p, b"DPR") {
-        return read_dpr(line);
-    }
-    if is_alone(line, p, b"LST") {
-        return read_lst(line);
-    }
-    Read::Refused(Refusal {
-        number: 5,
-        place: 0,
-        link: 0,
-    })
 }
 
 // The request that the line is, or the number from 4 to 9 that refuses it.

@@ -10,9 +10,9 @@ use lib.ListN.{length, getD}
 use lib.Dec.{eqb, leb}
 use borrow.Author.Tests.{ne-eqb}
 use Rattle.paper.specs.Line.{isBlank, word}
-use Rattle.paper.specs.Name.{same, all, inBase, linkName, linkNames, pointed, dotR, dotW, dotG, dotT, chain, legalBase}
+use Rattle.paper.specs.Name.{same, all, inBase, linkName, linkNames, pointed, dotR, dotW, dotG, dotT, chain, alone, legalBase}
 use Rattle.paper.specs.Request.{firstWrong, firstLink}
-use Rattle.words.specs.Place.{isPlain, nameEnd, gapEnd, joined, nextName, cut, namesFrom, namePlace}
+use Rattle.words.specs.Place.{isPlain, nameEnd, gapEnd, joined, nextName, cut, loneOf, namesFrom, namePlace}
 use Rattle.words.specs.Shown.{nextAt}
 use Rattle.words.specs.declared.line.Next.the-variants.{At, Nothing}
 use Rattle.laws.proofs.Tests.{truth, clash}
@@ -54,6 +54,13 @@ names-first line p = rw (names-step line p)
 pub names-two : (line : List ℕ) (p : ℕ) {A : Type 0} (f : List (List ℕ) → A) (a : A) → ((n m : List ℕ) (ns : List (List ℕ)) → f (n ∷ m ∷ ns) ≡ a)
     → joined line p ≡ true → f (namesFrom line p) ≡ a
 names-two line p f a h j = rw (names-more line p j, names-step line (nextName line p)) (h _ _ _)
+
+-- a word is this one name where its stretch is
+pub alone-lone : (a : ℕ) (s : List ℕ) (ns : List (List ℕ)) → alone (a ∷ s) ns ≡ same (loneOf ns) (a ∷ s)
+unfolding same
+alone-lone a s [] = refl
+alone-lone a s (n ∷ []) = refl
+alone-lone a s (n ∷ m ∷ ns) = refl
 
 -- the first name that is no link name, name by name
 pub wrong-here : (line : List ℕ) (p k : ℕ) → linkName (cut line p) ≡ false → firstWrong k (namesFrom line p) ≡ k

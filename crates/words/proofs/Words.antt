@@ -8,7 +8,7 @@ use Prim.Native.Nat.{ℕ, zero, suc, _+_, _≤_, _<_}
 use native.Mathlib.Omega.{arith}
 use lib.ListN.{length, getD}
 use Rattle.paper.specs.Line.{Spot, isBlank, isColon, grow, namesIn, Word, solid, words, word}
-use Rattle.words.specs.Place.{reach, isPlain, nameEnd, gapEnd, joined, nextName, closedFrom, pieces, head, tail, namesFrom, restFrom, wordsFrom, startOf, nextWord}
+use Rattle.words.specs.Place.{reach, isPlain, nameEnd, gapEnd, joined, nextName, closedFrom, pieces, head, tail, namesFrom, wordAt, restFrom, wordsFrom, startOf, nextWord}
 use Rattle.laws.proofs.Tests.{truth}
 use Rattle.words.proofs.Tests.{side, downward}
 use Rattle.words.proofs.Reaches.{reach-stop, reach-le, reach-more, reach-inside, reach-stopped, reach-again}
@@ -132,7 +132,7 @@ module _ (line : List ℕ) where
   word-names k = words-stand k .names
 
   -- word k, found by its place alone
-  pub word-here : (k p : ℕ) → p ≡ word line k .start → record { start = p; names = namesFrom line p } ≡ word line k
+  pub word-here : (k p : ℕ) → p ≡ word line k .start → wordAt line p ≡ word line k
   word-here k p e = rw e (ap (λ (ns : List (List ℕ)). record { start = word line k .start; names = ns }) (sym (word-names k)))
 
   pub word-next : (k : ℕ) → word line (suc k) .start ≡ nextWord line (word line k .start)

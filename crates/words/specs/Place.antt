@@ -39,6 +39,12 @@ nextName line p = reach isBlank line (gapEnd line p + 1)
 abbrev pub cut : List ℕ → ℕ → List ℕ
 cut line p = take (nameEnd line p - p) (drop p line)
 
+-- the one name that a word is; of several, nothing
+abbrev pub loneOf : List (List ℕ) → List ℕ
+loneOf [] = []
+loneOf (n ∷ []) = n
+loneOf (n ∷ m ∷ ns) = []
+
 -- the line from p on without the blanks beside its colons, and its pieces between blanks
 unfoldable pub closedFrom : List ℕ → ℕ → List Spot
 closedFrom line p = closed (placed p (drop p line))
@@ -57,6 +63,10 @@ tail (w ∷ ws) = ws
 -- the names of the word at p, the words after it, and the words from p on
 unfoldable pub namesFrom : List ℕ → ℕ → List (List ℕ)
 namesFrom line p = namesIn (head (pieces line p))
+
+-- the word at p
+abbrev pub wordAt : List ℕ → ℕ → Word
+wordAt line p = record { start = p; names = namesFrom line p }
 
 unfoldable pub restFrom : List ℕ → ℕ → List Word
 restFrom line p = solid (tail (pieces line p))

@@ -1,18 +1,26 @@
 // Classes of bytes.
 ghost use mathlib.Core.Path.{_≡_};
-ghost use lib.ListN.{getD};
 ghost use Rattle.paper.specs.Name.{inName, inBase};
 ghost use Rattle.paper.specs.Line.{inLine};
 ghost use Rattle.words.specs.Place.{reach, isPlain};
 ghost use Rattle.words.specs.Shown.{test};
 
 // Blanks; what is neither blank nor colon; bytes of a line, of a link name, of a base name of three characters or more.
-pub enum Class {
+pub(crate) enum Class {
     Blank,
     Plain,
     Line,
     Name,
     Base,
+}
+
+impl Class {
+    // The lowest byte of a line and of a link name, and the highest of both.
+    const LOWEST_IN_LINE: u8 = 32;
+
+    const LOWEST_IN_NAME: u8 = 33;
+
+    const HIGHEST: u8 = 95;
 }
 
 // A byte that neither ends a name nor joins two.
@@ -29,7 +37,7 @@ fn in_line(b: u8) -> bool
     ensures { λ r. ⌜ r ≡ inLine b ⌝ }
 {
     match b {
-        32..=95 => true,
+        Class::LOWEST_IN_LINE..=Class::HIGHEST => true,
         _ => false,
     }
 }
@@ -39,7 +47,7 @@ fn in_name(b: u8) -> bool
 {
     match b {
         b':' | b'@' => false,
-        33..=95 => true,
+        Class::LOWEST_IN_NAME..=Class::HIGHEST => true,
         _ => false,
     }
 }
@@ -67,15 +75,8 @@ fn passes(class: Class, b: u8) -> bool
     }
 }
 
-// The byte at a place, 0 past the end.
-pub fn byte(s: &[u8], p: usize) -> u8
-    ensures { λ r. ⌜ r ≡ getD (now (s .entry)) p 0 ⌝ }
-{
-    if p < s.len() { s[p] } else { 0 }
-}
-
 // The first place from p on whose byte is not of the class, or the end.
-pub fn end_of(class: Class, s: &[u8], p: usize) -> usize
+pub(crate) fn end_of(class: Class, s: &[u8], p: usize) -> usize
     ensures { λ r. ⌜ r ≡ reach (test class) (now (s .entry)) p ⌝ }
 {
     let mut i = p;

@@ -1,18 +1,26 @@
 // Words and names of a line, by the places where they start.
 use crate::class::Class;
-use crate::class::byte;
 use crate::class::end_of;
+use records::bytes::byte_at;
 ghost use mathlib.Core.Path.{_≡_};
 ghost use lib.ListN.{length};
 ghost use Rattle.paper.specs.Line.{Word, word, words, legalLine};
-ghost use Rattle.words.specs.Place.{cut, nextWord};
+ghost use Rattle.words.specs.Place.{cut, loneOf, namesFrom, nextWord};
 ghost use Rattle.words.specs.Shown.{nextAt};
+
+// A request line.
+pub struct Line;
+
+impl Line {
+    // The most bytes that a line has.
+    pub const MOST: usize = 256;
+}
 
 // Whether the line has at most 256 bytes, each 32..95.
 pub fn is_legal_line(line: &[u8]) -> bool
     ensures { λ r. ⌜ r ≡ legalLine (now (line .entry)) ⌝ }
 {
-    if line.len() <= 256 {
+    if line.len() <= Line::MOST {
         return end_of(Class::Line, line, 0) == line.len();
     }
     false
@@ -41,10 +49,20 @@ pub fn next_name(line: &[u8], p: usize) -> Next
 {
     let e = end_of(Class::Plain, line, p);
     let q = end_of(Class::Blank, line, e);
-    if byte(line, q) == b':' {
+    if byte_at(line, q) == b':' {
         return Next::At(end_of(Class::Blank, line, q + 1));
     }
     Next::Nothing
+}
+
+// The name that the word at p is: that stretch of the line itself; of a chain of several names, nothing.
+pub fn lone_word(line: &[u8], p: usize) -> &[u8]
+    ensures { λ r. ⌜ now r ≡ loneOf (namesFrom (now (line .entry)) p) ⌝ }
+{
+    let Next::Nothing = next_name(line, p) else {
+        return &line[..0];
+    };
+    name(line, p)
 }
 
 // Where the word after the one at p starts, or the line's end.

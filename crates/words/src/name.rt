@@ -1,23 +1,33 @@
 // Link names, chains and base names.
 use crate::class::Class;
-use crate::class::byte;
 use crate::class::end_of;
 use crate::line::Next;
+use crate::line::lone_word;
 use crate::line::name;
 use crate::line::next_name;
+use records::bytes::byte_at;
+use records::entry::Entry;
 use records::name::are_same;
 ghost use mathlib.Core.Path.{_≡_};
 ghost use lib.ListN.{length};
-ghost use Rattle.paper.specs.Name.{linkName, pointed, chain, alone, wellFormed, legalBase, baseName};
+ghost use Rattle.paper.specs.Name.{linkName, pointed, chain, wellFormed, legalBase, baseName};
 ghost use Rattle.paper.specs.Request.{firstWrong, firstLink};
 ghost use Rattle.words.specs.Place.{namesFrom};
+
+// Names joined by colons.
+pub struct Chain;
+
+impl Chain {
+    // The most names that a chain has.
+    pub const MOST: usize = 16;
+}
 
 // Whether a name is a link name: 1 to 10 characters.
 pub fn is_link_name(n: &[u8]) -> bool
     ensures { λ r. ⌜ r ≡ linkName (now (n .entry)) ⌝ }
 {
     match n.len() {
-        1..=10 => end_of(Class::Name, n, 0) == n.len(),
+        1..=Entry::MOST_NAME => end_of(Class::Name, n, 0) == n.len(),
         _ => false,
     }
 }
@@ -25,11 +35,11 @@ pub fn is_link_name(n: &[u8]) -> bool
 pub fn is_pointed(n: &[u8]) -> bool
     ensures { λ r. ⌜ r ≡ pointed (now (n .entry)) ⌝ }
 {
-    byte(n, 0) == b'.'
+    byte_at(n, 0) == b'.'
 }
 
 // How many names the word at p has.
-pub fn count_names(line: &[u8], p: usize) -> usize
+fn count_names(line: &[u8], p: usize) -> usize
     ensures { λ r. ⌜ r ≡ length (namesFrom (now (line .entry)) p) ⌝ }
 {
     let mut i = p;
@@ -78,16 +88,6 @@ pub fn first_wrong(line: &[u8], p: usize) -> usize
     }
 }
 
-// Whether the word at p is this one name.
-pub fn is_alone(line: &[u8], p: usize, n: &[u8]) -> bool
-    ensures { λ r. ⌜ r ≡ alone (now (n .entry)) (namesFrom (now (line .entry)) p) ⌝ }
-{
-    let Next::Nothing = next_name(line, p) else {
-        return false;
-    };
-    are_same(name(line, p), n)
-}
-
 // Whether the word at p is a well-formed chain.
 pub fn is_well_formed(line: &[u8], p: usize) -> bool
     ensures { λ r. ⌜ r ≡ wellFormed (namesFrom (now (line .entry)) p) ⌝ }
@@ -95,10 +95,10 @@ pub fn is_well_formed(line: &[u8], p: usize) -> bool
     if first_wrong(line, p) != 0 {
         return false;
     }
-    if 16 < count_links(line, p) {
+    if Chain::MOST < count_links(line, p) {
         return false;
     }
-    !is_alone(line, p, b"-")
+    !are_same(lone_word(line, p), b"-")
 }
 
 // Whether a name is a legal base name.
@@ -109,7 +109,7 @@ pub fn is_legal_base(n: &[u8]) -> bool
         return false;
     }
     if n.len() == 2 {
-        return match byte(n, 1) {
+        return match byte_at(n, 1) {
             b'R' | b'W' | b'G' | b'T' => true,
             _ => false,
         };

@@ -3,18 +3,18 @@
 use mathlib.Core.Bool.{Bool, true, false, _&&_, _||_, not, cond, true≢false}
 use mathlib.Core.List.{List, [], _∷_}
 use mathlib.Core.Logic.{_⊎_, inl, inr}
-use mathlib.Core.Path.{_≡_, sym}
+use mathlib.Core.Path.{_≡_, refl, sym}
 use Prim.Native.Nat.{ℕ, zero, suc, _+_, _-_, _≤_, _<_}
 use native.Mathlib.Omega.{arith}
 use lib.ListN.{length, getD}
 use lib.Dec.{eqb, leb, ltb}
 use borrow.Author.Tests.{leb-true}
 use Rattle.paper.specs.Name.{all, linkName, linkNames, pointed, chain, dash, wellFormed, legalBase, baseName, dotW, same}
-use Rattle.paper.specs.Declaration.{Part, given, notGiven, isGiven, orElse, Parts, Declared, right, wrong, nothing, lifetimeLetter, levelLetter, digit, width, byteAt, codeAt, levelAt, pointAt, lifetimeAt, declaration, lone, declared, partsOf, fits, mediumOrLong}
+use Rattle.paper.specs.Declaration.{Part, given, notGiven, isGiven, orElse, Parts, Declared, right, wrong, nothing, lifetimeLetter, levelLetter, digit, width, byteAt, codeAt, levelAt, pointAt, lifetimeAt, declaration, lone, declared, partsOf, fits, taking, mediumOrLong}
 use Rattle.paper.specs.Line.{Word, words, word}
 use Rattle.paper.specs.Request.{declaredAt, partsAt}
 use Rattle.paper.specs.Walk.{lastName}
-use Rattle.laws.proofs.Tests.{truth, and-left, and-right, either}
+use Rattle.laws.proofs.Tests.{truth, and-left, and-right, either, clash}
 use Rattle.laws.proofs.Entries.{link-short}
 
 -- ---- names
@@ -159,10 +159,19 @@ pub fits-parts : (test : Parts → Bool) (d : Declared) → fits test d ≡ true
 fits-parts test (right p) e = e
 fits-parts test wrong e = absurd (true≢false (sym e))
 
+-- a part that is taken of a declaration is a part of one that fits
+pub taking-given : (test : Parts → Bool) (part : Parts → Part) (d : Declared) (n : ℕ) → taking test part d ≡ given n
+    → (test (partsOf d) ≡ true) × (part (partsOf d) ≡ given n)
+taking-given test part (right p) n e = go (test p) e
+  where
+    go : (b : Bool) → cond b (part p) notGiven ≡ given n → (b ≡ true) × (part p ≡ given n)
+    go true f = (refl, f)
+    go false f = clash (cc)
+taking-given test part wrong n e = clash (cc)
+
 -- "M or L"
-pub medium-long : (p : Part) → mediumOrLong p ≡ true → Within 0 2 p → (1 ≤ orElse p 1) × (orElse p 1 ≤ 2)
-medium-long (given n) e h = (leb-true _ _ e, h .1)
-medium-long notGiven e h = absurd (true≢false (sym e))
+pub medium-long : (p : Part) (n : ℕ) → p ≡ given n → mediumOrLong p ≡ true → Within 0 2 p → (1 ≤ n) × (n ≤ 2)
+medium-long p n q e h = let l : Within 0 2 (given n) = rw q at h in (leb-true 1 n (rw q at e), l .1)
 
 pub may-medium-long : (p : Part) → (not (isGiven p) || mediumOrLong p) ≡ true → Within 0 2 p → Within 1 2 p
 may-medium-long (given n) e h = (leb-true _ _ e, h .1)

@@ -11,14 +11,14 @@ use lib.Seq.{take-all, getD-take, getD-drop}
 use borrow.Author.Tests.{ltb-true, leb-true, eq-eqb, ltb-false, not-false}
 use Rattle.paper.specs.Scan.{at}
 use Rattle.paper.specs.Name.{linkName, chain, wellFormed, legalBase, baseName, lonePoint}
-use Rattle.paper.specs.Declaration.{Part, isGiven, Parts, fits, fitWrs, fitCpy}
+use Rattle.paper.specs.Declaration.{Part, given, notGiven, isGiven, Parts, fits, fitWrs, fitCpy, fitDup, wrsLifetime, dprCode}
 use Rattle.paper.specs.Line.{Word, words, word, legalLine}
 use Rattle.paper.specs.Check.{Check, check, Verdict, passed, refused, verdict}
-use Rattle.paper.specs.Request.{declaredAt, partsAt, Request, crd, wrs, rds, cpy, dup, chn, del, dpr, lst, lstBase, Read, request, unread, readAs, counted, miscounted, malformed, illegal, unfit, each, between, misnamed, readCrd, readWrs, readRds, readLst, readCpy, readDup, linkAlone, readChn, readDpr, readDel, isFunction, readFunction, read, textTooLong, withText, asked}
+use Rattle.paper.specs.Request.{declaredAt, partsAt, Request, crd, wrs, rds, cpy, dup, chn, del, dpr, lst, lstBase, Read, request, unread, after, needed, readAs, counted, miscounted, malformed, illegal, unfit, each, between, misnamed, readCrd, readWrs, readRds, readLst, readCpy, readDup, linkAlone, readChn, readDpr, readDel, isFunction, readFunction, read, textTooLong, withText, asked}
 use Rattle.paper.specs.Walk.{lastName, start}
 use Rattle.laws.proofs.Tests.{and-left, and-right, and-parts, either}
 use Rattle.laws.proofs.Lists.{Every, every-at, every-append, every-parts, every-both}
-use Rattle.demands.proofs.Request.Formed.{Named, Within, within-else, lettered-at, fits-parts, medium-long, may-medium-long}
+use Rattle.demands.proofs.Request.Formed.{Named, Within, lettered-at, fits-parts, taking-given, medium-long, may-medium-long}
 use Rattle.demands.proofs.Request.Fair.{Idle, verdict-idle, Fair, FairCheck, verdict-fair, fair-line, fair-at}
 
 -- ---- what each function is told
@@ -144,12 +144,18 @@ abbrev Heard : List ℕ → Read → Type 0
 Heard text (request r) = textTooLong r text ≡ false → Told text r
 Heard text (unread f) = Fair f
 
-heard-as : (text : List ℕ) (r : Request) (cs : List Check) → Every FairCheck cs → (Every Idle cs → Heard text (request r)) → Heard text (readAs r (verdict cs))
-heard-as text r cs f h = go (verdict cs) refl
+heard-after : (text : List ℕ) (x : Read) (cs : List Check) → Every FairCheck cs → (Every Idle cs → Heard text x) → Heard text (after (verdict cs) x)
+heard-after text x cs f h = go (verdict cs) refl
   where
-    go : (v : Verdict) → verdict cs ≡ v → Heard text (readAs r v)
+    go : (v : Verdict) → verdict cs ≡ v → Heard text (after v x)
     go passed e = h (verdict-idle cs e)
-    go (refused x) e = verdict-fair cs x f e
+    go (refused g) e = verdict-fair cs g f e
+
+-- a request with a part that it needs, or 9
+heard-needed : (text : List ℕ) (place : ℕ) (p : Part) (r : ℕ → Request) → 1 ≤ place → ((n : ℕ) → p ≡ given n → Heard text (request (r n)))
+    → Heard text (needed place p r)
+heard-needed text place (given n) r l h = h n refl
+heard-needed text place notGiven r l h = fair-at 9 place 0 refl l
 
 each-fair : (f : ℕ → Word → Check) → ((p : ℕ) (w : Word) → 1 ≤ p → FairCheck (f p w)) → (p : ℕ) (ws : List Word) → 1 ≤ p → Every FairCheck (each f p ws)
 unfolding each
@@ -163,21 +169,21 @@ fair-misnamed a b line l =
 
 module _ (line text : List ℕ) where
   -- the usual reader: the count, the names from word a up to b, and the checks after them
-  reader : (least most a b : ℕ) (cs : List Check) (r : Request) → 1 ≤ a → Every FairCheck cs
-      → (least ≤ length (words line) - 1 → length (words line) - 1 ≤ most → Every Named (between a b line) → Every Idle cs → Heard text (request r))
-      → Heard text (readAs r (verdict (miscounted least most line ∷ misnamed a b line ++ cs)))
-  reader least most a b cs r l f h =
-      heard-as text r _ (fair-line 6 0 refl, every-append FairCheck (misnamed a b line) cs (fair-misnamed a b line l) f)
+  reader : (least most a b : ℕ) (cs : List Check) (x : Read) → 1 ≤ a → Every FairCheck cs
+      → (least ≤ length (words line) - 1 → length (words line) - 1 ≤ most → Every Named (between a b line) → Every Idle cs → Heard text x)
+      → Heard text (after (verdict (miscounted least most line ∷ misnamed a b line ++ cs)) x)
+  reader least most a b cs x l f h =
+      heard-after text x _ (fair-line 6 0 refl, every-append FairCheck (misnamed a b line) cs (fair-misnamed a b line l) f)
       (λ i.
       let n = counted-by least most line (i .0) in
       let g = every-parts Idle (misnamed a b line) cs (i .1) in
       h (n .0) (n .1) (all-named a b line (g .0)) (g .1))
 
   -- .. and nothing after them
-  reader-names : (least most a b : ℕ) (r : Request) → 1 ≤ a
-      → (least ≤ length (words line) - 1 → length (words line) - 1 ≤ most → Every Named (between a b line) → Heard text (request r))
-      → Heard text (readAs r (verdict (miscounted least most line ∷ misnamed a b line)))
-  reader-names least most a b r l h = rw append-nil at (reader least most a b [] r l tt (λ n m w _. h n m w))
+  reader-names : (least most a b : ℕ) (x : Read) → 1 ≤ a
+      → (least ≤ length (words line) - 1 → length (words line) - 1 ≤ most → Every Named (between a b line) → Heard text x)
+      → Heard text (after (verdict (miscounted least most line ∷ misnamed a b line)) x)
+  reader-names least most a b x l h = rw append-nil at (reader least most a b [] x l tt (λ n m w _. h n m w))
 
   heard-crd : Heard text (readCrd line)
   unfolding readCrd
@@ -188,15 +194,17 @@ module _ (line text : List ℕ) where
   heard-wrs : Heard text (readWrs line)
   unfolding readWrs
   heard-wrs =
-      reader 2 2 2 3 _ _ (omega arith) (fair-at 9 1 0 refl (omega arith), tt) (λ n m w g short.
+      reader-names 2 2 2 3 _ (omega arith) (λ n m w.
+      heard-needed text 1 (wrsLifetime (declaredAt line 1)) _ (omega arith) (λ life e short.
       let p = partsAt line 1 in
+      let t = taking-given fitWrs (λ p. p .lifetime) (declaredAt line 1) life e in
       record {
-        lifetime = medium-long (p .lifetime) (and-right (not (isGiven (p .type))) _ (fit-at fitWrs line 1 1 (g .0))) (lettered-at line 1 .lifetime);
+        lifetime = medium-long (p .lifetime) life (t .1) (and-right (not (isGiven (p .type))) _ (t .0)) (lettered-at line 1 .lifetime);
         level = lettered-at line 1 .level;
         code = lettered-at line 1 .code;
         name = name-at 2 2 3 2 line refl n w;
         text = ltb-false _ _ short;
-      })
+      }))
 
   heard-rds : Heard text (readRds line)
   unfolding readRds
@@ -205,7 +213,7 @@ module _ (line text : List ℕ) where
   heard-lst : Heard text (readLst line)
   unfolding readLst
   heard-lst =
-      either (Heard text) (lonePoint (word line 1 .names)) _ _ (heard-as text lstBase _ (fair-line 6 0 refl, tt) (λ _ _. tt))
+      either (Heard text) (lonePoint (word line 1 .names)) _ _ (heard-after text (request lstBase) _ (fair-line 6 0 refl, tt) (λ _ _. tt))
       (reader-names 1 1 1 2 _ (omega arith) (λ n m w _. name-at 1 1 2 1 line refl n w))
 
   heard-cpy : Heard text (readCpy line)
@@ -230,7 +238,7 @@ module _ (line text : List ℕ) where
   heard-chn : Heard text (readChn line)
   unfolding readChn
   heard-chn =
-      heard-as text _ _ (
+      heard-after text _ _ (
         fair-line 6 0 refl,
         (
           fair-at 7 1 _ refl (omega arith),
@@ -261,11 +269,11 @@ module _ (line text : List ℕ) where
   heard-dpr : Heard text (readDpr line)
   unfolding readDpr
   heard-dpr =
-      reader 2 2 1 2 _ _ (omega arith) (fair-at 9 2 0 refl (omega arith), tt) (λ n m w g _.
-      record {
-        name = name-at 2 1 2 1 line refl n w;
-        code = within-else 0 7 0 (partsAt line 2 .code) (lettered-at line 2 .code) (omega arith) (omega arith) .1;
-      })
+      reader-names 2 2 1 2 _ (omega arith) (λ n m w.
+      heard-needed text 2 (dprCode (declaredAt line 2)) _ (omega arith) (λ code e _.
+      let t = taking-given fitDup (λ p. p .code) (declaredAt line 2) code e in
+      let l : Within 0 7 (given code) = rw (t .1) at (lettered-at line 2 .code) in
+      record { name = name-at 2 1 2 1 line refl n w; code = l .1 }))
 
   heard-function : Heard text (readFunction line)
   unfolding readFunction

@@ -1,12 +1,10 @@
 -- The five verdicts are those of the five checks, in order,
 -- each of a word that is found by its place.
 use mathlib.Core.Path.{sym, _∙_}
-use mathlib.Core.List.{[], _∷_}
 use Rattle.paper.specs.Line.{word}
-use Rattle.paper.specs.Request.{chn, miscounted, malformed, unlinked, illegal, misbased, readChn}
-use Rattle.words.specs.Place.{namesFrom}
-use Rattle.reader.proofs.Verdicts.{read-refused, read-passed, at-word}
-use Rattle.reader.proofs.Functions.{five}
+use Rattle.paper.specs.Request.{chn, request, readChn}
+use Rattle.reader.proofs.Verdicts.{read-refused, read-passed}
+use Rattle.reader.proofs.Functions.{chn-form}
 use borrow.Author.Needs.{needs}
 use Rattle.reader.proofs.request.read_chn.Statement.{statement}
 use Rattle.reader.proofs.request.read_chn.Tie as tie
@@ -50,16 +48,23 @@ enum-known-form c = search needs
 returns : tie.Need-returns
 unfolding readChn
 returns c =
-    let line = c .before .before .before .before .before .before .before .before .before .before .before .before .before .before .before .args .line .now in
-    let old = at-word (malformed 1) line 1 _ _ (c .before .before .before .before .before .before .before .before .before .before .before .before .before .word-at .ensures) (c .before .before .before .before .before .before .before .before .before .before .check-name .ensures) in
-    let link = at-word (unlinked 2) line 2 _ _ (c .before .before .before .before .before .before .before .before .before .before .before .before .word-at2 .ensures) (c .before .before .before .before .before .before .before .before .check-link .ensures) in
-    let base = at-word (illegal 1) line 1 _ _ (c .before .before .before .before .before .before .before .before .before .before .before .before .before .word-at .ensures) (c .before .before .before .before .before .before .check-name2 .ensures) in
-    let half = at-word (λ w. misbased 2 w (record { start = c .before .before .before .before .before .before .before .before .before .before .before .before .word-at2 .result; names = namesFrom line (c .before .before .before .before .before .before .before .before .before .before .before .before .word-at2 .result) })) line 1 _ _ (c .before .before .before .before .before .before .before .before .before .before .before .before .before .word-at .ensures) (c .before .before .before .before .check-base .ensures) in
-    let both = at-word (misbased 2 (word line 1)) line 2 _ _ (c .before .before .before .before .before .before .before .before .before .before .before .before .word-at2 .ensures) half in
-    let e = rw (c .before .before .before .before .before .then3 .ensures, c .before .before .before .before .before .before .before .then2 .ensures, c .before .before .before .before .before .before .before .before .before .then .ensures) at (c .before .before .before .then4 .ensures) in
-    let f = e ∙ five (miscounted 2 2 line) (malformed 1 (word line 1)) (unlinked 2 (word line 2)) (illegal 1 (word line 1)) (misbased 2 (word line 1) (word line 2)) _ _ _ _ _
-    (c .before .before .before .before .before .before .before .before .before .before .before .check-count .ensures) old link base both in
-    sym (read-refused (chn (word line 1) (word line 2)) (miscounted 2 2 line ∷ malformed 1 (word line 1) ∷ unlinked 2 (word line 2) ∷ illegal 1 (word line 1) ∷ misbased 2 (word line 1) (word line 2) ∷ []) _ _ f (c .before .form .given .1))
+    let then4 = c .before .before .before in
+    let base = then4 .before in
+    let then3 = base .before in
+    let old8 = then3 .before in
+    let then2 = old8 .before in
+    let link7 = then2 .before in
+    let then1 = link7 .before in
+    let old7 = then1 .before in
+    let count = old7 .before in
+    let two = count .before in
+    let one = two .before in
+    let line = one .before .before .args .line .now in
+    let r = request (chn (word line 1) (word line 2)) in
+    let f = chn-form line _ _ _ _ _ _ _ (one .word-at .ensures) (two .word-at2 .ensures) (count .check-count .ensures) (old7 .check-name .ensures)
+    (link7 .check-link .ensures) (old8 .check-name2 .ensures) (base .check-base .ensures) in
+    let e = rw (then3 .then3 .ensures, then2 .then2 .ensures, then1 .then .ensures) at (then4 .then4 .ensures) in
+    sym (read-refused r _ _ (e ∙ f) _ (c .before .form .given .1))
 
 enum-told : tie.Need-enum-told
 enum-told c = search needs
@@ -67,16 +72,23 @@ enum-told c = search needs
 returns-2 : tie.Need-returns-2
 unfolding readChn
 returns-2 c =
-    let line = c .before .before .before .before .before .before .before .before .before .before .before .before .before .before .args .line .now in
-    let old = at-word (malformed 1) line 1 _ _ (c .before .before .before .before .before .before .before .before .before .before .before .before .word-at .ensures) (c .before .before .before .before .before .before .before .before .before .check-name .ensures) in
-    let link = at-word (unlinked 2) line 2 _ _ (c .before .before .before .before .before .before .before .before .before .before .before .word-at2 .ensures) (c .before .before .before .before .before .before .before .check-link .ensures) in
-    let base = at-word (illegal 1) line 1 _ _ (c .before .before .before .before .before .before .before .before .before .before .before .before .word-at .ensures) (c .before .before .before .before .before .check-name2 .ensures) in
-    let half = at-word (λ w. misbased 2 w (record { start = c .before .before .before .before .before .before .before .before .before .before .before .word-at2 .result; names = namesFrom line (c .before .before .before .before .before .before .before .before .before .before .before .word-at2 .result) })) line 1 _ _ (c .before .before .before .before .before .before .before .before .before .before .before .before .word-at .ensures) (c .before .before .before .check-base .ensures) in
-    let both = at-word (misbased 2 (word line 1)) line 2 _ _ (c .before .before .before .before .before .before .before .before .before .before .before .word-at2 .ensures) half in
-    let e = rw (c .before .before .before .before .then3 .ensures, c .before .before .before .before .before .before .then2 .ensures, c .before .before .before .before .before .before .before .before .then .ensures) at (c .before .before .then4 .ensures) in
-    let f = e ∙ five (miscounted 2 2 line) (malformed 1 (word line 1)) (unlinked 2 (word line 2)) (illegal 1 (word line 1)) (misbased 2 (word line 1) (word line 2)) _ _ _ _ _
-    (c .before .before .before .before .before .before .before .before .before .before .check-count .ensures) old link base both in
-    rw (c .before .before .before .before .before .before .before .before .before .before .before .before .word-at .ensures, c .before .before .before .before .before .before .before .before .before .before .before .word-at2 .ensures) (sym (read-passed (chn (word line 1) (word line 2)) (miscounted 2 2 line ∷ malformed 1 (word line 1) ∷ unlinked 2 (word line 2) ∷ illegal 1 (word line 1) ∷ misbased 2 (word line 1) (word line 2) ∷ []) _ f (c .enum-told .given .1)))
+    let then4 = c .before .before in
+    let base = then4 .before in
+    let then3 = base .before in
+    let old8 = then3 .before in
+    let then2 = old8 .before in
+    let link7 = then2 .before in
+    let then1 = link7 .before in
+    let old7 = then1 .before in
+    let count = old7 .before in
+    let two = count .before in
+    let one = two .before in
+    let line = one .before .before .args .line .now in
+    let r = request (chn (word line 1) (word line 2)) in
+    let f = chn-form line _ _ _ _ _ _ _ (one .word-at .ensures) (two .word-at2 .ensures) (count .check-count .ensures) (old7 .check-name .ensures)
+    (link7 .check-link .ensures) (old8 .check-name2 .ensures) (base .check-base .ensures) in
+    let e = rw (then3 .then3 .ensures, then2 .then2 .ensures, then1 .then .ensures) at (then4 .then4 .ensures) in
+    rw (one .word-at .ensures, two .word-at2 .ensures) (sym (read-passed r _ _ (e ∙ f) (c .enum-told .given .1)))
 
 pub read-chn-spec : {M : Type 1} → statement M
 read-chn-spec =

@@ -19,10 +19,11 @@ enum-known-refusal c = search needs
 returns : tie.Need-returns
 unfolding readCpy
 returns c =
-    let line = c .before .before .before .before .before .args .line .now in
+    let form = c .before .before .before in
+    let line = form .before .before .args .line .now in
     let r = cpy (word line 1) (word line 2) (partsAt line 3 .lifetime) (partsAt line 3 .level) (partsAt line 3 .code) in
     let cs = miscounted 2 3 line ∷ misnamed 1 3 line in
-    sym (form-refused r cs 3 fitCpy (declaredAt line 3) _ (c .before .before .before .check-form .ensures) _ (c .before .refusal .given .1))
+    sym (form-refused r cs 3 fitCpy (declaredAt line 3) _ (form .check-form .ensures) _ (c .before .refusal .given .1))
 
 enum-told : tie.Need-enum-told
 enum-told c = search needs
@@ -45,11 +46,15 @@ unfit-at-requires c κs = tt
 returns-2 : tie.Need-returns-2
 unfolding readCpy
 returns-2 c =
-    let line = c .before .before .before .before .before .before .before .before .before .args .line .now in
+    let takes = c .before .before .before in
+    let passed = takes .before .before in
+    let form = passed .before .before in
+    let line = form .before .before .args .line .now in
     let r = cpy (word line 1) (word line 2) (partsAt line 3 .lifetime) (partsAt line 3 .level) (partsAt line 3 .code) in
     let cs = miscounted 2 3 line ∷ misnamed 1 3 line in
     c .unfit-at .ensures
-    ∙ sym (form-unfit r cs 3 fitCpy (declaredAt line 3) _ (c .before .before .before .before .before .before .before .check-form .ensures) (c .before .before .before .before .before .enum-told .given .1) _ _ (c .before .before .before .before .declared-at .ensures) (c .before .before .before .taken-by-cpy .ensures) (c .before .enum-told2 .given .1))
+    ∙ sym (form-unfit r cs 3 fitCpy (declaredAt line 3) _ (form .check-form .ensures) (passed .enum-told .given .1) _ _
+    (takes .before .declared-at .ensures) (takes .taken-by-cpy .ensures) (c .before .enum-told2 .given .1))
 
 word-at-requires : tie.Need-word-at-requires
 word-at-requires c κs = tt
@@ -60,10 +65,15 @@ word-at-requires-2 c κs = tt
 returns-3 : tie.Need-returns-3
 unfolding readCpy
 returns-3 c =
-    let line = c .before .before .before .before .before .before .before .before .before .before .before .args .line .now in
+    let right = c .before .before .before in
+    let takes = right .before .before in
+    let passed = takes .before .before in
+    let form = passed .before .before in
+    let line = form .before .before .args .line .now in
     let r = cpy (word line 1) (word line 2) (partsAt line 3 .lifetime) (partsAt line 3 .level) (partsAt line 3 .code) in
     let cs = miscounted 2 3 line ∷ misnamed 1 3 line in
-    let t = form-fit r cs 3 fitCpy (declaredAt line 3) _ (c .before .before .before .before .before .before .before .before .before .check-form .ensures) (c .before .before .before .before .before .before .before .enum-told .given .1) _ _ (c .before .before .before .before .before .before .declared-at .ensures) (c .before .before .before .before .before .taken-by-cpy .ensures) _ (c .before .before .before .parts .given .1) in
+    let t = form-fit r cs 3 fitCpy (declaredAt line 3) _ (form .check-form .ensures) (passed .enum-told .given .1) _ _
+    (takes .before .declared-at .ensures) (takes .taken-by-cpy .ensures) _ (right .parts .given .1) in
     rw (c .word-at2 .ensures, c .before .word-at .ensures, t .1) (sym (t .0))
 
 pub read-cpy-spec : {M : Type 1} → statement M

@@ -19,10 +19,11 @@ enum-known-refusal c = search needs
 returns : tie.Need-returns
 unfolding readCrd
 returns c =
-    let line = c .before .before .before .before .before .args .line .now in
+    let form = c .before .before .before in
+    let line = form .before .before .args .line .now in
     let r = crd (word line 1) (partsAt line 2 .level) (partsAt line 2 .code) in
     let cs = miscounted 1 2 line ∷ misnamed 1 2 line in
-    sym (form-refused r cs 2 fitCrd (declaredAt line 2) _ (c .before .before .before .check-form .ensures) _ (c .before .refusal .given .1))
+    sym (form-refused r cs 2 fitCrd (declaredAt line 2) _ (form .check-form .ensures) _ (c .before .refusal .given .1))
 
 enum-told : tie.Need-enum-told
 enum-told c = search needs
@@ -45,11 +46,15 @@ unfit-at-requires c κs = tt
 returns-2 : tie.Need-returns-2
 unfolding readCrd
 returns-2 c =
-    let line = c .before .before .before .before .before .before .before .before .before .args .line .now in
+    let takes = c .before .before .before in
+    let passed = takes .before .before in
+    let form = passed .before .before in
+    let line = form .before .before .args .line .now in
     let r = crd (word line 1) (partsAt line 2 .level) (partsAt line 2 .code) in
     let cs = miscounted 1 2 line ∷ misnamed 1 2 line in
     c .unfit-at .ensures
-    ∙ sym (form-unfit r cs 2 fitCrd (declaredAt line 2) _ (c .before .before .before .before .before .before .before .check-form .ensures) (c .before .before .before .before .before .enum-told .given .1) _ _ (c .before .before .before .before .declared-at .ensures) (c .before .before .before .taken-by-crd .ensures) (c .before .enum-told2 .given .1))
+    ∙ sym (form-unfit r cs 2 fitCrd (declaredAt line 2) _ (form .check-form .ensures) (passed .enum-told .given .1) _ _
+    (takes .before .declared-at .ensures) (takes .taken-by-crd .ensures) (c .before .enum-told2 .given .1))
 
 word-at-requires : tie.Need-word-at-requires
 word-at-requires c κs = tt
@@ -57,10 +62,15 @@ word-at-requires c κs = tt
 returns-3 : tie.Need-returns-3
 unfolding readCrd
 returns-3 c =
-    let line = c .before .before .before .before .before .before .before .before .before .before .args .line .now in
+    let right = c .before .before in
+    let takes = right .before .before in
+    let passed = takes .before .before in
+    let form = passed .before .before in
+    let line = form .before .before .args .line .now in
     let r = crd (word line 1) (partsAt line 2 .level) (partsAt line 2 .code) in
     let cs = miscounted 1 2 line ∷ misnamed 1 2 line in
-    let t = form-fit r cs 2 fitCrd (declaredAt line 2) _ (c .before .before .before .before .before .before .before .before .check-form .ensures) (c .before .before .before .before .before .before .enum-told .given .1) _ _ (c .before .before .before .before .before .declared-at .ensures) (c .before .before .before .before .taken-by-crd .ensures) _ (c .before .before .parts .given .1) in
+    let t = form-fit r cs 2 fitCrd (declaredAt line 2) _ (form .check-form .ensures) (passed .enum-told .given .1) _ _
+    (takes .before .declared-at .ensures) (takes .taken-by-crd .ensures) _ (right .parts .given .1) in
     rw (c .word-at .ensures, t .1) (sym (t .0))
 
 pub read-crd-spec : {M : Type 1} → statement M

@@ -4,7 +4,7 @@ use mathlib.Core.Path.{sym}
 use mathlib.Core.List.{_∷_}
 use lib.ListN.{length, drop}
 use Rattle.paper.specs.Line.{words}
-use Rattle.paper.specs.Request.{del, miscounted, misnamed, readDel}
+use Rattle.paper.specs.Request.{del, request, miscounted, misnamed, readDel}
 use Rattle.reader.proofs.Verdicts.{read-refused, read-passed}
 use Rattle.reader.proofs.Functions.{count-least, rest-first, rest-count}
 use borrow.Author.Needs.{needs}
@@ -23,10 +23,11 @@ enum-known-refusal c = search needs
 returns : tie.Need-returns
 unfolding readDel
 returns c =
-    let line = c .before .before .before .before .before .before .args .line .now in
-    let e = rw (c .before .before .before .before .count-words .ensures) at (c .before .before .before .check-form .ensures) in
-    let cs = misnamed 1 (length (words line)) line in
-    sym (read-refused (del (drop 1 (words line))) (miscounted 1 8 line ∷ cs) _ _ e (c .before .refusal .given .1))
+    let form = c .before .before .before in
+    let line = form .before .before .before .args .line .now in
+    let cs = miscounted 1 8 line ∷ misnamed 1 (length (words line)) line in
+    let e = rw (form .before .count-words .ensures) at (form .check-form .ensures) in
+    sym (read-refused (request (del (drop 1 (words line)))) cs _ e _ (c .before .refusal .given .1))
 
 enum-told : tie.Need-enum-told
 enum-told c = search needs
@@ -40,12 +41,14 @@ arguments-requires c κs = tt
 returns-2 : tie.Need-returns-2
 unfolding readDel
 returns-2 c =
-    let line = c .before .before .before .before .before .before .before .args .line .now in
-    let e = rw (c .before .before .before .before .before .count-words .ensures) at (c .before .before .before .before .check-form .ensures) in
+    let passed = c .before .before in
+    let form = passed .before .before in
+    let line = form .before .before .before .args .line .now in
     let cs = misnamed 1 (length (words line)) line in
-    let l = count-least 1 8 line cs _ e (c .before .before .enum-told .given .1) in
+    let e = rw (form .before .count-words .ensures) at (form .check-form .ensures) in
+    let l = count-least 1 8 line cs _ e (passed .enum-told .given .1) in
     rw (c .arguments .ensures, c .before .word-at .ensures, ← rest-first line l, ← rest-count line l)
-    (sym (read-passed (del (drop 1 (words line))) (miscounted 1 8 line ∷ cs) _ e (c .before .before .enum-told .given .1)))
+    (sym (read-passed (request (del (drop 1 (words line)))) (miscounted 1 8 line ∷ cs) _ e (passed .enum-told .given .1)))
 
 pub read-del-spec : {M : Type 1} → statement M
 read-del-spec =

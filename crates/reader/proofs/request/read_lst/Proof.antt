@@ -3,9 +3,9 @@
 use mathlib.Core.Path.{sym, _∙_}
 use mathlib.Core.List.{[], _∷_}
 use Rattle.paper.specs.Line.{word}
-use Rattle.paper.specs.Request.{lst, lstBase, miscounted, misnamed, readLst}
+use Rattle.paper.specs.Request.{lst, lstBase, request, miscounted, misnamed, readLst}
 use Rattle.reader.proofs.Verdicts.{read-refused, read-passed}
-use Rattle.reader.proofs.Functions.{word-alone}
+use Rattle.reader.proofs.Functions.{word-lone}
 use borrow.Author.Needs.{needs}
 use Rattle.reader.proofs.request.read_lst.Statement.{statement}
 use Rattle.reader.proofs.request.read_lst.Tie as tie
@@ -13,11 +13,14 @@ use Rattle.reader.proofs.request.read_lst.Tie as tie
 word-at-requires : tie.Need-word-at-requires
 word-at-requires c κs = tt
 
-slice-aggregate-is-alone : tie.Need-slice-aggregate-is-alone
-slice-aggregate-is-alone c = search needs
+lone-word-requires : tie.Need-lone-word-requires
+lone-word-requires c κs = tt
 
-is-alone-requires : tie.Need-is-alone-requires
-is-alone-requires c κs = tt
+slice-aggregate-are-same : tie.Need-slice-aggregate-are-same
+slice-aggregate-are-same c = search needs
+
+are-same-requires : tie.Need-are-same-requires
+are-same-requires c κs = tt
 
 check-count-requires : tie.Need-check-count-requires
 check-count-requires c κs = tt
@@ -28,9 +31,14 @@ enum-known-refusal c = search needs
 returns : tie.Need-returns
 unfolding readLst
 returns c =
-    let line = c .before .before .before .before .before .before .before .before .before .args .line .now in
-    let f = word-alone line 1 _ (c .before .before .before .before .before .before .before .word-at .ensures) (46 ∷ []) _ (c .before .before .before .before .before .is-alone .ensures) ∙ c .before .before .before .before .if1 .taken in
-    rw f (sym (read-refused lstBase (miscounted 1 1 line ∷ []) _ _ (c .before .before .before .check-count .ensures) (c .before .refusal .given .1)))
+    let form = c .before .before .before in
+    let test = form .before in
+    let same = test .before in
+    let lone = same .before .before in
+    let at = lone .before in
+    let line = at .before .before .args .line .now in
+    let f = word-lone line 1 _ (at .word-at .ensures) _ (lone .lone-word .ensures) 46 [] _ (same .are-same .ensures) ∙ test .if1 .taken in
+    rw f (sym (read-refused (request lstBase) (miscounted 1 1 line ∷ []) _ (form .check-count .ensures) _ (c .before .refusal .given .1)))
 
 enum-told : tie.Need-enum-told
 enum-told c = search needs
@@ -38,9 +46,14 @@ enum-told c = search needs
 returns-2 : tie.Need-returns-2
 unfolding readLst
 returns-2 c =
-    let line = c .before .before .before .before .before .before .before .before .args .line .now in
-    let f = word-alone line 1 _ (c .before .before .before .before .before .before .word-at .ensures) (46 ∷ []) _ (c .before .before .before .before .is-alone .ensures) ∙ c .before .before .before .if1 .taken in
-    rw f (sym (read-passed lstBase (miscounted 1 1 line ∷ []) _ (c .before .before .check-count .ensures) (c .enum-told .given .1)))
+    let form = c .before .before in
+    let test = form .before in
+    let same = test .before in
+    let lone = same .before .before in
+    let at = lone .before in
+    let line = at .before .before .args .line .now in
+    let f = word-lone line 1 _ (at .word-at .ensures) _ (lone .lone-word .ensures) 46 [] _ (same .are-same .ensures) ∙ test .if1 .taken in
+    rw f (sym (read-passed (request lstBase) (miscounted 1 1 line ∷ []) _ (form .check-count .ensures) (c .enum-told .given .1)))
 
 check-form-requires : tie.Need-check-form-requires
 check-form-requires c κs = tt
@@ -51,9 +64,14 @@ enum-known-refusal-2 c = search needs
 returns-3 : tie.Need-returns-3
 unfolding readLst
 returns-3 c =
-    let line = c .before .before .before .before .before .before .before .before .before .args .line .now in
-    let f = word-alone line 1 _ (c .before .before .before .before .before .before .before .word-at .ensures) (46 ∷ []) _ (c .before .before .before .before .before .is-alone .ensures) ∙ c .before .before .before .before .if1 .left in
-    rw f (sym (read-refused (lst (word line 1)) (miscounted 1 1 line ∷ misnamed 1 2 line) _ _ (c .before .before .before .check-form .ensures) (c .before .refusal2 .given .1)))
+    let form = c .before .before .before in
+    let test = form .before in
+    let same = test .before in
+    let lone = same .before .before in
+    let at = lone .before in
+    let line = at .before .before .args .line .now in
+    let f = word-lone line 1 _ (at .word-at .ensures) _ (lone .lone-word .ensures) 46 [] _ (same .are-same .ensures) ∙ test .if1 .left in
+    rw f (sym (read-refused (request (lst (word line 1))) (miscounted 1 1 line ∷ misnamed 1 2 line) _ (form .check-form .ensures) _ (c .before .refusal2 .given .1)))
 
 enum-told-2 : tie.Need-enum-told-2
 enum-told-2 c = search needs
@@ -61,18 +79,23 @@ enum-told-2 c = search needs
 returns-4 : tie.Need-returns-4
 unfolding readLst
 returns-4 c =
-    let line = c .before .before .before .before .before .before .before .before .args .line .now in
-    let f = word-alone line 1 _ (c .before .before .before .before .before .before .word-at .ensures) (46 ∷ []) _ (c .before .before .before .before .is-alone .ensures) ∙ c .before .before .before .if1 .left in
-    rw (f, c .before .before .before .before .before .before .word-at .ensures)
-    (sym (read-passed (lst (word line 1)) (miscounted 1 1 line ∷ misnamed 1 2 line) _ (c .before .before .check-form .ensures) (c .enum-told2 .given .1)))
+    let form = c .before .before in
+    let test = form .before in
+    let same = test .before in
+    let lone = same .before .before in
+    let at = lone .before in
+    let line = at .before .before .args .line .now in
+    let f = word-lone line 1 _ (at .word-at .ensures) _ (lone .lone-word .ensures) 46 [] _ (same .are-same .ensures) ∙ test .if1 .left in
+    rw (f, at .word-at .ensures) (sym (read-passed (request (lst (word line 1))) (miscounted 1 1 line ∷ misnamed 1 2 line) _ (form .check-form .ensures) (c .enum-told2 .given .1)))
 
 pub read-lst-spec : {M : Type 1} → statement M
 read-lst-spec =
     tie.close
     (tie.spec
     word-at-requires
-    slice-aggregate-is-alone
-    is-alone-requires
+    lone-word-requires
+    slice-aggregate-are-same
+    are-same-requires
     check-count-requires
     enum-known-refusal
     returns

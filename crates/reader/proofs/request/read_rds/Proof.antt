@@ -3,7 +3,7 @@
 use mathlib.Core.Path.{sym}
 use mathlib.Core.List.{_∷_}
 use Rattle.paper.specs.Line.{word}
-use Rattle.paper.specs.Request.{rds, miscounted, misnamed, readRds}
+use Rattle.paper.specs.Request.{rds, request, miscounted, misnamed, readRds}
 use Rattle.reader.proofs.Verdicts.{read-refused, read-passed}
 use borrow.Author.Needs.{needs}
 use Rattle.reader.proofs.request.read_rds.Statement.{statement}
@@ -18,8 +18,10 @@ enum-known-refusal c = search needs
 returns : tie.Need-returns
 unfolding readRds
 returns c =
-    let line = c .before .before .before .before .before .args .line .now in
-    sym (read-refused (rds (word line 1)) (miscounted 1 1 line ∷ misnamed 1 2 line) _ _ (c .before .before .before .check-form .ensures) (c .before .refusal .given .1))
+    let form = c .before .before .before in
+    let line = form .before .before .args .line .now in
+    let cs = miscounted 1 1 line ∷ misnamed 1 2 line in
+    sym (read-refused (request (rds (word line 1))) cs _ (form .check-form .ensures) _ (c .before .refusal .given .1))
 
 enum-told : tie.Need-enum-told
 enum-told c = search needs
@@ -30,9 +32,10 @@ word-at-requires c κs = tt
 returns-2 : tie.Need-returns-2
 unfolding readRds
 returns-2 c =
-    let line = c .before .before .before .before .before .args .line .now in
-    rw (c .word-at .ensures)
-    (sym (read-passed (rds (word line 1)) (miscounted 1 1 line ∷ misnamed 1 2 line) _ (c .before .before .before .check-form .ensures) (c .before .enum-told .given .1)))
+    let form = c .before .before .before in
+    let line = form .before .before .args .line .now in
+    let cs = miscounted 1 1 line ∷ misnamed 1 2 line in
+    rw (c .word-at .ensures) (sym (read-passed (request (rds (word line 1))) cs _ (form .check-form .ensures) (c .before .enum-told .given .1)))
 
 pub read-rds-spec : {M : Type 1} → statement M
 read-rds-spec =

@@ -17,21 +17,21 @@ is-pointed-requires c κs = tt
 returns : tie.Need-returns
 returns c = sym (base-bare (c .before .before .before .args .n .now) (sym (c .before .is-pointed .ensures) ∙ not-true _ (c .if1 .taken)))
 
-byte-requires : tie.Need-byte-requires
-byte-requires c κs = tt
+byte-at-requires : tie.Need-byte-at-requires
+byte-at-requires c κs = tt
 
 returns-2 : tie.Need-returns-2
 returns-2 c =
     let e = sym (c .before .before .before .before .is-pointed .ensures) ∙ not-false _ (c .before .before .before .if1 .left) in
-    rw (base-two _ (c .before .before .if2 .taken) e, ← c .before .byte .ensures)
+    rw (base-two _ (c .before .before .if2 .taken) e, ← c .before .byte-at .ensures)
     (⊎-elim (λ e. rw e) (⊎-elim (λ e. rw e) (⊎-elim (λ e. rw e) (λ e. rw e))) (c .match .keys1))
 
 returns-3 : tie.Need-returns-3
 returns-3 c =
     let e = sym (c .before .before .before .before .is-pointed .ensures) ∙ not-false _ (c .before .before .before .if1 .left) in
-    let b = c .before .byte .result in
+    let b = c .before .byte-at .result in
     let r = c .match .rest .1 in
-    rw (base-two _ (c .before .before .if2 .taken) e, ← c .before .byte .ensures, ne-eqb b 82 (λ e. r (inr (inl e))), ne-eqb b 87 (λ e. r (inr (inr (inr e)))), ne-eqb b 71 (λ e. r (inl e)), ne-eqb b 84 (λ e. r (inr (inr (inl e)))))
+    rw (base-two _ (c .before .before .if2 .taken) e, ← c .before .byte-at .ensures, ne-eqb b 82 (λ e. r (inr (inl e))), ne-eqb b 87 (λ e. r (inr (inr (inr e)))), ne-eqb b 71 (λ e. r (inl e)), ne-eqb b 84 (λ e. r (inr (inr (inl e)))))
 
 returns-4 : tie.Need-returns-4
 returns-4 c =
@@ -54,7 +54,7 @@ is-legal-base-spec =
     (tie.spec
     is-pointed-requires
     returns
-    byte-requires
+    byte-at-requires
     returns-2
     returns-3
     returns-4
