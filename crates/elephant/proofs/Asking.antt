@@ -12,11 +12,11 @@ use Rattle.paper.specs.Declaration.{Part, given, notGiven}
 use Rattle.paper.specs.Request as asked
 use Rattle.paper.specs.Request.{crd, wrs, rds, cpy, dup, chn, del, dpr, lst, lstBase, request, unread, read, textTooLong}
 use Rattle.laws.proofs.Tests.{clash}
-use Rattle.reader.specs.Given.{shownLifetime, shownLevel, shownDigit, lifetimePart, levelPart, digitPart}
+use Rattle.declarations.specs.Given.{shownLifetime, shownLevel, shownDigit, lifetimePart, levelPart, digitPart}
 use Rattle.reader.specs.Asked.{shownRequest, shownRead}
 use Rattle.reader.specs.Tied.{Tied, TiedRead}
-use Rattle.reader.specs.declared.declaration.Level.{Level}
-use Rattle.reader.specs.declared.declaration.Digit.{Digit}
+use Rattle.declarations.specs.declared.part.Level.{Level}
+use Rattle.declarations.specs.declared.part.Digit.{Digit}
 use Rattle.reader.specs.declared.request.Request.{Request}
 use Rattle.reader.proofs.request.Request.{the-type}
 use Rattle.reader.specs.declared.request.Request.the-variants.{Crd, Wrs, Rds, Cpy, Dup, Chn, Del, Dpr, Lst, LstBase}

@@ -11,10 +11,10 @@ use Rattle.paper.specs.Effect.{Planned, crdPlan, wrsPlan, rdsPlan, cpyPlan, dup
 use Rattle.paper.specs.Walk.{lastName}
 use Rattle.paper.specs.Answer.{Outcome, granted, requested, ran, single, deleting}
 use Rattle.words.specs.Place.{namesFrom}
-use Rattle.reader.specs.Given.{lifetimePart, levelPart, digitPart}
-use Rattle.reader.specs.declared.declaration.Lifetime.{Lifetime}
-use Rattle.reader.specs.declared.declaration.Level.{Level}
-use Rattle.reader.specs.declared.declaration.Digit.{Digit}
+use Rattle.declarations.specs.Given.{lifetimePart, levelPart, digitPart}
+use Rattle.declarations.specs.declared.part.Lifetime.{Lifetime}
+use Rattle.declarations.specs.declared.part.Level.{Level}
+use Rattle.declarations.specs.declared.part.Digit.{Digit}
 use Rattle.reader.specs.declared.request.Request.{Request}
 use Rattle.reader.specs.declared.request.Request.the-variants.{Crd, Wrs, Rds, Cpy, Dup, Chn, Del, Dpr, Lst, LstBase}
 use Rattle.reader.specs.declared.request.Read.the-variants.{Granted}

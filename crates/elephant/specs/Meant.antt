@@ -5,7 +5,7 @@ use lib.ListN.{drop}
 use Rattle.paper.specs.Line.{words}
 use Rattle.paper.specs.Request as asked
 use Rattle.paper.specs.Request.{crd, wrs, rds, cpy, dup, chn, del, dpr, lst, lstBase}
-use Rattle.reader.specs.Given.{lifetimePart, levelPart, digitPart}
+use Rattle.declarations.specs.Given.{lifetimePart, levelPart, digitPart}
 use Rattle.reader.specs.declared.request.Request.{Request}
 use Rattle.reader.specs.declared.request.Request.the-variants.{Crd, Wrs, Rds, Cpy, Dup, Chn, Del, Dpr, Lst, LstBase}
 use Rattle.ends.specs.Shown.{wordAt}

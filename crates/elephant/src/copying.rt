@@ -1,12 +1,12 @@
 // CPY: a new file with the text of an old one.
 use crate::making::file;
 use crate::reply::copy_text;
+use declarations::part::Digit;
+use declarations::part::Level;
+use declarations::part::Lifetime;
 use ends::answer::Answer;
 use ends::end::Both;
 use ends::end::to_both;
-use reader::declaration::Digit;
-use reader::declaration::Level;
-use reader::declaration::Lifetime;
 use records::bytes::Room;
 use records::bytes::part;
 use records::code::Code;
@@ -24,7 +24,7 @@ ghost use Rattle.paper.specs.Effect.{making, readInhibited, notSimple, cpyPlan}
 ghost use Rattle.paper.specs.Record.{simple};
 ghost use Rattle.paper.specs.Table.{rec};
 ghost use Rattle.paper.specs.Walk.{file};
-ghost use Rattle.reader.specs.Given.{lifetimePart, levelPart, digitPart};
+ghost use Rattle.declarations.specs.Given.{lifetimePart, levelPart, digitPart};
 ghost use Rattle.walk.specs.Shown.{meant};
 ghost use Rattle.ends.specs.Shown.{wordAt};
 ghost use Rattle.ends.specs.Placing.{ending};

@@ -1,13 +1,13 @@
 // CRD and WRS: a new file and its entry. DUP: another entry of a file.
 use crate::filing::File;
 use crate::filing::make;
+use declarations::part::Digit;
+use declarations::part::Level;
 use effects::rooms::free_rooms;
 use effects::rooms::room_at;
 use ends::answer::Answer;
 use ends::end::Both;
 use ends::end::to_both;
-use reader::declaration::Digit;
-use reader::declaration::Level;
 use records::bytes::Bytes;
 use records::bytes::Room;
 use records::bytes::part;
@@ -21,7 +21,7 @@ use walk::chain::to_directory;
 use walk::state::State;
 ghost use mathlib.Core.List.{[]};
 ghost use Rattle.paper.specs.Effect.{making, filing, crdPlan, wrsPlan, dupPlan};
-ghost use Rattle.reader.specs.Given.{levelPart, digitPart};
+ghost use Rattle.declarations.specs.Given.{levelPart, digitPart};
 ghost use Rattle.walk.specs.Shown.{meant};
 ghost use Rattle.ends.specs.Shown.{wordAt};
 ghost use Rattle.ends.specs.Placing.{ending};

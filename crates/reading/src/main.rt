@@ -1,11 +1,11 @@
 // Reads request lines from standard input and prints, a line for each, what the reader makes of it: the reply number and the
 // place; or 0, the function, and the numbers of the request in the order of its fields, a dash for a part that is not given;
 // for CRD and WRS also the first five bytes of the heading that is laid for such a file.
+use declarations::part::Digit;
+use declarations::part::Level;
+use declarations::part::Lifetime;
 use libc::STDIN_FILENO;
 use libc::STDOUT_FILENO;
-use reader::declaration::Digit;
-use reader::declaration::Level;
-use reader::declaration::Lifetime;
 use reader::request::Read;
 use reader::request::Request;
 use records::bytes::Bytes;
