@@ -53,7 +53,8 @@ function-read line =
   where
     go : (a b c d e f g h i : Bool)
         → cond a (readCrd line) (cond b (readWrs line) (cond c (readRds line) (cond d (readCpy line) (cond e (readDup line)
-        (cond f (readChn line) (cond g (readDel line) (cond h (readDpr line) (cond i (readLst line) (unread (record { number = 5; place = 0; link = 0 }))))))))))
+        (cond f (readChn line) (cond g (readDel line) (cond h (readDpr line) (cond i (readLst line)
+        (unread (record { number = 5; place = 0; link = 0 }))))))))))
         ≡ readBy (cond a function.Crd (cond b function.Wrs (cond c function.Rds (cond d function.Cpy (cond e function.Dup
         (cond f function.Chn (cond g function.Del (cond h function.Dpr (cond i function.Lst function.Nothing))))))))) line
     go true b c d e f g h i = refl

@@ -31,13 +31,21 @@ add-if1 c = search needs
 
 returns : tie.Need-returns
 returns c =
-    ends (c .before .before .before .before .before .before .before .before .args .w .now) (c .before .before .before .before .before .before .before .before .args .front) (c .before .before .before .before .before .before .before .before .args .i) _ _ _ _ (rw (c .before .before .before .before .before .before .byte-at .ensures) at (c .before .before .before .before .before .of .ensures)) (c .before .before .before .before .width .ensures .0)
-    (rw (c .before .before .before .byte-at2 .ensures) at (c .before .before .of2 .ensures)) (c .before .width2 .ensures .0) (c .if1 .taken)
+    let digit = c .before in
+    let level = digit .before .before .before in
+    let args = level .before .before .before .before .args in
+    ends (args .w .now) (args .front) (args .i) _ _ _ _ (rw (level .before .before .byte-at .ensures) at (level .before .of .ensures))
+    (level .width .ensures .0) (rw (digit .before .before .byte-at2 .ensures) at (digit .before .of2 .ensures)) (digit .width2 .ensures .0)
+    (c .if1 .taken)
 
 returns-2 : tie.Need-returns-2
 returns-2 c =
-    goes-on (c .before .before .before .before .before .before .before .before .args .w .now) (c .before .before .before .before .before .before .before .before .args .front) (c .before .before .before .before .before .before .before .before .args .i) _ _ _ _ (rw (c .before .before .before .before .before .before .byte-at .ensures) at (c .before .before .before .before .before .of .ensures)) (c .before .before .before .before .width .ensures .0)
-    (rw (c .before .before .before .byte-at2 .ensures) at (c .before .before .of2 .ensures)) (c .before .width2 .ensures .0) (c .if1 .left)
+    let digit = c .before in
+    let level = digit .before .before .before in
+    let args = level .before .before .before .before .args in
+    goes-on (args .w .now) (args .front) (args .i) _ _ _ _ (rw (level .before .before .byte-at .ensures) at (level .before .of .ensures))
+    (level .width .ensures .0) (rw (digit .before .before .byte-at2 .ensures) at (digit .before .of2 .ensures)) (digit .width2 .ensures .0)
+    (c .if1 .left)
 
 pub after-point-spec : {M : Type 1} → statement M
 after-point-spec =

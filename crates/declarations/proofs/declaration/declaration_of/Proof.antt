@@ -29,16 +29,24 @@ add-b c = search needs
 
 returns : tie.Need-returns
 returns c =
-    unpointed (c .before .before .before .before .before .before .before .before .args .w .now) _ _ _ _ (rw (c .before .before .before .before .before .before .byte-at .ensures) at (c .before .before .before .before .before .of .ensures)) (c .before .before .before .before .width .ensures .0)
-    (rw (c .before .before .before .byte-at2 .ensures) at (c .before .before .of2 .ensures)) (c .before .width2 .ensures .0) (c .if1 .taken)
+    let lifetime = c .before in
+    let kind = lifetime .before .before .before in
+    let w = kind .before .before .before .before .args .w .now in
+    unpointed w _ _ _ _ (rw (kind .before .before .byte-at .ensures) at (kind .before .of .ensures)) (kind .width .ensures .0)
+    (rw (lifetime .before .before .byte-at2 .ensures) at (lifetime .before .of2 .ensures)) (lifetime .width2 .ensures .0)
+    (c .if1 .taken)
 
 byte-at-requires-3 : tie.Need-byte-at-requires-3
 byte-at-requires-3 c κs = tt
 
 returns-2 : tie.Need-returns-2
 returns-2 c =
-    misplaced (c .before .before .before .before .before .before .before .before .before .before .args .w .now) _ _ _ _ (rw (c .before .before .before .before .before .before .before .before .byte-at .ensures) at (c .before .before .before .before .before .before .before .of .ensures)) (c .before .before .before .before .before .before .width .ensures .0)
-    (rw (c .before .before .before .before .before .byte-at2 .ensures) at (c .before .before .before .before .of2 .ensures)) (c .before .before .before .width2 .ensures .0) (c .before .before .if1 .left) (λ e. c .if2 .taken (c .before .byte-at3 .ensures ∙ e))
+    let lifetime = c .before .before .before in
+    let kind = lifetime .before .before .before in
+    let w = kind .before .before .before .before .args .w .now in
+    misplaced w _ _ _ _ (rw (kind .before .before .byte-at .ensures) at (kind .before .of .ensures)) (kind .width .ensures .0)
+    (rw (lifetime .before .before .byte-at2 .ensures) at (lifetime .before .of2 .ensures)) (lifetime .width2 .ensures .0)
+    (c .before .before .if1 .left) (λ e. c .if2 .taken (c .before .byte-at3 .ensures ∙ e))
 
 add-after-point : tie.Need-add-after-point
 add-after-point c = search needs
@@ -48,9 +56,13 @@ after-point-requires c κs = search needs
 
 returns-3 : tie.Need-returns-3
 returns-3 c =
+    let lifetime = c .before .before .before .before in
+    let kind = lifetime .before .before .before in
+    let w = kind .before .before .before .before .args .w .now in
     c .after-point .ensures
-    ∙ pointed-on (c .before .before .before .before .before .before .before .before .before .before .before .args .w .now) _ _ _ _ (rw (c .before .before .before .before .before .before .before .before .before .byte-at .ensures) at (c .before .before .before .before .before .before .before .before .of .ensures)) (c .before .before .before .before .before .before .before .width .ensures .0)
-    (rw (c .before .before .before .before .before .before .byte-at2 .ensures) at (c .before .before .before .before .before .of2 .ensures)) (c .before .before .before .before .width2 .ensures .0) (c .before .before .before .if1 .left) (sym (c .before .before .byte-at3 .ensures) ∙ c .before .if2 .left)
+    ∙ pointed-on w _ _ _ _ (rw (kind .before .before .byte-at .ensures) at (kind .before .of .ensures)) (kind .width .ensures .0)
+    (rw (lifetime .before .before .byte-at2 .ensures) at (lifetime .before .of2 .ensures)) (lifetime .width2 .ensures .0)
+    (c .before .before .before .if1 .left) (sym (c .before .before .byte-at3 .ensures) ∙ c .before .if2 .left)
 
 pub declaration-of-spec : {M : Type 1} → statement M
 declaration-of-spec =

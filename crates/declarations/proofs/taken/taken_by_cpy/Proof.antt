@@ -33,10 +33,18 @@ returns-3 : tie.Need-returns-3
 returns-3 c = rw (c .before .before .before .before .before .d .given .1, c .before .before .enum-told2 .given .1, c .enum-told4 .given .1)
 
 returns-4 : tie.Need-returns-4
-returns-4 c = rw (c .before .before .before .before .before .before .before .d .given .1, c .before .before .before .before .enum-told2 .given .1, c .before .before .lifetime .given .1, lt-leb 1 (c .before .before .lifetime .given .0 .0) (c .if1 .taken))
+returns-4 c =
+    let time = c .before .before in
+    let kind = time .before .before in
+    rw (kind .before .before .before .d .given .1, kind .enum-told2 .given .1, time .lifetime .given .1)
+    (rw (lt-leb 1 (time .lifetime .given .0 .0) (c .if1 .taken)))
 
 returns-5 : tie.Need-returns-5
-returns-5 c = rw (c .before .before .before .before .before .before .before .d .given .1, c .before .before .before .before .enum-told2 .given .1, c .before .before .lifetime .given .1, le-leb 1 (c .before .before .lifetime .given .0 .0) (c .if1 .left))
+returns-5 c =
+    let time = c .before .before in
+    let kind = time .before .before in
+    rw (kind .before .before .before .d .given .1, kind .enum-told2 .given .1, time .lifetime .given .1)
+    (rw (le-leb 1 (time .lifetime .given .0 .0) (c .if1 .left)))
 
 pub taken-by-cpy-spec : {M : Type 1} → statement M
 taken-by-cpy-spec =

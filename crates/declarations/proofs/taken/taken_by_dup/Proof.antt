@@ -41,7 +41,10 @@ returns-4 : tie.Need-returns-4
 returns-4 c = search needs
 
 returns-5 : tie.Need-returns-5
-returns-5 c = rw (c .before .before .before .before .before .before .before .d .given .1, c .before .before .before .before .enum-told2 .given .1, c .before .before .enum-told4 .given .1, c .enum-told6 .given .1)
+returns-5 c =
+    let lifetime = c .before .before in
+    let kind = lifetime .before .before in
+    rw (kind .before .before .before .d .given .1, kind .enum-told2 .given .1, lifetime .enum-told4 .given .1, c .enum-told6 .given .1)
 
 pub taken-by-dup-spec : {M : Type 1} → statement M
 taken-by-dup-spec =

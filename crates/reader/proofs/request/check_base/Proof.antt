@@ -3,7 +3,7 @@
 use mathlib.Core.Path.{sym, _∙_}
 use borrow.Author.Tests.{eq-eqb, ne-eqb}
 use Rattle.paper.specs.Request.{misbased}
-use Rattle.words.specs.Place.{namesFrom}
+use Rattle.words.specs.Place.{wordAt}
 use Rattle.words.proofs.Names.{names-first}
 use Rattle.reader.proofs.Verdicts.{check-holds, check-passes}
 use Rattle.reader.proofs.request.check_base.Statement.{statement}
@@ -14,10 +14,11 @@ count-links-requires c κs = tt
 
 returns : tie.Need-returns
 returns c =
-    let line = c .before .before .before .args .line .now in
-    let old = c .before .before .before .args .old in
-    let link = c .before .before .before .args .link in
-    sym (check-passes (misbased 2 (record { start = old; names = namesFrom line old }) (record { start = link; names = namesFrom line link })) (rw (← c .before .count-links .ensures, ne-eqb (c .before .count-links .result) 1 (c .if1 .taken))))
+    let count = c .before in
+    let args = count .before .before .args in
+    let line = args .line .now in
+    sym (check-passes (misbased 2 (wordAt line (args .old)) (wordAt line (args .link)))
+    (rw (← count .count-links .ensures, ne-eqb (count .count-links .result) 1 (c .if1 .taken))))
 
 name-requires : tie.Need-name-requires
 name-requires c κs = tt
@@ -27,23 +28,29 @@ is-legal-base-requires c κs = tt
 
 returns-2 : tie.Need-returns-2
 returns-2 c =
-    let line = c .before .before .before .before .before .before .args .line .now in
-    let old = c .before .before .before .before .before .before .args .old in
-    let link = c .before .before .before .before .before .before .args .link in
-    sym (check-passes (misbased 2 (record { start = old; names = namesFrom line old }) (record { start = link; names = namesFrom line link }))
-    (rw (← c .before .before .before .before .count-links .ensures, eq-eqb (c .before .before .before .before .count-links .result) 1 (c .before .before .before .if1 .left), names-first line link, ← c .before .before .name .ensures, ← c .before .is-legal-base .ensures, c .if2 .taken)))
+    let legal = c .before in
+    let name = legal .before in
+    let count = name .before .before in
+    let args = count .before .before .args in
+    let line = args .line .now in
+    sym (check-passes (misbased 2 (wordAt line (args .old)) (wordAt line (args .link)))
+    (rw (← count .count-links .ensures, eq-eqb (count .count-links .result) 1 (name .before .if1 .left), names-first line (args .link))
+    (rw (← name .name .ensures, ← legal .is-legal-base .ensures, c .if2 .taken))))
 
 refused-requires : tie.Need-refused-requires
 refused-requires c κs = tt
 
 returns-3 : tie.Need-returns-3
 returns-3 c =
-    let line = c .before .before .before .before .before .before .before .args .line .now in
-    let old = c .before .before .before .before .before .before .before .args .old in
-    let link = c .before .before .before .before .before .before .before .args .link in
+    let legal = c .before .before in
+    let name = legal .before in
+    let count = name .before .before in
+    let args = count .before .before .args in
+    let line = args .line .now in
     c .refused .ensures
-    ∙ sym (check-holds (misbased 2 (record { start = old; names = namesFrom line old }) (record { start = link; names = namesFrom line link }))
-    (rw (← c .before .before .before .before .before .count-links .ensures, eq-eqb (c .before .before .before .before .before .count-links .result) 1 (c .before .before .before .before .if1 .left), names-first line link, ← c .before .before .before .name .ensures, ← c .before .before .is-legal-base .ensures, c .before .if2 .left)))
+    ∙ sym (check-holds (misbased 2 (wordAt line (args .old)) (wordAt line (args .link)))
+    (rw (← count .count-links .ensures, eq-eqb (count .count-links .result) 1 (name .before .if1 .left), names-first line (args .link))
+    (rw (← name .name .ensures, ← legal .is-legal-base .ensures, c .before .if2 .left))))
 
 pub check-base-spec : {M : Type 1} → statement M
 check-base-spec =

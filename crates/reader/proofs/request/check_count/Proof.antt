@@ -16,10 +16,11 @@ refused-requires c κs = tt
 returns : tie.Need-returns
 unfolding counted
 returns c =
-    let line = c .before .before .before .before .args .line .now in
-    let least = c .before .before .before .before .args .least in
-    let most = c .before .before .before .before .args .most in
-    c .refused .ensures ∙ sym (check-holds (miscounted least most line) (rw (← c .before .before .arguments .ensures, lt-leb least _ (c .before .if1 .taken))))
+    let count = c .before .before in
+    let args = count .before .before .args in
+    c .refused .ensures
+    ∙ sym (check-holds (miscounted (args .least) (args .most) (args .line .now))
+    (rw (← count .arguments .ensures, lt-leb (args .least) _ (c .before .if1 .taken))))
 
 refused-requires-2 : tie.Need-refused-requires-2
 refused-requires-2 c κs = tt
@@ -27,18 +28,19 @@ refused-requires-2 c κs = tt
 returns-2 : tie.Need-returns-2
 unfolding counted
 returns-2 c =
-    let line = c .before .before .before .before .before .args .line .now in
-    let least = c .before .before .before .before .before .args .least in
-    let most = c .before .before .before .before .before .args .most in
-    c .refused2 .ensures ∙ sym (check-holds (miscounted least most line) (rw (← c .before .before .before .arguments .ensures, le-leb least _ (c .before .before .if1 .left), lt-leb _ most (c .before .if2 .taken))))
+    let count = c .before .before .before in
+    let args = count .before .before .args in
+    c .refused2 .ensures
+    ∙ sym (check-holds (miscounted (args .least) (args .most) (args .line .now))
+    (rw (← count .arguments .ensures, le-leb (args .least) _ (c .before .before .if1 .left), lt-leb _ (args .most) (c .before .if2 .taken))))
 
 returns-3 : tie.Need-returns-3
 unfolding counted
 returns-3 c =
-    let line = c .before .before .before .before .args .line .now in
-    let least = c .before .before .before .before .args .least in
-    let most = c .before .before .before .before .args .most in
-    sym (check-passes (miscounted least most line) (rw (← c .before .before .arguments .ensures, le-leb least _ (c .before .if1 .left), le-leb _ most (c .if2 .left))))
+    let count = c .before .before in
+    let args = count .before .before .args in
+    sym (check-passes (miscounted (args .least) (args .most) (args .line .now))
+    (rw (← count .arguments .ensures, le-leb (args .least) _ (c .before .if1 .left), le-leb _ (args .most) (c .if2 .left))))
 
 pub check-count-spec : {M : Type 1} → statement M
 check-count-spec =

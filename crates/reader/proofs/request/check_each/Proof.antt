@@ -15,7 +15,9 @@ use Rattle.reader.proofs.request.check_each.Statement.{statement}
 use Rattle.reader.proofs.request.check_each.Tie as tie
 
 abbrev Inv-loop : tie.InvT-loop
-Inv-loop line fault a b p₀ k₀ p k = (shownVerdict (verdict (each (faultCheck fault) k (between k b line))) ≡ shownVerdict (verdict (each (faultCheck fault) a (between a b line)))) × (p ≡ word line k .start)
+Inv-loop line fault a b p₀ k₀ p k =
+    (shownVerdict (verdict (each (faultCheck fault) k (between k b line))) ≡ shownVerdict (verdict (each (faultCheck fault) a (between a b line))))
+    × (p ≡ word line k .start)
 
 abbrev μ-loop : tie.MeasureT-loop
 μ-loop line fault a b p₀ k₀ p k = b - k
@@ -29,12 +31,11 @@ loop-holds c = (refl, c .word-at .ensures)
 returns : tie.Need-returns Inv-loop μ-loop
 unfolding verdict
 returns c =
-    let line = c .before .before .before .before .before .args .line .now in
-    let b = c .before .before .before .before .before .args .b in
-    let check = faultCheck (c .before .before .before .before .before .args .fault) in
-    let k = c .before .before .loop .k in
-    let l = word-none line k (rw (← c .before .before .loop .inv .1) (c .if1 .taken)) in
-    rw (← c .before .before .loop .inv .0, each-past check line k b l)
+    let turn = c .before .before in
+    let args = turn .before .before .before .args in
+    let line = args .line .now in
+    let l = word-none line (turn .loop .k) (rw (← turn .loop .inv .1) (c .if1 .taken)) in
+    rw (← turn .loop .inv .0, each-past (faultCheck (args .fault)) line (turn .loop .k) (args .b) l)
 
 check-name-requires : tie.Need-check-name-requires Inv-loop μ-loop
 check-name-requires c κs = tt
@@ -47,13 +48,16 @@ enum-told-2 c = search needs
 
 returns-2 : tie.Need-returns-2 Inv-loop μ-loop
 returns-2 c =
-    let line = c .before .before .before .before .before .before .before .before .args .line .now in
-    let b = c .before .before .before .before .before .before .before .before .args .b in
-    let check = faultCheck (c .before .before .before .before .before .before .before .before .args .fault) in
-    let k = c .before .before .before .before .before .loop .k in
-    let l = word-there line k (rw (← c .before .before .before .before .before .loop .inv .1) (c .before .before .before .if1 .left)) in
-    let e = rw (word-here line k (c .before .before .before .before .before .loop .p) (c .before .before .before .before .before .loop .inv .1)) at (c .before .before .check-name .ensures) in
-    c .enum-told2 .given .1 ∙ sym (sym (c .before .before .before .before .before .loop .inv .0) ∙ each-refused check line k b (c .before .before .before .before .loop-test .taken) l _ (sym e ∙ c .enum-told2 .given .1))
+    let name = c .before .before in
+    let test = name .before .before in
+    let turn = test .before in
+    let args = turn .before .before .before .args in
+    let line = args .line .now in
+    let k = turn .loop .k in
+    let l = word-there line k (rw (← turn .loop .inv .1) (name .before .if1 .left)) in
+    let e = rw (word-here line k (turn .loop .p) (turn .loop .inv .1)) at (name .check-name .ensures) in
+    let r = each-refused (faultCheck (args .fault)) line k (args .b) (test .loop-test .taken) l _ (sym e ∙ c .enum-told2 .given .1) in
+    c .enum-told2 .given .1 ∙ sym (sym (turn .loop .inv .0) ∙ r)
 
 next-word-requires : tie.Need-next-word-requires Inv-loop μ-loop
 next-word-requires c κs = tt
@@ -66,24 +70,23 @@ loop-less c = omega arith
 
 loop-again : tie.Need-loop-again Inv-loop μ-loop
 loop-again c =
-    let line = c .before .before .before .before .before .before .before .before .before .args .line .now in
-    let b = c .before .before .before .before .before .before .before .before .before .args .b in
-    let check = faultCheck (c .before .before .before .before .before .before .before .before .before .args .fault) in
-    let k = c .before .before .before .before .before .before .loop .k in
-    let l = word-there line k (rw (← c .before .before .before .before .before .before .loop .inv .1) (c .before .before .before .before .if1 .left)) in
-    let e = rw (word-here line k (c .before .before .before .before .before .before .loop .p) (c .before .before .before .before .before .before .loop .inv .1)) at (c .before .before .before .check-name .ensures) in (
-      rw (← each-passed check line k b (c .before .before .before .before .before .loop-test .taken) l (sym e ∙ c .before .enum-told .given .1)) (c .before .before .before .before .before .before .loop .inv .0),
-      rw (add-one, word-next, ← c .before .before .before .before .before .before .loop .inv .1) (c .next-word .ensures),
-    )
+    let name = c .before .before .before in
+    let test = name .before .before in
+    let turn = test .before in
+    let args = turn .before .before .before .args in
+    let line = args .line .now in
+    let k = turn .loop .k in
+    let l = word-there line k (rw (← turn .loop .inv .1) (name .before .if1 .left)) in
+    let e = rw (word-here line k (turn .loop .p) (turn .loop .inv .1)) at (name .check-name .ensures) in
+    let r = each-passed (faultCheck (args .fault)) line k (args .b) (test .loop-test .taken) l (sym e ∙ c .before .enum-told .given .1) in
+    (rw (← r) (turn .loop .inv .0), rw (add-one, word-next, ← turn .loop .inv .1) (c .next-word .ensures))
 
 returns-3 : tie.Need-returns-3 Inv-loop μ-loop
 unfolding verdict
 returns-3 c =
-    let line = c .before .before .before .before .args .line .now in
-    let b = c .before .before .before .before .args .b in
-    let check = faultCheck (c .before .before .before .before .args .fault) in
-    let k = c .before .loop .k in
-    rw (← c .before .loop .inv .0, each-none check line k b (c .loop-test .left))
+    let turn = c .before in
+    let args = turn .before .before .before .args in
+    rw (← turn .loop .inv .0, each-none (faultCheck (args .fault)) (args .line .now) (turn .loop .k) (args .b) (c .loop-test .left))
 
 pub check-each-spec : {M : Type 1} → statement M
 check-each-spec =

@@ -17,9 +17,10 @@ then-requires c κs = tt
 
 returns : tie.Need-returns
 returns c =
-    let line = c .before .before .before .before .args .line .now in
+    let args = c .before .before .before .before .args in
+    let line = args .line .now in
     rw (c .then .ensures, c .before .check-names .ensures, c .before .before .check-count .ensures)
-    (verdict-then (miscounted (c .before .before .before .before .args .least) (c .before .before .before .before .args .most) line ∷ []) (misnamed (c .before .before .before .before .args .a) (c .before .before .before .before .args .b) line))
+    (verdict-then (miscounted (args .least) (args .most) line ∷ []) (misnamed (args .a) (args .b) line))
 
 pub check-form-spec : {M : Type 1} → statement M
 check-form-spec =

@@ -2,7 +2,7 @@
 -- one that the check has.
 use mathlib.Core.Path.{sym, _∙_}
 use Rattle.paper.specs.Request.{unlinked}
-use Rattle.words.specs.Place.{namesFrom}
+use Rattle.words.specs.Place.{wordAt}
 use Rattle.reader.proofs.Verdicts.{check-holds, check-passes}
 use Rattle.reader.proofs.request.check_link.Statement.{statement}
 use Rattle.reader.proofs.request.check_link.Tie as tie
@@ -12,18 +12,19 @@ is-link-alone-requires c κs = tt
 
 returns : tie.Need-returns
 returns c =
-    let line = c .before .before .before .args .line .now in
-    let p = c .before .before .before .args .p in
-    sym (check-passes (unlinked 2 (record { start = p; names = namesFrom line p })) (rw (← c .before .is-link-alone .ensures, c .if1 .taken)))
+    let args = c .before .before .before .args in
+    let w = wordAt (args .line .now) (args .p) in
+    sym (check-passes (unlinked 2 w) (rw (← c .before .is-link-alone .ensures, c .if1 .taken)))
 
 refused-requires : tie.Need-refused-requires
 refused-requires c κs = tt
 
 returns-2 : tie.Need-returns-2
 returns-2 c =
-    let line = c .before .before .before .before .args .line .now in
-    let p = c .before .before .before .before .args .p in
-    c .refused .ensures ∙ sym (check-holds (unlinked 2 (record { start = p; names = namesFrom line p })) (rw (← c .before .before .is-link-alone .ensures, c .before .if1 .left)))
+    let test = c .before .before in
+    let args = test .before .before .args in
+    let w = wordAt (args .line .now) (args .p) in
+    c .refused .ensures ∙ sym (check-holds (unlinked 2 w) (rw (← test .is-link-alone .ensures, c .before .if1 .left)))
 
 pub check-link-spec : {M : Type 1} → statement M
 check-link-spec = tie.close (tie.spec is-link-alone-requires returns refused-requires returns-2)

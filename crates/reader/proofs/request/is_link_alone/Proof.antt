@@ -27,7 +27,8 @@ returns-2 : tie.Need-returns-2
 returns-2 c =
     let name = c .before .before in
     let link = name .before in
-    rw (link-lone, ← link .before .lone-word .ensures, ← link .is-link-name .ensures, not-false (link .is-link-name .result) (name .if1 .left), ← c .are-same .ensures)
+    rw (link-lone, ← link .before .lone-word .ensures, ← link .is-link-name .ensures)
+    (rw (not-false (link .is-link-name .result) (name .if1 .left), ← c .are-same .ensures))
 
 pub is-link-alone-spec : {M : Type 1} → statement M
 is-link-alone-spec =

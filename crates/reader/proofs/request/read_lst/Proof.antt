@@ -71,7 +71,8 @@ returns-3 c =
     let at = lone .before in
     let line = at .before .before .args .line .now in
     let f = word-lone line 1 _ (at .word-at .ensures) _ (lone .lone-word .ensures) 46 [] _ (same .are-same .ensures) ∙ test .if1 .left in
-    rw f (sym (read-refused (request (lst (word line 1))) (miscounted 1 1 line ∷ misnamed 1 2 line) _ (form .check-form .ensures) _ (c .before .refusal2 .given .1)))
+    let cs = miscounted 1 1 line ∷ misnamed 1 2 line in
+    rw f (sym (read-refused (request (lst (word line 1))) cs _ (form .check-form .ensures) _ (c .before .refusal2 .given .1)))
 
 enum-told-2 : tie.Need-enum-told-2
 enum-told-2 c = search needs
@@ -86,7 +87,8 @@ returns-4 c =
     let at = lone .before in
     let line = at .before .before .args .line .now in
     let f = word-lone line 1 _ (at .word-at .ensures) _ (lone .lone-word .ensures) 46 [] _ (same .are-same .ensures) ∙ test .if1 .left in
-    rw (f, at .word-at .ensures) (sym (read-passed (request (lst (word line 1))) (miscounted 1 1 line ∷ misnamed 1 2 line) _ (form .check-form .ensures) (c .enum-told2 .given .1)))
+    let cs = miscounted 1 1 line ∷ misnamed 1 2 line in
+    rw (f, at .word-at .ensures) (sym (read-passed (request (lst (word line 1))) cs _ (form .check-form .ensures) (c .enum-told2 .given .1)))
 
 pub read-lst-spec : {M : Type 1} → statement M
 read-lst-spec =

@@ -23,7 +23,10 @@ returns-4 c = rw (c .match .keys4)
 
 returns-5 : tie.Need-returns-5
 unfolding levelLetter
-returns-5 c = rw (ne-eqb (c .before .args .b) 85 (c .match .rest .0 .0 .0 .1), ne-eqb (c .before .args .b) 80 (c .match .rest .0 .0 .1), ne-eqb (c .before .args .b) 65 (c .match .rest .0 .1), ne-eqb (c .before .args .b) 83 (c .match .rest .1))
+returns-5 c =
+    let b = c .before .args .b in
+    let r = c .match .rest in
+    rw (ne-eqb b 85 (r .0 .0 .0 .1), ne-eqb b 80 (r .0 .0 .1), ne-eqb b 65 (r .0 .1), ne-eqb b 83 (r .1))
 
 pub of-spec : {M : Type 1} → statement M
 of-spec = tie.close (tie.spec returns returns-2 returns-3 returns-4 returns-5)

@@ -19,7 +19,10 @@ returns-3 c = rw (c .match .keys3)
 
 returns-4 : tie.Need-returns-4
 unfolding lifetimeLetter
-returns-4 c = rw (ne-eqb (c .before .args .b) 83 (c .match .rest .0 .0 .1), ne-eqb (c .before .args .b) 77 (c .match .rest .0 .1), ne-eqb (c .before .args .b) 76 (c .match .rest .1))
+returns-4 c =
+    let b = c .before .args .b in
+    let r = c .match .rest in
+    rw (ne-eqb b 83 (r .0 .0 .1), ne-eqb b 77 (r .0 .1), ne-eqb b 76 (r .1))
 
 pub of-spec : {M : Type 1} → statement M
 of-spec = tie.close (tie.spec returns returns-2 returns-3 returns-4)
