@@ -19,7 +19,6 @@ use Rattle.declarations.specs.declared.part.Level.the-variants as level
 use Rattle.declarations.specs.declared.part.Digit.{Digit}
 use Rattle.declarations.specs.declared.part.Digit.the-variants as digits
 use Rattle.declarations.specs.declared.declaration.Parts.{Parts}
-use Rattle.declarations.specs.declared.declaration.Declaration.{Declaration}
 use Rattle.declarations.specs.declared.declaration.Declaration.the-variants.{Right, Wrong}
 
 -- a part shown and taken back, for each of the four enums
@@ -48,10 +47,6 @@ kind-again kind.NotGiven = refl
 lifetime-again : (k : Lifetime) → shownLifetime (lifetimePart k) ≡ k
 lifetime-again (lifetime.Given n) = refl
 lifetime-again lifetime.NotGiven = refl
-
-pub level-again : (k : Level) → shownLevel (levelPart k) ≡ k
-level-again (level.Given n) = refl
-level-again level.NotGiven = refl
 
 pub digit-again : (k : Digit) → shownDigit (digitPart k) ≡ k
 digit-again (digits.Given n) = refl

@@ -57,10 +57,10 @@ pub fn taken_by_cpy(d: Declaration) -> Declaration
         return Declaration::Wrong;
     };
     let lifetime = parts.lifetime;
-    let Lifetime::Given(time) = lifetime else {
+    let Lifetime::Given(kept) = lifetime else {
         return d;
     };
-    if time < Lifetime::MEDIUM {
+    if kept < Lifetime::MEDIUM {
         return Declaration::Wrong;
     }
     d
@@ -77,8 +77,8 @@ pub fn taken_by_dup(d: Declaration) -> Declaration
     let Kind::NotGiven = kind else {
         return Declaration::Wrong;
     };
-    let lifetime = parts.lifetime;
-    let Lifetime::NotGiven = lifetime else {
+    let time = parts.lifetime;
+    let Lifetime::NotGiven = time else {
         return Declaration::Wrong;
     };
     let level = parts.level;

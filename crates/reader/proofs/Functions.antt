@@ -12,7 +12,7 @@ use borrow.Author.Tests.{eqb-true, leb-true}
 use Rattle.paper.specs.Name.{same, alone, linkName}
 use Rattle.paper.specs.Line.{words, word}
 use Rattle.paper.specs.Check.{Check, refused, verdict}
-use Rattle.paper.specs.Request.{Read, unread, counted, miscounted, malformed, illegal, linkAlone, unlinked, misbased, isFunction, readCrd, readWrs, readRds, readLst, readCpy, readDup, readChn, readDpr, readDel, readFunction}
+use Rattle.paper.specs.Request.{unread, counted, miscounted, malformed, illegal, linkAlone, unlinked, misbased, isFunction, readCrd, readWrs, readRds, readLst, readCpy, readDup, readChn, readDpr, readDel, readFunction}
 use Rattle.words.specs.Place.{loneOf, namesFrom, wordAt}
 use Rattle.laws.proofs.Tests.{false-by, and-left, and-right, clash}
 use Rattle.records.proofs.Order.{same-length}

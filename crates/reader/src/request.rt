@@ -27,7 +27,7 @@ ghost use mathlib.Core.Path.{_≡_};
 ghost use mathlib.Core.List.{[], _∷_};
 ghost use Prim.Native.Nat.{_-_};
 ghost use lib.ListN.{length};
-ghost use Rattle.paper.specs.Line.{Word, words};
+ghost use Rattle.paper.specs.Line.{words};
 ghost use Rattle.paper.specs.Check.{verdict};
 ghost use Rattle.paper.specs.Request.{each, between, unlinked, misbased, miscounted, misnamed, linkAlone, readCrd, readWrs, readRds, readLst, readCpy, readDup, readChn, readDpr, readDel, readFunction, read};
 ghost use Rattle.words.specs.Place.{namesFrom, wordAt};

@@ -120,7 +120,8 @@ chain-bare line p e = rw (names-step line p, e)
 pub chain-length : (line : List ℕ) (p : ℕ) → length (namesFrom line p) + firstLink (namesFrom line p) - 1 ≡ length (chain (namesFrom line p))
 chain-length line p = rw (names-first line p) (go (truth (pointed (cut line p))))
   where
-    go : (pointed (cut line p) ≡ true) ⊎ (pointed (cut line p) ≡ false) → length (namesFrom line p) + cond (pointed (cut line p)) 1 2 - 1 ≡ length (chain (namesFrom line p))
+    go : (pointed (cut line p) ≡ true) ⊎ (pointed (cut line p) ≡ false)
+        → length (namesFrom line p) + cond (pointed (cut line p)) 1 2 - 1 ≡ length (chain (namesFrom line p))
     go (inl e) = rw (chain-pointed line p e, e) (omega arith)
     go (inr e) = rw (chain-bare line p e, e) (omega arith)
 

@@ -129,10 +129,14 @@ closed-step line p l = rw (drop-cons line p 0 l)
 
 module _ (line : List ℕ) where
   Skip : ℕ → Type 0
-  Skip p = (skipped (closedFrom line p) ≡ closedFrom line (reach isBlank line p)) × (atColon (closedFrom line p) ≡ isColon (getD line (reach isBlank line p) 0))
+  Skip p =
+      (skipped (closedFrom line p) ≡ closedFrom line (reach isBlank line p))
+      × (atColon (closedFrom line p) ≡ isColon (getD line (reach isBlank line p) 0))
 
   -- past the blanks from p on
-  closed-skip : (p : ℕ) → (skipped (closedFrom line p) ≡ closedFrom line (reach isBlank line p)) × (atColon (closedFrom line p) ≡ isColon (getD line (reach isBlank line p) 0))
+  closed-skip : (p : ℕ)
+      → (skipped (closedFrom line p) ≡ closedFrom line (reach isBlank line p))
+      × (atColon (closedFrom line p) ≡ isColon (getD line (reach isBlank line p) 0))
   unfolding Skip skipped atColon spot
   closed-skip = places Skip (length line) over one
     where
@@ -143,10 +147,12 @@ module _ (line : List ℕ) where
       one p l r = go (truth (isBlank (getD line p 0)))
         where
           go : (isBlank (getD line p 0) ≡ true) ⊎ (isBlank (getD line p 0) ≡ false) → Skip p
-          go (inl e) = (
-            rw (reach-go isBlank line p l e, closed-step line p l, close-blank (spot line p) (closedFrom line (suc p)) e, skip-blank (spot line p) (closedFrom line (suc p)) e) (r .0),
-            rw (reach-go isBlank line p l e, closed-step line p l, close-blank (spot line p) (closedFrom line (suc p)) e, at-colon-blank (spot line p) (closedFrom line (suc p)) e) (r .1),
-          )
+          go (inl e) =
+              let b = spot line p in
+              let s = closedFrom line (suc p) in (
+                rw (reach-go isBlank line p l e, closed-step line p l, close-blank b s e, skip-blank b s e) (r .0),
+                rw (reach-go isBlank line p l e, closed-step line p l, close-blank b s e, at-colon-blank b s e) (r .1),
+              )
           go (inr e) =
               let f = front (spot line p) (closedFrom line (suc p)) e in
               (rw (reach-stop isBlank line p e, closed-step line p l) (f .0), rw (reach-stop isBlank line p e, closed-step line p l) (f .1))

@@ -47,7 +47,8 @@ module _ (line : List ℕ) where
   words-start : (p : ℕ) → p ≤ length line → startOf line (wordsFrom line p) ≡ reach isBlank line p
   words-start p l = rw (words-skip line p) (go (side (reach isBlank line p) (length line)))
     where
-      go : (reach isBlank line p < length line) ⊎ (length line ≤ reach isBlank line p) → startOf line (wordsFrom line (reach isBlank line p)) ≡ reach isBlank line p
+      go : (reach isBlank line p < length line) ⊎ (length line ≤ reach isBlank line p)
+          → startOf line (wordsFrom line (reach isBlank line p)) ≡ reach isBlank line p
       go (inl h) = rw (words-here (reach isBlank line p) h (reach-stopped isBlank line p h))
       go (inr h) = rw (words-over line (reach isBlank line p) h .0) (omega (arith, reach-inside isBlank line p l))
 
@@ -179,7 +180,8 @@ module _ (line : List ℕ) where
   gap-later : (p : ℕ) → p < length line → joined line p ≡ false → p < gapEnd line p
   gap-later p l e = go (truth (isPlain (getD line p 0))) (truth (isBlank (getD line p 0)))
     where
-      go : (isPlain (getD line p 0) ≡ true) ⊎ (isPlain (getD line p 0) ≡ false) → (isBlank (getD line p 0) ≡ true) ⊎ (isBlank (getD line p 0) ≡ false) → p < gapEnd line p
+      go : (isPlain (getD line p 0) ≡ true) ⊎ (isPlain (getD line p 0) ≡ false)
+          → (isBlank (getD line p 0) ≡ true) ⊎ (isBlank (getD line p 0) ≡ false) → p < gapEnd line p
       go (inl f) g = omega (arith, reach-more isPlain line p l f, reach-le isBlank line (nameEnd line p))
       go (inr f) (inl g) = rw (reach-stop isPlain line p f) (reach-more isBlank line p l g)
       go (inr f) (inr g) =

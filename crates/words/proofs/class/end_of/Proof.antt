@@ -28,7 +28,10 @@ passes-requires : tie.Need-passes-requires Inv-loop μ-loop
 passes-requires c κs = tt
 
 returns : tie.Need-returns Inv-loop μ-loop
-returns c = sym (reach-stop (test (c .before .before .before .before .before .before .args .class)) _ _ (sym (c .before .passes .ensures) ∙ not-true _ (c .if1 .taken))) ∙ c .before .before .before .before .loop .inv
+returns c =
+    let turn = c .before .before .before .before in
+    let args = turn .before .before .args in
+    sym (reach-stop (test (args .class)) _ _ (sym (c .before .passes .ensures) ∙ not-true _ (c .if1 .taken))) ∙ turn .loop .inv
 
 add-i : tie.Need-add-i Inv-loop μ-loop
 add-i c = omega arith
@@ -38,8 +41,11 @@ loop-less c = omega arith
 
 loop-again : tie.Need-loop-again Inv-loop μ-loop
 loop-again c =
-    let g = reach-go (test (c .before .before .before .before .before .before .args .class)) (c .before .before .before .before .before .before .args .s .now) (c .before .before .before .before .loop .i) (c .before .before .before .loop-test .taken) in
-    rw (add-one, ← g (sym (c .before .passes .ensures) ∙ not-false _ (c .if1 .left))) (c .before .before .before .before .loop .inv)
+    let inside = c .before .before .before in
+    let turn = inside .before in
+    let args = turn .before .before .args in
+    let g = reach-go (test (args .class)) (args .s .now) (turn .loop .i) (inside .loop-test .taken) in
+    rw (add-one, ← g (sym (c .before .passes .ensures) ∙ not-false _ (c .if1 .left))) (turn .loop .inv)
 
 returns-2 : tie.Need-returns-2 Inv-loop μ-loop
 returns-2 c = sym (reach-end (test (c .before .before .before .args .class)) _ _ (c .loop-test .left)) ∙ c .before .loop .inv

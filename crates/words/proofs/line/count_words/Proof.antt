@@ -29,7 +29,10 @@ add-n : tie.Need-add-n Inv-loop μ-loop
 add-n c = omega arith
 
 loop-less : tie.Need-loop-less Inv-loop μ-loop
-loop-less c = omega (arith, c .next-word .ensures, next-word-later (c .before .before .before .before .before .args .line .now) (c .before .before .loop .p) (c .before .loop-test .taken))
+loop-less c =
+    let turn = c .before .before in
+    let line = turn .before .before .before .args .line .now in
+    omega (arith, c .next-word .ensures, next-word-later line (turn .loop .p) (c .before .loop-test .taken))
 
 loop-again : tie.Need-loop-again Inv-loop μ-loop
 loop-again c =

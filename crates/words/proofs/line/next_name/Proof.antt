@@ -21,7 +21,9 @@ byte-at-requires c κs = tt
 
 add-end-of : tie.Need-add-end-of
 add-end-of c =
-    let l = colon-inside (c .before .before .before .before .before .args .line .now) (c .before .before .end-of2 .result) (eq-eqb _ 58 (sym (c .before .byte-at .ensures) ∙ c .if1 .taken)) in
+    let gap = c .before .before in
+    let line = gap .before .before .before .args .line .now in
+    let l = colon-inside line (gap .end-of2 .result) (eq-eqb _ 58 (sym (c .before .byte-at .ensures) ∙ c .if1 .taken)) in
     record { fits = omega arith }
 
 end-of-requires-3 : tie.Need-end-of-requires-3
@@ -29,16 +31,21 @@ end-of-requires-3 c κs = tt
 
 returns : tie.Need-returns
 returns c =
-    let line = c .before .before .before .before .before .before .args .line .now in
-    let p = c .before .before .before .before .before .before .args .p in
-    let e : joined line p ≡ true = eq-eqb (getD line (gapEnd line p) 0) 58 (rw (c .before .before .before .end-of2 .ensures, c .before .before .before .before .end-of .ensures) at (sym (c .before .before .byte-at .ensures)) ∙ c .before .if1 .taken) in
-    rw (e, c .end-of3 .ensures, c .before .before .before .end-of2 .ensures, c .before .before .before .before .end-of .ensures)
+    let gap = c .before .before .before in
+    let end = gap .before in
+    let args = end .before .before .args in
+    let line = args .line .now in
+    let b = rw (gap .end-of2 .ensures, end .end-of .ensures) at (sym (c .before .before .byte-at .ensures)) in
+    let e : joined line (args .p) ≡ true = eq-eqb (getD line (gapEnd line (args .p)) 0) 58 (b ∙ c .before .if1 .taken) in
+    rw (e, c .end-of3 .ensures, gap .end-of2 .ensures, end .end-of .ensures)
 
 returns-2 : tie.Need-returns-2
 returns-2 c =
-    let line = c .before .before .before .before .before .args .line .now in
-    let p = c .before .before .before .before .before .args .p in
-    let e : joined line p ≡ false = rw (c .before .before .end-of2 .ensures, c .before .before .before .end-of .ensures) at (ne-eqb _ 58 (λ q. c .if1 .left (c .before .byte-at .ensures ∙ q))) in
+    let gap = c .before .before in
+    let end = gap .before in
+    let args = end .before .before .args in
+    let no = ne-eqb _ 58 (λ q. c .if1 .left (c .before .byte-at .ensures ∙ q)) in
+    let e : joined (args .line .now) (args .p) ≡ false = rw (gap .end-of2 .ensures, end .end-of .ensures) at no in
     rw e
 
 pub next-name-spec : {M : Type 1} → statement M

@@ -20,10 +20,14 @@ add-result c =
     record { fits = omega (arith, c .first-link .ensures, c .before .count-names .ensures, f .1, names-few line p) }
 
 sub-result : tie.Need-sub-result
-sub-result c = omega (arith, c .first-link .ensures, link-range (namesFrom (c .before .before .before .args .line .now) (c .before .before .before .args .p)) .0)
+sub-result c =
+    let args = c .before .before .before .args in
+    omega (arith, c .first-link .ensures, link-range (namesFrom (args .line .now) (args .p)) .0)
 
 returns : tie.Need-returns
-returns c = rw (c .first-link .ensures, c .before .count-names .ensures) (chain-length (c .before .before .before .args .line .now) (c .before .before .before .args .p))
+returns c =
+    let args = c .before .before .before .args in
+    rw (c .first-link .ensures, c .before .count-names .ensures) (chain-length (args .line .now) (args .p))
 
 pub count-links-spec : {M : Type 1} → statement M
 count-links-spec =

@@ -24,7 +24,9 @@ first-link-requires : tie.Need-first-link-requires Inv-loop μ-loop
 first-link-requires c κs = tt
 
 loop-holds : tie.Need-loop-holds Inv-loop μ-loop
-loop-holds c = (rw (c .first-link .ensures), omega (arith, c .first-link .ensures, link-range (namesFrom (c .before .before .args .line .now) (c .before .before .args .p)) .1))
+loop-holds c =
+    let args = c .before .before .args in
+    (rw (c .first-link .ensures), omega (arith, c .first-link .ensures, link-range (namesFrom (args .line .now) (args .p)) .1))
 
 name-requires : tie.Need-name-requires Inv-loop μ-loop
 name-requires c κs = tt
@@ -34,9 +36,11 @@ is-link-name-requires c κs = tt
 
 returns : tie.Need-returns Inv-loop μ-loop
 returns c =
-    let line = c .before .before .before .before .before .before .args .line .now in
-    let e = rw (c .before .before .name .ensures) at (c .before .is-link-name .ensures) in
-    sym (wrong-here line (c .before .before .before .loop .i) (c .before .before .before .loop .k) (sym e ∙ not-true _ (c .if1 .taken))) ∙ c .before .before .before .loop .inv .0
+    let name = c .before .before in
+    let turn = name .before in
+    let line = turn .before .before .before .args .line .now in
+    let e = rw (name .name .ensures) at (c .before .is-link-name .ensures) in
+    sym (wrong-here line (turn .loop .i) (turn .loop .k) (sym e ∙ not-true _ (c .if1 .taken))) ∙ turn .loop .inv .0
 
 next-name-requires : tie.Need-next-name-requires Inv-loop μ-loop
 next-name-requires c κs = tt
@@ -49,35 +53,48 @@ enum-told c = search needs
 
 returns-2 : tie.Need-returns-2 Inv-loop μ-loop
 returns-2 c =
-    let line = c .before .before .before .before .before .before .before .before .before .args .line .now in
-    let i = c .before .before .before .before .before .before .loop .i in
-    let e = rw (c .before .before .before .before .before .name .ensures) at (c .before .before .before .before .is-link-name .ensures) in
-    let j = next-none line i (sym (c .before .before .next-name .ensures) ∙ c .enum-told .given .1) in
-    sym (wrong-none line i (c .before .before .before .before .before .before .loop .k) (sym e ∙ not-false _ (c .before .before .before .if1 .left)) j) ∙ c .before .before .before .before .before .before .loop .inv .0
+    let next = c .before .before in
+    let link = next .before .before in
+    let name = link .before in
+    let turn = name .before in
+    let line = turn .before .before .before .args .line .now in
+    let i = turn .loop .i in
+    let e = rw (name .name .ensures) at (link .is-link-name .ensures) in
+    let j = next-none line i (sym (next .next-name .ensures) ∙ c .enum-told .given .1) in
+    sym (wrong-none line i (turn .loop .k) (sym e ∙ not-false _ (next .before .if1 .left)) j) ∙ turn .loop .inv .0
 
 add-k : tie.Need-add-k Inv-loop μ-loop
 add-k c =
-    let line = c .before .before .before .before .before .before .before .before .before .before .args .line .now in
-    let i = c .before .before .before .before .before .before .before .loop .i in
-    let t = next-there line i _ (sym (c .before .before .before .next-name .ensures) ∙ c .before .q .given .1) in
+    let next = c .before .before .before in
+    let turn = next .before .before .before .before in
+    let line = turn .before .before .before .args .line .now in
+    let i = turn .loop .i in
+    let t = next-there line i _ (sym (next .next-name .ensures) ∙ c .before .q .given .1) in
     let l = joined-inside line i (t .0) in
     record { fits = omega arith }
 
 loop-less : tie.Need-loop-less Inv-loop μ-loop
 loop-less c =
-    let line = c .before .before .before .before .before .before .before .before .before .before .args .line .now in
-    let i = c .before .before .before .before .before .before .before .loop .i in
-    let t = next-there line i _ (sym (c .before .before .before .next-name .ensures) ∙ c .before .q .given .1) in
+    let next = c .before .before .before in
+    let turn = next .before .before .before .before in
+    let line = turn .before .before .before .args .line .now in
+    let i = turn .loop .i in
+    let t = next-there line i _ (sym (next .next-name .ensures) ∙ c .before .q .given .1) in
     omega (arith, t .1, next-later line i, joined-inside line i (t .0))
 
 loop-again : tie.Need-loop-again Inv-loop μ-loop
 loop-again c =
-    let line = c .before .before .before .before .before .before .before .before .before .before .args .line .now in
-    let i = c .before .before .before .before .before .before .before .loop .i in
-    let t = next-there line i _ (sym (c .before .before .before .next-name .ensures) ∙ c .before .q .given .1) in
-    let e = rw (c .before .before .before .before .before .before .name .ensures) at (c .before .before .before .before .before .is-link-name .ensures) in
-    let k = c .before .before .before .before .before .before .before .loop .k in
-    (rw (t .1, add-one k, ← wrong-later line i k (sym e ∙ not-false _ (c .before .before .before .before .if1 .left)) (t .0)) (c .before .before .before .before .before .before .before .loop .inv .0), omega (arith, t .1, next-later line i))
+    let next = c .before .before .before in
+    let link = next .before .before in
+    let name = link .before in
+    let turn = name .before in
+    let line = turn .before .before .before .args .line .now in
+    let i = turn .loop .i in
+    let t = next-there line i _ (sym (next .next-name .ensures) ∙ c .before .q .given .1) in
+    let e = rw (name .name .ensures) at (link .is-link-name .ensures) in
+    let k = turn .loop .k in
+    let l = wrong-later line i k (sym e ∙ not-false _ (next .before .if1 .left)) (t .0) in
+    (rw (t .1, add-one k, ← l) (turn .loop .inv .0), omega (arith, t .1, next-later line i))
 
 pub first-wrong-spec : {M : Type 1} → statement M
 first-wrong-spec =

@@ -15,7 +15,9 @@ is-legal-base-requires : tie.Need-is-legal-base-requires
 is-legal-base-requires c κs = tt
 
 returns : tie.Need-returns
-returns c = rw (chain-base, ← c .before .before .before .name .ensures, ← c .before .before .is-pointed .ensures, c .before .if1 .taken) (c .is-legal-base .ensures)
+returns c =
+    let point = c .before .before in
+    rw (chain-base, ← point .before .name .ensures, ← point .is-pointed .ensures, c .before .if1 .taken) (c .is-legal-base .ensures)
 
 returns-2 : tie.Need-returns-2
 unfolding legalBase pointed same

@@ -28,10 +28,14 @@ returns-2 c =
 
 returns-3 : tie.Need-returns-3
 returns-3 c =
-    let e = sym (c .before .before .before .before .is-pointed .ensures) ∙ not-false _ (c .before .before .before .if1 .left) in
-    let b = c .before .byte-at .result in
+    let byte = c .before in
+    let two = byte .before in
+    let point = two .before in
+    let e = sym (point .before .is-pointed .ensures) ∙ not-false _ (point .if1 .left) in
+    let b = byte .byte-at .result in
     let r = c .match .rest .1 in
-    rw (base-two _ (c .before .before .if2 .taken) e, ← c .before .byte-at .ensures, ne-eqb b 82 (λ e. r (inr (inl e))), ne-eqb b 87 (λ e. r (inr (inr (inr e)))), ne-eqb b 71 (λ e. r (inl e)), ne-eqb b 84 (λ e. r (inr (inr (inl e)))))
+    rw (base-two _ (two .if2 .taken) e, ← byte .byte-at .ensures, ne-eqb b 82 (λ e. r (inr (inl e))), ne-eqb b 87 (λ e. r (inr (inr (inr e)))))
+    (rw (ne-eqb b 71 (λ e. r (inl e)), ne-eqb b 84 (λ e. r (inr (inr (inl e))))))
 
 returns-4 : tie.Need-returns-4
 returns-4 c =
