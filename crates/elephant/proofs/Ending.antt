@@ -9,44 +9,26 @@ use lib.Dec.{ltb}
 use lib.ListN.{getD, length, length-append}
 use Rattle.paper.specs.Scan as F
 use Rattle.paper.specs.Table.{sized, frees, room}
-use Rattle.paper.specs.Check as C
 use Rattle.paper.specs.Check.{check, Verdict, passed, refused, verdict}
 use Rattle.paper.specs.Entry.{Holder, full}
 use Rattle.paper.specs.Block.{blocks}
 use Rattle.paper.specs.Store.{puts}
-use Rattle.paper.specs.Answer.{Outcome, plain}
+use Rattle.paper.specs.Answer.{plain}
 use Rattle.paper.specs.Effect.{Plan, plan, Making, newFile, placing, needed, borne, isFound, displacing, fullUp, stillPeopled, noRoom}
 use Rattle.scans.specs.Shown.{foundShown}
 use Rattle.effects.specs.Listed.{freeRooms, textRooms}
 use Rattle.effects.specs.Stage.{Made, textStores, clearStores}
 use Rattle.effects.proofs.Papers.{free-room, new-file, text-stores-length, clear-stores-length}
 use Rattle.walk.specs.declared.state.State.{State}
-use Rattle.ends.specs.Shown.{shown, stored}
-use Rattle.ends.specs.Placing.{met, losingBy, entryChecks, refusalShown, entryStores, ending}
-use Rattle.elephant.specs.Filing.{fileCount, fileStores, neededBy, storesBy, makingOf, Did, Ready}
-use Rattle.ends.specs.declared.placing.Meets.{Meets}
-use Rattle.ends.specs.declared.placing.Refusal.{Refusal}
+use Rattle.answers.specs.Shown.{shown, stored}
+use Rattle.placing.specs.Placing.{met, losingBy, entryChecks, refusalShown, entryStores}
+use Rattle.placing.specs.declared.Meets.{Meets}
+use Rattle.placing.specs.declared.Refusal.{Refusal}
+use Rattle.elephant.specs.Done.{Did}
+use Rattle.elephant.specs.Filing.{fileCount, fileStores, neededBy, storesBy, makingOf, ending, Ready}
 use Rattle.elephant.specs.declared.filing.File.{File}
-use Rattle.elephant.proofs.Verdicts.{single-refused, single-table, single-answer}
-use Rattle.ends.proofs.Meeting.{displaced-loses, placed-settled}
-
--- ---- plans without a reply
-
-pub did-refused : (t : List ℕ) (k : ℕ) (p : Plan) (g : C.Refusal) → verdict (p .checks) ≡ refused g
-    → Did t k (plan p) (shown (plain (g .number) (g .place) 0 0)) t
-did-refused t k p g e =
-    record {
-      answer = sym (ap (λ (o : Outcome). shown (o .answer)) (single-refused t [] k p g e));
-      table = sym (ap (λ (o : Outcome). o .table) (single-refused t [] k p g e));
-    }
-
-pub did-stored : (t u : List ℕ) (k l : ℕ) (p : Plan) → verdict (p .checks) ≡ passed → p .reply ≡ [] → Made t u k l (p .stores)
-    → Did t k (plan p) (shown (stored (length (p .stores)) k (p .displaced))) u
-did-stored t u k l p e q w =
-    record {
-      answer = sym (ap shown (single-answer t [] k p e q));
-      table = w .table ∙ sym (single-table t [] k p e);
-    }
+use Rattle.elephant.proofs.Verdicts.{did-refused, did-stored}
+use Rattle.placing.proofs.Meeting.{displaced-loses, placed-settled}
 
 -- ---- how many
 
@@ -127,14 +109,16 @@ module _
   checks-met =
       rw (
         is-displaced t (borne t making) named free,
-        displaced-loses t (w .size) (w .sound) code (d .holder .heading .0) named (d .holder .user) name (w .short) (w .small) (making .directory .holder) name (borne t making) free refl,
+        displaced-loses t (w .size) (w .sound) code (d .holder .heading .0) named (d .holder .user) name (w .short) (w .small)
+            (making .directory .holder) name (borne t making) free refl,
         needed-by t making (borne t making) named free,
         first-length,
       )
 
   stores-met : placing t making (borne t making) ≡ fileStores f r text ++ entryStores meets (making .entry) (textRooms t (meets .heading .0))
   stores-met =
-      placed-settled t (w .size) (w .sound) code (d .holder .heading .0) named (d .holder .user) name (w .short) (w .small) making (borne t making) refl refl
+      placed-settled t (w .size) (w .sound) code (d .holder .heading .0) named (d .holder .user) name (w .short) (w .small)
+      making (borne t making) refl refl
       ∙ rw (free-there, w .free, first-stores t f text (w .size) (w .few))
 
   abbrev ends : Plan
@@ -162,7 +146,8 @@ module _
     unfolding ending
     ends-stored h u entry l x y =
         let v : verdict (ends .checks) ≡ passed =
-        rw (checks-met, ← e) (none-refuses t place (making .directory .holder) m (neededBy (fileCount f text) (m .displaced)) (sym (ap (λ (s : Refusal). s .number) q) ∙ h)) in
+        rw (checks-met, ← e)
+        (none-refuses t place (making .directory .holder) m (neededBy (fileCount f text) (m .displaced)) (sym (ap (λ (s : Refusal). s .number) q) ∙ h)) in
         let s : ends .stores ≡ fileStores f r text ++ entryStores m entry (textRooms t (m .heading .0)) = rw (x, e) stores-met in
         let n : length (ends .stores) ≡ storesBy (fileCount f text) m =
         ap length s ∙ rw (length-append, stores-length f r text, entry-length m entry (textRooms t (m .heading .0))) in

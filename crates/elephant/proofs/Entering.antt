@@ -6,13 +6,13 @@ use mathlib.Core.Path.{_≡_, refl, sym, ap, _∙_}
 use Prim.Native.Nat.{ℕ, _≤_, _<_}
 use native.Mathlib.Omega.{arith}
 use lib.Dec.{ltb}
-use borrow.Author.Tests.{lt-ltb, le-ltb, ltb-false}
+use borrow.Author.Tests.{lt-ltb, le-ltb}
 use Rattle.paper.specs.Check.{Verdict, passed, refused, check, verdict}
 use Rattle.paper.specs.Table.{sized}
 use Rattle.paper.specs.Sound.{sound}
 use Rattle.paper.specs.Answer.{entrance}
 use Rattle.judge.specs.Judged.{judged}
-use Rattle.ends.specs.Ends.{Fit}
+use Rattle.elephant.specs.Done.{Fit}
 use Rattle.elephant.specs.Entrance.{entranceNumber}
 
 abbrev three : Bool → Bool → Bool → Verdict
@@ -49,7 +49,6 @@ entered-user t u n e h l =
 
 pub record Entered (t : List ℕ) (u : ℕ) : Type 0 where
   pub fit : Fit t
-  pub user : u ≤ 999999
   pub passed : entrance t u ≡ passed
 
 three-passed : (a b c : Bool) → 0 ≡ entranceNumber (three a b c) → (a ≡ true) × (b ≡ true) × (c ≡ false)
@@ -63,7 +62,7 @@ pub entered : (t : List ℕ) (u : ℕ) → 0 ≡ entranceNumber (entrance t u) �
 unfolding entrance verdict
 entered t u e =
     let p = three-passed (sized t) (sound t) (ltb 999999 u) e in
-    record { fit = record { sized = p .0; sound = p .1 }; user = ltb-false 999999 u (p .2); passed = rw (p .0, p .1, p .2) }
+    record { fit = record { sized = p .0; sound = p .1 }; passed = rw (p .0, p .1, p .2) }
 
 -- a refusal at the entrance is of the whole request
 three-refused : (a b c : Bool) (n : ℕ) → n ≡ entranceNumber (three a b c) → (n ≡ 0 → ⊥) → three a b c ≡ refused (record { number = n; place = 0; link = 0 })

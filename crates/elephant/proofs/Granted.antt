@@ -9,7 +9,7 @@ use Rattle.paper.specs.Line.{words, word}
 use Rattle.paper.specs.Request.{request, asked}
 use Rattle.paper.specs.Effect.{Planned, crdPlan, wrsPlan, rdsPlan, cpyPlan, dupPlan, chnPlan, dprPlan, lstPlan, lstBasePlan}
 use Rattle.paper.specs.Walk.{lastName}
-use Rattle.paper.specs.Answer.{Outcome, granted, requested, ran, single, deleting}
+use Rattle.paper.specs.Answer.{Outcome, granted, requested, ran, single}
 use Rattle.words.specs.Place.{namesFrom}
 use Rattle.declarations.specs.Given.{lifetimePart, levelPart, digitPart}
 use Rattle.declarations.specs.declared.part.Lifetime.{Lifetime}
@@ -21,17 +21,20 @@ use Rattle.reader.specs.declared.request.Read.the-variants.{Granted}
 use Rattle.demands.proofs.Request.Read.{Told}
 use Rattle.demands.proofs.Request.Formed as formed
 use Rattle.demands.proofs.Request.Formed.{named-last}
-use Rattle.ends.specs.Shown.{shown, wordAt, did}
-use Rattle.elephant.specs.Filing.{Did, Named}
+use Rattle.elephant.specs.Done.{wordAt, Did, Wrote}
+use Rattle.elephant.specs.Filing.{Named}
+use Rattle.elephant.specs.Deleted.{CameAll}
+use Rattle.elephant.specs.Reading.{reading}
+use Rattle.elephant.specs.declared.reply.Sheet.the-variants.{Text, Lines}
 use Rattle.elephant.specs.Meant.{requestMeant}
 use Rattle.elephant.specs.Admitted.{Admitted}
 use Rattle.elephant.specs.Promised.{Promised}
-use Rattle.ends.specs.declared.answer.Answer.{Answer}
+use Rattle.answers.specs.declared.Answer.{Answer}
 use Rattle.elephant.proofs.Grants.{Silent, Storeless, crd-silent, wrs-silent, cpy-silent, dup-silent, chn-silent, dpr-silent, rds-storeless, lst-storeless, lst-base-storeless}
 use Rattle.elephant.proofs.Promises.{promised-storing, promised-writing, promised-names}
 use Rattle.elephant.proofs.Requests.{requested-granted, asked-granted, del-read, told, link-short, names-first}
 
-module _ (t line text : List ℕ) (u : ℕ) (r : Request) (a : Admitted t line text u r) where
+module _ {t line text : List ℕ} {u : ℕ} {r : Request} (a : Admitted t line text u r) where
   -- what was asked, what that tells, and what it comes to
   asks : (q : Request) → r ≡ q → asked line text ≡ request (requestMeant line q)
   asks q e =
@@ -42,7 +45,8 @@ module _ (t line text : List ℕ) (u : ℕ) (r : Request) (a : Admitted t line t
 
   comes : (q : Request) → r ≡ q → (reply : List ℕ) (k : ℕ) → requested t line text reply u k ≡ granted t text reply u k (requestMeant line q)
   comes q e reply k =
-      requested-granted t line text reply u k (a .passed) r (a .read) (a .short) ∙ ap (λ (x : Request). granted t text reply u k (requestMeant line x)) e
+      requested-granted t line text reply u k (a .passed) r (a .read) (a .short)
+      ∙ ap (λ (x : Request). granted t text reply u k (requestMeant line x)) e
 
   -- ---- what each stands on
 
@@ -76,14 +80,12 @@ module _ (t line text : List ℕ) (u : ℕ) (r : Request) (a : Admitted t line t
     -- a plan that stores
     storing-done : (q : Request) → r ≡ q → (x : Planned) → granted t text reply u k (requestMeant line q) ≡ single t reply k (ran k x) → Silent x
         → Did t k x z v → Promised (requested t line text reply u k) z v reply
-    storing-done q e x g s h =
-        subst (λ (o : Outcome). Promised o z v reply) (sym (comes q e reply k ∙ g)) (promised-storing t reply k x z v s (h .answer) (h .table))
+    storing-done q e x g s h = subst (λ (o : Outcome). Promised o z v reply) (sym (comes q e reply k ∙ g)) (promised-storing t reply k x z v s h)
 
     -- one that writes
-    writing-done : (q : Request) → r ≡ q → (x : Planned) → granted t text reply u k (requestMeant line q) ≡ single t reply k (ran k x) → Storeless x
-        → (z ≡ shown (single t reply 0 (ran 0 x) .answer)) × (v ≡ single t reply 0 (ran 0 x) .reply) → Promised (requested t line text reply u k) z t v
-    writing-done q e x g s h =
-        subst (λ (o : Outcome). Promised o z t v) (sym (comes q e reply k ∙ g)) (promised-writing t reply k x z v s (h .0) (h .1))
+    writing-done : (q : Request) → r ≡ q → (x : Planned) → granted t text reply u k (requestMeant line q) ≡ single t reply k (ran k x)
+        → Storeless x → Wrote t reply x z v → Promised (requested t line text reply u k) z t v
+    writing-done q e x g s h = subst (λ (o : Outcome). Promised o z t v) (sym (comes q e reply k ∙ g)) (promised-writing t reply k x z v s h)
 
     pub crd-done : (p : ℕ) (l : Level) (d : Digit) → r ≡ Crd p l d → Did t k (crdPlan t u (wordAt line p) (levelPart l) (digitPart d)) z v
         → Promised (requested t line text reply u k) z v reply
@@ -114,44 +116,29 @@ module _ (t line text : List ℕ) (u : ℕ) (r : Request) (a : Admitted t line t
         let x : Planned = dupPlan t u (wordAt line o) (wordAt line n) (digitPart d) in
         storing-done (Dup o n d) e x refl (dup-silent t u (wordAt line o) (wordAt line n) (digitPart d)) h
 
-    pub chn-done : (o l : ℕ) → r ≡ Chn o l
-        → (z ≡ shown (did t k (chnPlan t u (wordAt line o) (wordAt line l)) .answer)) × (v ≡ did t k (chnPlan t u (wordAt line o) (wordAt line l)) .table)
+    pub chn-done : (o l : ℕ) → r ≡ Chn o l → Did t k (chnPlan t u (wordAt line o) (wordAt line l)) z v
         → Promised (requested t line text reply u k) z v reply
     unfolding granted
     chn-done o l e h =
-        let x : Planned = chnPlan t u (wordAt line o) (wordAt line l) in
-        storing-done (Chn o l) e x refl (chn-silent t u (wordAt line o) (wordAt line l)) (record { answer = h .0; table = h .1 })
+        storing-done (Chn o l) e (chnPlan t u (wordAt line o) (wordAt line l)) refl (chn-silent t u (wordAt line o) (wordAt line l)) h
 
-    pub dpr-done : (p c : ℕ) → r ≡ Dpr p c
-        → (z ≡ shown (did t k (dprPlan t u (wordAt line p) c) .answer)) × (v ≡ did t k (dprPlan t u (wordAt line p) c) .table)
-        → Promised (requested t line text reply u k) z v reply
+    pub dpr-done : (p c : ℕ) → r ≡ Dpr p c → Did t k (dprPlan t u (wordAt line p) c) z v → Promised (requested t line text reply u k) z v reply
     unfolding granted
-    dpr-done p c e h =
-        let x : Planned = dprPlan t u (wordAt line p) c in
-        storing-done (Dpr p c) e x refl (dpr-silent t u (wordAt line p) c) (record { answer = h .0; table = h .1 })
+    dpr-done p c e h = storing-done (Dpr p c) e (dprPlan t u (wordAt line p) c) refl (dpr-silent t u (wordAt line p) c) h
 
-    pub del-done : (p n : ℕ) → r ≡ Del p n
-        → (z ≡ shown (deleting t u [] k 0 0 (drop 1 (words line)) .answer)) × (v ≡ deleting t u [] k 0 0 (drop 1 (words line)) .table)
-        → Promised (requested t line text reply u k) z v reply
+    pub del-done : (p n : ℕ) → r ≡ Del p n → CameAll t u k (drop 1 (words line)) z v → Promised (requested t line text reply u k) z v reply
     unfolding granted
     del-done p n e h =
-        subst (λ (o : Outcome). Promised o z v reply) (sym (comes (Del p n) e reply k))
-        (promised-names t u reply k (drop 1 (words line)) z v (h .0) (h .1))
+        subst (λ (o : Outcome). Promised o z v reply) (sym (comes (Del p n) e reply k)) (promised-names t u reply k (drop 1 (words line)) z v h)
 
-    pub rds-done : (p : ℕ) → r ≡ Rds p
-        → (z ≡ shown (single t reply 0 (ran 0 (rdsPlan t u reply (wordAt line p))) .answer)) × (v ≡ single t reply 0 (ran 0 (rdsPlan t u reply (wordAt line p))) .reply)
-        → Promised (requested t line text reply u k) z t v
-    unfolding granted
+    pub rds-done : (p : ℕ) → r ≡ Rds p → Wrote t reply (reading Text t u reply (wordAt line p)) z v → Promised (requested t line text reply u k) z t v
+    unfolding granted rdsPlan
     rds-done p e h = writing-done (Rds p) e (rdsPlan t u reply (wordAt line p)) refl (rds-storeless t u reply (wordAt line p)) h
 
-    pub lst-done : (p : ℕ) → r ≡ Lst p
-        → (z ≡ shown (single t reply 0 (ran 0 (lstPlan t u reply (wordAt line p))) .answer)) × (v ≡ single t reply 0 (ran 0 (lstPlan t u reply (wordAt line p))) .reply)
-        → Promised (requested t line text reply u k) z t v
-    unfolding granted
+    pub lst-done : (p : ℕ) → r ≡ Lst p → Wrote t reply (reading Lines t u reply (wordAt line p)) z v → Promised (requested t line text reply u k) z t v
+    unfolding granted lstPlan
     lst-done p e h = writing-done (Lst p) e (lstPlan t u reply (wordAt line p)) refl (lst-storeless t u reply (wordAt line p)) h
 
-    pub lst-base-done : r ≡ LstBase
-        → (z ≡ shown (single t reply 0 (ran 0 (lstBasePlan t u reply)) .answer)) × (v ≡ single t reply 0 (ran 0 (lstBasePlan t u reply)) .reply)
-        → Promised (requested t line text reply u k) z t v
+    pub lst-base-done : r ≡ LstBase → Wrote t reply (lstBasePlan t u reply) z v → Promised (requested t line text reply u k) z t v
     unfolding granted
     lst-base-done e h = writing-done LstBase e (lstBasePlan t u reply) refl (lst-base-storeless t u reply) h

@@ -16,7 +16,7 @@ use Rattle.paper.specs.Answer.{Outcome, Ran, refusedBy, done, cut, stores, ran,
 use Rattle.paper.specs.Store.{run}
 use Rattle.words.proofs.Words.{word-here}
 use Rattle.demands.proofs.Request.Steps.{holder-by, end-by}
-use Rattle.ends.specs.Shown.{wordAt}
+use Rattle.elephant.specs.Done.{wordAt}
 
 -- the word at the offset of a word of the line
 pub word-there : (line : List ℕ) (k : ℕ) (w : Word) → w ≡ word line k → wordAt line (w .start) ≡ w

@@ -1,6 +1,7 @@
 -- demand 2: no second answer meets the contracts
 pub mod OneAnswer
 pub mod Verdicts
+pub mod Ends
 pub mod Ending
 pub mod Walking
 pub mod Makes

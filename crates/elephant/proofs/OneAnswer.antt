@@ -4,7 +4,7 @@ use mathlib.Core.List.{List, []}
 use mathlib.Core.Path.{_≡_, sym, _∙_}
 use Prim.Native.Nat.{ℕ}
 use Rattle.paper.specs.Answer.{Outcome, requested, mending}
-use Rattle.ends.specs.declared.answer.Answer.{Answer}
+use Rattle.answers.specs.declared.Answer.{Answer}
 use Rattle.elephant.specs.Promised.{Promised}
 
 one-promise : (o : Outcome) (a b : Answer) (v w x y : List ℕ) → Promised o a v x → Promised o b w y → (a ≡ b) × (v ≡ w) × (x ≡ y)

@@ -48,7 +48,8 @@ near-needed place (part.given n) r l = tt
 near-needed place part.notGiven r l = l
 
 -- a check for each of some words
-each-near : (f : ℕ → Word → Check) → ((p : ℕ) (w : Word) → f p w .refusal .place ≡ p) → (p : ℕ) (ws : List Word) → p + length ws ≤ 9 → Every NearCheck (each f p ws)
+each-near : (f : ℕ → Word → Check) → ((p : ℕ) (w : Word) → f p w .refusal .place ≡ p) → (p : ℕ) (ws : List Word) → p + length ws ≤ 9
+    → Every NearCheck (each f p ws)
 unfolding each
 each-near f h p [] l = tt
 each-near f h p (w ∷ ws) l = (omega (arith, h p w), each-near f h (p + 1) ws (omega arith))
@@ -117,7 +118,8 @@ module _ (line : List ℕ) where
   near-del = go (not (counted 1 8 line)) refl
     where
       go : (b : Bool) → not (counted 1 8 line) ≡ b
-          → Near (readAs (del (drop 1 (words line))) (cond b (refused (record { number = 6; place = 0; link = 0 })) (verdict (misnamed 1 (length (words line)) line))))
+          → Near (readAs (del (drop 1 (words line)))
+          (cond b (refused (record { number = 6; place = 0; link = 0 })) (verdict (misnamed 1 (length (words line)) line))))
       go true e = omega arith
       go false e =
           let l = few-words (not-false (counted 1 8 line) e) in

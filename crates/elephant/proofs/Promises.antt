@@ -1,15 +1,17 @@
 -- A refusal's promise, and a function's: made without the reply or without the stop number, it is `granted`'s for each of three kinds of
 -- request, those that store, those that write, and DEL.
-use mathlib.Core.List.{List, []}
+use mathlib.Core.List.{List}
 use mathlib.Core.Path.{_≡_, sym, ap, _∙_}
 use Prim.Native.Nat.{ℕ}
 use Rattle.paper.specs.Line.{Word}
 use Rattle.paper.specs.Effect.{Planned}
 use Rattle.paper.specs.Check.{Refusal}
 use Rattle.paper.specs.Answer.{Outcome, plain, refusing, ran, single, deleting}
-use Rattle.ends.specs.Shown.{shown, did}
+use Rattle.answers.specs.Shown.{shown}
+use Rattle.elephant.specs.Done.{Did, Wrote}
+use Rattle.elephant.specs.Deleted.{CameAll}
 use Rattle.elephant.specs.Promised.{Promised}
-use Rattle.ends.specs.declared.answer.Answer.{Answer}
+use Rattle.answers.specs.declared.Answer.{Answer}
 use Rattle.elephant.proofs.Grants.{Silent, Storeless, same-answer, same-table, reply-kept, any-stop, table-kept, deleting-same}
 
 -- a refusal leaves both
@@ -22,27 +24,27 @@ promised-refusing t reply o f r e a =
       reply = sym (ap (λ (x : Outcome). x .reply) e);
     }
 
-pub promised-storing : (t reply : List ℕ) (k : ℕ) (x : Planned) (r : Answer) (v : List ℕ) → Silent x
-    → r ≡ shown (did t k x .answer) → v ≡ did t k x .table → Promised (single t reply k (ran k x)) r v reply
-promised-storing t reply k x r v s a b =
+pub promised-storing : (t reply : List ℕ) (k : ℕ) (x : Planned) (r : Answer) (v : List ℕ) → Silent x → Did t k x r v
+    → Promised (single t reply k (ran k x)) r v reply
+promised-storing t reply k x r v s d =
     record {
-      answer = a ∙ sym (ap shown (same-answer t reply k (ran k x)));
-      table = b ∙ sym (same-table t reply k (ran k x));
+      answer = d .answer ∙ sym (ap shown (same-answer t reply k (ran k x)));
+      table = d .table ∙ sym (same-table t reply k (ran k x));
       reply = sym (reply-kept t reply k x s);
     }
 
-pub promised-writing : (t reply : List ℕ) (k : ℕ) (x : Planned) (r : Answer) (w : List ℕ) → Storeless x
-    → r ≡ shown (single t reply 0 (ran 0 x) .answer) → w ≡ single t reply 0 (ran 0 x) .reply → Promised (single t reply k (ran k x)) r t w
-promised-writing t reply k x r w s a b =
+pub promised-writing : (t reply : List ℕ) (k : ℕ) (x : Planned) (r : Answer) (w : List ℕ) → Storeless x → Wrote t reply x r w
+    → Promised (single t reply k (ran k x)) r t w
+promised-writing t reply k x r w s d =
     let e = any-stop t reply k x s in
     record {
-      answer = a ∙ sym (ap (λ (o : Outcome). shown (o .answer)) e);
+      answer = d .answer ∙ sym (ap (λ (o : Outcome). shown (o .answer)) e);
       table = sym (ap (λ (o : Outcome). o .table) e ∙ table-kept t reply x s);
-      reply = b ∙ sym (ap (λ (o : Outcome). o .reply) e);
+      reply = d .reply ∙ sym (ap (λ (o : Outcome). o .reply) e);
     }
 
-pub promised-names : (t : List ℕ) (u : ℕ) (reply : List ℕ) (k : ℕ) (ws : List Word) (r : Answer) (v : List ℕ)
-    → r ≡ shown (deleting t u [] k 0 0 ws .answer) → v ≡ deleting t u [] k 0 0 ws .table → Promised (deleting t u reply k 0 0 ws) r v reply
-promised-names t u reply k ws r v a b =
+pub promised-names : (t : List ℕ) (u : ℕ) (reply : List ℕ) (k : ℕ) (ws : List Word) (r : Answer) (v : List ℕ) → CameAll t u k ws r v
+    → Promised (deleting t u reply k 0 0 ws) r v reply
+promised-names t u reply k ws r v d =
     let e = deleting-same ws t u reply k 0 0 in
-    record { answer = a ∙ sym (ap shown (e .answer)); table = b ∙ sym (e .table); reply = sym (e .reply) }
+    record { answer = d .answer ∙ sym (ap shown (e .answer)); table = d .table ∙ sym (e .table); reply = sym (e .reply) }

@@ -11,12 +11,12 @@ use Rattle.reader.specs.Asked.{shownRead}
 use Rattle.reader.specs.declared.request.Request.{Request}
 use Rattle.reader.specs.declared.request.Refusal as given
 use Rattle.reader.specs.declared.request.Read.the-variants as answers
-use Rattle.ends.specs.Shown.{shown}
+use Rattle.answers.specs.Shown.{shown}
 use Rattle.elephant.specs.Meant.{requestMeant}
 use Rattle.elephant.specs.Entrance.{entranceNumber}
 use Rattle.elephant.specs.Admitted.{Admitted}
 use Rattle.elephant.specs.Promised.{Promised}
-use Rattle.ends.specs.declared.answer.Answer.{Answer}
+use Rattle.answers.specs.declared.Answer.{Answer}
 use Rattle.elephant.proofs.Entering.{entered, not-entered}
 use Rattle.elephant.proofs.Promises.{promised-refusing}
 use Rattle.elephant.proofs.Requests.{requested-out, requested-unread, requested-long}

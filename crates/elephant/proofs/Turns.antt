@@ -1,7 +1,7 @@
 -- One name of a DEL: refused, cut by the stop number, or done; then what is left of the names, with what is left of the stores, is the
 -- whole. A name done leaves the table sound, so the next one may be tried.
 use mathlib.Core.List.{List, [], _∷_}
-use mathlib.Core.Path.{_≡_, refl, sym, _∙_}
+use mathlib.Core.Path.{_≡_, refl, sym, ap, _∙_}
 use Prim.Native.Nat.{ℕ, suc, _+_, _-_, _≤_, _<_}
 use native.Mathlib.Omega.{arith}
 use native.Mathlib.Numerals.{add-one}
@@ -11,6 +11,7 @@ use borrow.Author.Tests.{le-leb, lt-leb}
 use Rattle.paper.specs.Check.{Verdict, passed, refused, verdict}
 use Rattle.paper.specs.Line.{Word, words, word}
 use Rattle.paper.specs.Effect.{Planned, plan, halted, delPlan}
+use Rattle.paper.specs.Answer as paper
 use Rattle.paper.specs.Answer.{Outcome, plain, stores, ran, oneName, deleting}
 use Rattle.words.specs.Place.{nextWord}
 use Rattle.words.proofs.Words.{word-here, word-next}
@@ -18,9 +19,10 @@ use Rattle.reader.proofs.Ties.{rest-word}
 use Rattle.laws.proofs.Tests.{clash}
 use Rattle.demands.proofs.Sound.Clauses.{Sound, sound-clauses, clauses-sound}
 use Rattle.demands.proofs.SoundKept.Kept.{Keeps, del-keeps}
-use Rattle.ends.specs.Shown.{wordAt, did}
-use Rattle.ends.specs.Ends.{Fit}
-use Rattle.elephant.specs.Deleted.{deletedBy, deletedShown, deletedAnswer}
+use Rattle.elephant.specs.Done.{wordAt, did, Fit}
+use Rattle.answers.specs.Shown.{shown}
+use Rattle.answers.specs.declared.Answer.{Answer}
+use Rattle.elephant.specs.Deleted.{deletedBy, deletedShown, deletedAnswer, Came, CameAll}
 use Rattle.elephant.specs.declared.delete.Deleted.{Deleted}
 use Rattle.elephant.specs.declared.delete.Deleted.the-variants.{Passed, Refused}
 
@@ -102,15 +104,23 @@ deleting-start t line u stop p f e =
     let z : stop - stop ≡ 0 = omega arith in
     record { whole = rw z; fit = f; place = e; some = omega arith; few = omega arith; size = refl }
 
+-- the answer and the table are those of the whole
+all-came : (t₀ line : List ℕ) (u stop : ℕ) (a : paper.Answer) (x : Answer) (v : List ℕ)
+    → deleting t₀ u [] stop 0 0 (drop 1 (words line)) ≡ record { answer = a; table = v; reply = [] } → x ≡ shown a
+    → CameAll t₀ u stop (drop 1 (words line)) x v
+all-came t₀ line u stop a x v w e =
+    record { answer = e ∙ sym (ap (λ (o : Outcome). shown (o .answer)) w); table = sym (ap (λ (o : Outcome). o .table) w) }
+
 pub deleting-end : (t₀ line : List ℕ) (u stop : ℕ) (t : List ℕ) (p names left : ℕ) → Deleting t₀ line u stop t p names left
-    → length (drop 1 (words line)) ≤ names
-    → deleting t₀ u [] stop 0 0 (drop 1 (words line)) ≡ record { answer = plain 0 0 names (stop - left); table = t; reply = [] }
+    → length (drop 1 (words line)) ≤ names → (x : Answer) → x ≡ shown (plain 0 0 names (stop - left))
+    → CameAll t₀ u stop (drop 1 (words line)) x t
 unfolding deleting
-deleting-end t₀ line u stop t p names left w l = sym (w .whole) ∙ rw (drop-of-length-le (drop 1 (words line)) {i = names} l)
+deleting-end t₀ line u stop t p names left w l x e =
+    all-came t₀ line u stop _ x t (sym (w .whole) ∙ rw (drop-of-length-le (drop 1 (words line)) {i = names} l)) e
 
 module _ (t₀ line : List ℕ) (u stop : ℕ) (t : List ℕ) (p names left : ℕ) (w : Deleting t₀ line u stop t p names left)
-    (l : names < length (drop 1 (words line))) (v : List ℕ)
-    (z : v ≡ did t left (delPlan t u (names + 1) (wordAt line p)) .table) where
+    (l : names < length (drop 1 (words line))) (r : Deleted) (v : List ℕ)
+    (z : Came t left (delPlan t u (names + 1) (wordAt line p)) r v) where
   next : drop names (drop 1 (words line)) ≡ wordAt line p ∷ drop (names + 1) (drop 1 (words line))
   next =
       drop-cons (drop 1 (words line)) names (record { start = length line; names = [] ∷ [] }) l
@@ -120,25 +130,29 @@ module _ (t₀ line : List ℕ) (u stop : ℕ) (t : List ℕ) (p names left : �
       ≡ deleting t u [] left names (stop - left) (wordAt line p ∷ drop (names + 1) (drop 1 (words line)))
   now = sym (w .whole) ∙ rw next
 
-  pub deleting-refused : (r : Deleted) (a b : ℕ) → r ≡ deletedShown (delPlan t u (names + 1) (wordAt line p)) → r ≡ Refused a b
-      → deleting t₀ u [] stop 0 0 (drop 1 (words line)) ≡ record { answer = deletedAnswer r names (stop - left); table = v; reply = [] }
-  deleting-refused r a b x y = now ∙ turn-refused t u left names (stop - left) (wordAt line p) _ r a b x y ∙ rw z
+  pub deleting-refused : (a b : ℕ) → r ≡ Refused a b → (x : Answer) → x ≡ shown (deletedAnswer r names (stop - left))
+      → CameAll t₀ u stop (drop 1 (words line)) x v
+  deleting-refused a b y x e =
+      all-came t₀ line u stop _ x v
+      (now ∙ turn-refused t u left names (stop - left) (wordAt line p) _ r a b (z .answer) y ∙ rw (z .table)) e
 
-  pub deleting-cut : (c : ℕ) → Passed c ≡ deletedShown (delPlan t u (names + 1) (wordAt line p)) → left < c
-      → deleting t₀ u [] stop 0 0 (drop 1 (words line)) ≡ record { answer = plain 22 0 names stop; table = v; reply = [] }
-  deleting-cut c x m =
-      let e : stop - left + left ≡ stop = omega (arith, w .some) in
-      now ∙ turn-cut t u left names (stop - left) (wordAt line p) _ c x m ∙ rw (z, e)
+  module _ (c : ℕ) (x : r ≡ Passed c) where
+    shows : Passed c ≡ deletedShown (delPlan t u (names + 1) (wordAt line p))
+    shows = sym x ∙ z .answer
 
-  pub deleting-on : (c q : ℕ) → Passed c ≡ deletedShown (delPlan t u (names + 1) (wordAt line p)) → c ≤ left → q ≡ nextWord line p
-      → length v ≡ length t → Deleting t₀ line u stop v q (names + 1) (left - c)
-  deleting-on c q x m y o =
-      let e : stop - left + c ≡ stop - (left - c) = omega (arith, w .some) in
-      record {
-        whole = sym (now ∙ turn-done t u left names (stop - left) (wordAt line p) _ c x m ∙ rw (z, e));
-        fit = rw z (turn-fit t u left names (stop - left) (wordAt line p) [] c x m (w .fit));
-        place = y ∙ rw (w .place, ← word-next line (suc names), add-one);
-        some = omega (arith, w .some);
-        few = omega arith;
-        size = o ∙ w .size;
-      }
+    pub deleting-cut : left < c → (y : Answer) → y ≡ shown (plain 22 0 names stop) → CameAll t₀ u stop (drop 1 (words line)) y v
+    deleting-cut m y e =
+        let q : stop - left + left ≡ stop = omega (arith, w .some) in
+        all-came t₀ line u stop _ y v (now ∙ turn-cut t u left names (stop - left) (wordAt line p) _ c shows m ∙ rw (z .table, q)) e
+
+    pub deleting-on : c ≤ left → (q : ℕ) → q ≡ nextWord line p → length v ≡ length t → Deleting t₀ line u stop v q (names + 1) (left - c)
+    deleting-on m q y o =
+        let e : stop - left + c ≡ stop - (left - c) = omega (arith, w .some) in
+        record {
+          whole = sym (now ∙ turn-done t u left names (stop - left) (wordAt line p) _ c shows m ∙ rw (z .table, e));
+          fit = rw (z .table) (turn-fit t u left names (stop - left) (wordAt line p) [] c shows m (w .fit));
+          place = y ∙ rw (w .place, ← word-next line (suc names), add-one);
+          some = omega (arith, w .some);
+          few = omega arith;
+          size = o ∙ w .size;
+        }

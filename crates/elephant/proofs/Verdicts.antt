@@ -2,17 +2,22 @@
 -- With no reply the answer is `stored`, and the table after is the first k stores, all of them where they are no more than k.
 use mathlib.Core.Bool.{Bool, true, false, cond}
 use mathlib.Core.List.{List, [], _∷_, _++_}
-use mathlib.Core.Path.{_≡_, refl, ap, _∙_}
+use mathlib.Core.Path.{_≡_, refl, sym, ap, _∙_}
 use Prim.Native.Nat.{ℕ, _≤_, _<_}
 use lib.Dec.{leb}
 use lib.ListN.{length, take, drop}
 use lib.Seq.{take-all}
 use borrow.Author.Tests.{leb-true, lt-ltb, le-ltb}
 use Rattle.paper.specs.Check.{Refusal, Check, Verdict, passed, refused, verdict}
-use Rattle.paper.specs.Store.{Store, run}
-use Rattle.paper.specs.Effect.{Plan, plan, tooShort, storing, writing}
-use Rattle.paper.specs.Answer.{plain, stores, ran, single, refusing}
-use Rattle.ends.specs.Shown.{stored, written, did}
+use Rattle.paper.specs.Store.{run}
+use Rattle.paper.specs.Effect.{Plan, plan, tooShort, writing}
+use Rattle.paper.specs.Answer.{Outcome, plain, granting, stores, done, cut, ran, single, refusing}
+use Rattle.effects.specs.Stage.{Made}
+use Rattle.answers.specs.Shown.{shown, stored}
+use Rattle.answers.specs.declared.Answer.{Answer}
+use Rattle.elephant.specs.Done.{Did, Wrote}
+use Rattle.elephant.specs.Deleted.{deletedBy, Came}
+use Rattle.elephant.specs.declared.delete.Deleted.the-variants.{Passed, Refused}
 
 -- ---- checks
 
@@ -38,72 +43,93 @@ both-pass c d e f = first-passes c (d ∷ []) e ∙ first-passes d [] f ∙ none
 
 module _ (t reply : List ℕ) (k : ℕ) (p : Plan) where
   -- a check refuses
-  pub single-refused : (f : Refusal) → verdict (p .checks) ≡ refused f → single t reply k (ran k (plan p)) ≡ refusing t reply f
+  single-refused : (f : Refusal) → verdict (p .checks) ≡ refused f → single t reply k (ran k (plan p)) ≡ refusing t reply f
   single-refused f e = rw e
 
   -- all pass: the first k stores are made
-  pub single-table : verdict (p .checks) ≡ passed → single t reply k (ran k (plan p)) .table ≡ run t (take k (p .stores))
+  single-table : verdict (p .checks) ≡ passed → single t reply k (ran k (plan p)) .table ≡ run t (take k (p .stores))
   single-table e = rw e (go (leb (length (p .stores)) k) refl)
     where
-      go : (b : Bool) → leb (length (p .stores)) k ≡ b → single t reply k (cond b (Rattle.paper.specs.Answer.done p) (Rattle.paper.specs.Answer.cut p)) .table ≡ run t (take k (p .stores))
+      go : (b : Bool) → leb (length (p .stores)) k ≡ b → single t reply k (cond b (done p) (cut p)) .table ≡ run t (take k (p .stores))
       go true x = rw (take-all k (p .stores) (leb-true _ _ x))
       go false x = refl
 
-  pub single-answer : verdict (p .checks) ≡ passed → p .reply ≡ [] → single t reply k (ran k (plan p)) .answer ≡ stored (length (p .stores)) k (p .displaced)
+  single-answer : verdict (p .checks) ≡ passed → p .reply ≡ []
+      → single t reply k (ran k (plan p)) .answer ≡ stored (length (p .stores)) k (p .displaced)
   single-answer e q = rw e (go (leb (length (p .stores)) k))
     where
-      go : (b : Bool) → single t reply k (cond b (Rattle.paper.specs.Answer.done p) (Rattle.paper.specs.Answer.cut p)) .answer
-          ≡ cond b (record { number = 0; place = 0; names = 1; displaced = Rattle.paper.specs.Answer.yesNo (p .displaced); bytes = 0; stores = length (p .stores) }) (plain 22 0 0 k)
+      go : (b : Bool) → single t reply k (cond b (done p) (cut p)) .answer
+          ≡ cond b (granting (p .displaced) 0 (length (p .stores))) (plain 22 0 0 k)
       go true = rw q
       go false = refl
 
--- ---- two checks and some stores
+-- ---- plans without a reply
 
-module _ (t : List ℕ) (k : ℕ) (c d : Check) (ss : List Store) where
-  pub storing-first : c .when ≡ true → did t k (storing (c ∷ d ∷ []) ss) ≡ refusing t [] (c .refusal)
-  storing-first e = single-refused t [] k _ (c .refusal) (first-holds c (d ∷ []) e)
+pub did-refused : (t : List ℕ) (k : ℕ) (p : Plan) (g : Refusal) → verdict (p .checks) ≡ refused g
+    → Did t k (plan p) (shown (plain (g .number) (g .place) 0 0)) t
+did-refused t k p g e =
+    let w = single-refused t [] k p g e in
+    record { answer = sym (ap (λ (o : Outcome). shown (o .answer)) w); table = sym (ap (λ (o : Outcome). o .table) w) }
 
-  pub storing-second : c .when ≡ false → d .when ≡ true → did t k (storing (c ∷ d ∷ []) ss) ≡ refusing t [] (d .refusal)
-  storing-second e f = single-refused t [] k _ (d .refusal) (second-holds c d [] e f)
+pub did-stored : (t u : List ℕ) (k l : ℕ) (p : Plan) → verdict (p .checks) ≡ passed → p .reply ≡ [] → Made t u k l (p .stores)
+    → Did t k (plan p) (shown (stored (length (p .stores)) k (p .displaced))) u
+did-stored t u k l p e q w =
+    record { answer = sym (ap shown (single-answer t [] k p e q)); table = w .table ∙ sym (single-table t [] k p e) }
 
-  pub storing-answer : c .when ≡ false → d .when ≡ false → did t k (storing (c ∷ d ∷ []) ss) .answer ≡ stored (length ss) k false
-  storing-answer e f = single-answer t [] k _ (both-pass c d e f) refl
+-- ---- one name of a DEL
 
-  pub storing-table : c .when ≡ false → d .when ≡ false → did t k (storing (c ∷ d ∷ []) ss) .table ≡ run t (take k ss)
-  storing-table e f = single-table t [] k _ (both-pass c d e f)
+pub came-refused : (t : List ℕ) (k : ℕ) (p : Plan) (g : Refusal) → verdict (p .checks) ≡ refused g
+    → Came t k (plan p) (Refused (g .number) (g .place)) t
+came-refused t k p g e =
+    record {
+      answer = sym (ap (deletedBy (length (p .stores))) e);
+      table = sym (ap (λ (o : Outcome). o .table) (single-refused t [] k p g e));
+    }
+
+pub came-passed : (t v : List ℕ) (k : ℕ) (p : Plan) → verdict (p .checks) ≡ passed → v ≡ run t (take k (p .stores))
+    → Came t k (plan p) (Passed (length (p .stores))) v
+came-passed t v k p e w =
+    record { answer = sym (ap (deletedBy (length (p .stores))) e); table = w ∙ sym (single-table t [] k p e) }
 
 -- ---- what is written
 
-module _ (t reply out : List ℕ) where
-  -- it does not fit
-  pub written-short : length reply < length out → single t reply 0 (ran 0 (writing [] out reply)) ≡ refusing t reply (record { number = 20; place = 0; link = 0 })
-  written-short l = single-refused t reply 0 _ _ (first-holds (tooShort out reply) [] (lt-ltb _ _ l))
+module _ (t reply : List ℕ) where
+  pub wrote-refused : (p : Plan) (g : Refusal) → verdict (p .checks) ≡ refused g
+      → Wrote t reply (plan p) (shown (plain (g .number) (g .place) 0 0)) reply
+  wrote-refused p g e =
+      let w = single-refused t reply 0 p g e in
+      record { answer = sym (ap (λ (o : Outcome). shown (o .answer)) w); reply = sym (ap (λ (o : Outcome). o .reply) w) }
 
-  module _ (l : length out ≤ length reply) where
-    fits : verdict (tooShort out reply ∷ []) ≡ passed
-    fits = first-passes (tooShort out reply) [] (le-ltb _ _ l) ∙ none-left
+  module _ (out : List ℕ) where
+    -- it does not fit
+    pub wrote-short : length reply < length out → Wrote t reply (writing [] out reply) (shown (plain 20 0 0 0)) reply
+    wrote-short l = wrote-refused _ _ (first-holds (tooShort out reply) [] (lt-ltb _ _ l))
 
-    pub written-answer : single t reply 0 (ran 0 (writing [] out reply)) .answer ≡ written (length out)
-    written-answer = rw fits
+    -- it fits, and the rest is as it was
+    pub wrote-out : (w : List ℕ) → length out ≤ length reply → w ≡ out ++ drop (length out) reply
+        → Wrote t reply (writing [] out reply) (shown (granting false (length out) 0)) w
+    wrote-out w l e =
+        let fits : verdict (tooShort out reply ∷ []) ≡ passed = first-passes (tooShort out reply) [] (le-ltb _ _ l) ∙ none-left in
+        record { answer = rw fits; reply = e ∙ rw fits }
 
-    pub written-reply : single t reply 0 (ran 0 (writing [] out reply)) .reply ≡ out ++ drop (length out) reply
-    written-reply = rw fits
+    abbrev with : List Check → Plan
+    with cs = record { checks = cs; stores = []; displaced = false; reply = out }
 
-  module _ (c d : Check) where
-    pub writing-first : c .when ≡ true → single t reply 0 (ran 0 (writing (c ∷ d ∷ []) out reply)) ≡ refusing t reply (c .refusal)
-    writing-first e = single-refused t reply 0 _ (c .refusal) (first-holds c (d ∷ tooShort out reply ∷ []) e)
+    alike : (cs ds : List Check) (v : Verdict) → single t reply 0 (stores 0 (with cs) v) ≡ single t reply 0 (stores 0 (with ds) v)
+    alike cs ds passed = refl
+    alike cs ds (refused f) = refl
 
-    pub writing-second : c .when ≡ false → d .when ≡ true → single t reply 0 (ran 0 (writing (c ∷ d ∷ []) out reply)) ≡ refusing t reply (d .refusal)
-    writing-second e f = single-refused t reply 0 _ (d .refusal) (second-holds c d (tooShort out reply ∷ []) e f)
+    -- two checks before it that do not hold
+    module _ (c d : Check) (e : c .when ≡ false) (f : d .when ≡ false) where
+      same : single t reply 0 (ran 0 (writing (c ∷ d ∷ []) out reply)) ≡ single t reply 0 (ran 0 (writing [] out reply))
+      same =
+          let short : List Check = tooShort out reply ∷ [] in
+          ap (λ (v : Verdict). single t reply 0 (stores 0 (with (c ∷ d ∷ short)) v)) (first-passes c (d ∷ short) e ∙ first-passes d short f)
+          ∙ alike (c ∷ d ∷ short) short (verdict short)
 
-    pub writing-both : c .when ≡ false → d .when ≡ false
-        → single t reply 0 (ran 0 (writing (c ∷ d ∷ []) out reply)) ≡ single t reply 0 (ran 0 (writing [] out reply))
-    writing-both e f =
-        ap (λ (v : Verdict). single t reply 0 (stores 0 (record { checks = c ∷ d ∷ tooShort out reply ∷ []; stores = []; displaced = false; reply = out }) v))
-        (first-passes c (d ∷ tooShort out reply ∷ []) e ∙ first-passes d (tooShort out reply ∷ []) f)
-        ∙ go (verdict (tooShort out reply ∷ []))
-      where
-        go : (v : Verdict) → single t reply 0 (stores 0 (record { checks = c ∷ d ∷ tooShort out reply ∷ []; stores = []; displaced = false; reply = out }) v)
-            ≡ single t reply 0 (stores 0 (record { checks = tooShort out reply ∷ []; stores = []; displaced = false; reply = out }) v)
-        go passed = refl
-        go (refused f) = refl
+      pub wrote-after : (r : Answer) (w : List ℕ) → Wrote t reply (writing [] out reply) r w → Wrote t reply (writing (c ∷ d ∷ []) out reply) r w
+      wrote-after r w h =
+          record {
+            answer = h .answer ∙ sym (ap (λ (o : Outcome). shown (o .answer)) same);
+            reply = h .reply ∙ sym (ap (λ (o : Outcome). o .reply) same);
+          }

@@ -1,5 +1,5 @@
--- A plan after a walk is refused where the walk stopped, and else goes on from the state it came to, as the code's does.
--- A check that does not hold changes nothing of how the plan ends.
+-- The checks of a new entry before 17, in number order: one that holds refuses, and one that does not changes nothing of how the
+-- plan ends. And the number of the first free record, where a new file's heading goes.
 use mathlib.Core.Bool.{Bool, true, false, cond}
 use mathlib.Core.List.{List, [], _∷_}
 use mathlib.Core.Path.{_≡_, refl, sym, ap, _∙_}
@@ -11,23 +11,15 @@ use Rattle.paper.specs.Table.{room}
 use Rattle.paper.specs.Check.{Check, Verdict, passed, verdict, refused}
 use Rattle.paper.specs.Store.{Store}
 use Rattle.paper.specs.Code.{noWrite}
-use Rattle.paper.specs.Line.{Word}
-use Rattle.paper.specs.Walk as W
-use Rattle.paper.specs.Walk.{start, toDirectory}
 use Rattle.paper.specs.Answer.{Outcome, plain, single, stores, done, cut}
-use Rattle.paper.specs.Effect.{Plan, Planned, plan, Making, making, toHolder, chainOf}
+use Rattle.paper.specs.Effect.{Plan, Planned, plan, Making, making}
 use Rattle.laws.proofs.Lists.{length-each, getD-each}
 use Rattle.effects.specs.Listed.{freeRooms}
-use Rattle.walk.specs.Shown.{meant, walkedShown}
-use Rattle.walk.specs.declared.state.State.{State}
-use Rattle.walk.specs.declared.chain.Walked.the-variants.{Reached, Stopped}
-use Rattle.ends.specs.Shown.{shown, did}
-use Rattle.ends.specs.Placing.{ending}
-use Rattle.elephant.specs.Filing.{Did}
-use Rattle.ends.specs.declared.answer.Answer.{Answer}
-use Rattle.elephant.proofs.Verdicts.{first-holds, first-passes, second-holds}
-use Rattle.ends.proofs.Reached.{walked-stopped, walked-reached}
-use Rattle.elephant.proofs.Ending.{did-refused}
+use Rattle.answers.specs.Shown.{shown}
+use Rattle.answers.specs.declared.Answer.{Answer}
+use Rattle.elephant.specs.Done.{did, Did}
+use Rattle.elephant.specs.Filing.{ending}
+use Rattle.elephant.proofs.Verdicts.{first-holds, first-passes, second-holds, did-refused}
 
 -- two plans that end alike
 did-same : (t u : List ℕ) (k : ℕ) (p q : Planned) (r : Answer) → did t k p ≡ did t k q → Did t k q r u → Did t k p r u
@@ -52,16 +44,6 @@ module _ (t : List ℕ) (k : ℕ) (ss : List Store) (b : Bool) where
       go : (v : Verdict) → single t [] k (stores k (with cs) v) ≡ single t [] k (stores k (with ds) v)
       go (refused f) = refl
       go passed = by (leb (length ss) k)
-
--- ---- walks
-
-module _ (t : List ℕ) (u place k : ℕ) (w : Word) (f : W.State → Planned) where
-  pub holder-stops : (n l : ℕ) → walkedShown (toDirectory t 1 (start u) (chainOf w)) ≡ Stopped n l → Did t k (toHolder t u place w f) (shown (plain n place 0 0)) t
-  holder-stops n l e = rw (walked-stopped (toDirectory t 1 (start u) (chainOf w)) n l e) (record { answer = refl; table = refl })
-
-  pub holder-reaches : (d : State) (r : Answer) (x : List ℕ) → walkedShown (toDirectory t 1 (start u) (chainOf w)) ≡ Reached d
-      → Did t k (f (meant d)) r x → Did t k (toHolder t u place w f) r x
-  holder-reaches d r x e y = rw (walked-reached (toDirectory t 1 (start u) (chainOf w)) d e) y
 
 -- ---- 14
 

@@ -21,7 +21,7 @@ use Rattle.effects.proofs.Papers.{file-text, taken-front}
 use Rattle.effects.proofs.Lengths.{length-few, blocks-few, text-length}
 use Rattle.listing.specs.Picked.{sizeAt, sizeBelow}
 use Rattle.listing.proofs.Sizes.{name-short, size-listed}
-use Rattle.ends.specs.Ends.{Fit}
+use Rattle.elephant.specs.Done.{Fit}
 
 -- ---- a file's text
 

@@ -9,7 +9,7 @@ use Rattle.paper.specs.Request.{read, textTooLong}
 use Rattle.reader.specs.Asked.{shownRead}
 use Rattle.reader.specs.declared.request.Request.{Request}
 use Rattle.reader.specs.declared.request.Read.the-variants.{Granted}
-use Rattle.ends.specs.Ends.{Fit}
+use Rattle.elephant.specs.Done.{Fit}
 use Rattle.elephant.specs.Meant.{requestMeant}
 
 pub record Admitted (t line text : List ℕ) (u : ℕ) (r : Request) : Type 0 where

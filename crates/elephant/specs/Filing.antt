@@ -12,16 +12,15 @@ use Rattle.paper.specs.Code.{joined}
 use Rattle.paper.specs.Block.{blocks, fileText}
 use Rattle.paper.specs.Sound.{sound}
 use Rattle.paper.specs.Store.{Store, puts}
-use Rattle.paper.specs.Effect.{Making, Planned, newFile, entryIn, chainOf, filing, copyHeading}
+use Rattle.paper.specs.Effect.{Making, Planned, plan, borne, isFound, placing, fullUp, displacing, stillPeopled, noRoom, newFile, entryIn, chainOf, filing, copyHeading}
 use Rattle.paper.specs.Walk as W
 use Rattle.paper.specs.Walk.{lastName}
 use Rattle.effects.specs.Listed.{freeRooms}
 use Rattle.effects.specs.Stage.{textStores}
 use Rattle.walk.specs.Shown.{meant}
 use Rattle.walk.specs.declared.state.State.{State}
-use Rattle.ends.specs.Shown as S
-use Rattle.ends.specs.declared.answer.Answer.{Answer}
-use Rattle.ends.specs.declared.placing.Meets.{Meets}
+use Rattle.placing.specs.declared.Meets.{Meets}
+use Rattle.elephant.specs.Done.{wordAt}
 use Rattle.elephant.specs.declared.filing.File.{File}
 
 -- how many stores a new file has
@@ -52,10 +51,15 @@ makingOf t place d name code named f text =
       entry = entryIn (meant d) code named name;
     }
 
--- r and u are the answer and the table after a plan on t
-pub record Did (t : List ℕ) (k : ℕ) (p : Planned) (r : Answer) (u : List ℕ) : Type 0 where
-  pub answer : r ≡ S.shown (S.did t k p .answer)
-  pub table : u ≡ S.did t k p .table
+-- a new entry's plan after the checks 13, 14 and 15
+unfoldable pub ending : List ℕ → Making → Planned
+ending t m =
+    plan (record {
+      checks = fullUp t m ∷ stillPeopled (m .place) (displacing t (borne t m) (m .entry)) ∷ noRoom t m ∷ [];
+      stores = placing t m (borne t m);
+      displaced = isFound (borne t m);
+      reply = [];
+    })
 
 -- what making an entry stands on: the table, its free records listed in r, a name and a text as long as they may be
 pub record Ready (t r name text : List ℕ) (named : ℕ) : Type 0 where
@@ -70,7 +74,7 @@ pub record Ready (t r name text : List ℕ) (named : ℕ) : Type 0 where
 pub record Named (t line : List ℕ) (p : ℕ) (text : List ℕ) : Type 0 where
   pub size : sized t ≡ true
   pub sound : sound t ≡ true
-  pub short : length (lastName (chainOf (S.wordAt line p))) ≤ 10
+  pub short : length (lastName (chainOf (wordAt line p))) ≤ 10
   pub few : length text ≤ 24000
 
 -- DUP's making: an entry of the file that entry e names, its code e's joined with this one

@@ -1,4 +1,6 @@
 pub mod Promised
+pub mod Done
+pub mod Reading
 pub mod Filing
 pub mod Deleted
 pub mod Meant

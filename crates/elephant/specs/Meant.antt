@@ -8,7 +8,7 @@ use Rattle.paper.specs.Request.{crd, wrs, rds, cpy, dup, chn, del, dpr, lst, ls
 use Rattle.declarations.specs.Given.{lifetimePart, levelPart, digitPart}
 use Rattle.reader.specs.declared.request.Request.{Request}
 use Rattle.reader.specs.declared.request.Request.the-variants.{Crd, Wrs, Rds, Cpy, Dup, Chn, Del, Dpr, Lst, LstBase}
-use Rattle.ends.specs.Shown.{wordAt}
+use Rattle.elephant.specs.Done.{wordAt}
 
 abbrev pub requestMeant : List ℕ → Request → asked.Request
 requestMeant line (Crd name level digit) = crd (wordAt line name) (levelPart level) (digitPart digit)

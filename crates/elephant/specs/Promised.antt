@@ -3,8 +3,8 @@ use mathlib.Core.List.{List}
 use mathlib.Core.Path.{_≡_}
 use Prim.Native.Nat.{ℕ}
 use Rattle.paper.specs.Answer.{Outcome}
-use Rattle.ends.specs.Shown.{shown}
-use Rattle.ends.specs.declared.answer.Answer.{Answer}
+use Rattle.answers.specs.Shown.{shown}
+use Rattle.answers.specs.declared.Answer.{Answer}
 
 -- the code's answer r, the table v and the reply w after it are those of an outcome
 pub record Promised (o : Outcome) (r : Answer) (v w : List ℕ) : Type 0 where

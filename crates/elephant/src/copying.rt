@@ -1,12 +1,10 @@
 // CPY: a new file with the text of an old one.
 use crate::making::file;
 use crate::reply::copy_text;
+use answers::Answer;
 use declarations::part::Digit;
 use declarations::part::Level;
 use declarations::part::Lifetime;
-use ends::answer::Answer;
-use ends::end::Both;
-use ends::end::to_both;
 use records::bytes::Room;
 use records::bytes::part;
 use records::code::Code;
@@ -16,6 +14,8 @@ use records::heading::is_simple;
 use records::heading::level_of;
 use records::heading::lifetime_of;
 use records::heading::text_length;
+use walk::end::Both;
+use walk::end::to_both;
 use walk::state::State;
 ghost use mathlib.Core.Bool.{true};
 ghost use mathlib.Core.List.{[], _∷_};
@@ -26,9 +26,8 @@ ghost use Rattle.paper.specs.Table.{rec};
 ghost use Rattle.paper.specs.Walk.{file};
 ghost use Rattle.declarations.specs.Given.{lifetimePart, levelPart, digitPart};
 ghost use Rattle.walk.specs.Shown.{meant};
-ghost use Rattle.ends.specs.Shown.{wordAt};
-ghost use Rattle.ends.specs.Placing.{ending};
-ghost use Rattle.elephant.specs.Filing.{Did, Named, copied};
+ghost use Rattle.elephant.specs.Done.{wordAt, Did};
+ghost use Rattle.elephant.specs.Filing.{Named, copied, ending};
 
 // The text of a simple file filed under the new name in d, after 13, 14 and 15.
 fn copy(
@@ -43,7 +42,10 @@ fn copy(
     stop: u32,
 ) -> Answer
     requires { ⌜ Named (now table) (now line) new [] × (simple (rec (now table) (source .0)) ≡ true) ⌝ }
-    ensures { λ r. ⌜ Did (now (table .entry)) stop (ending (now (table .entry)) (copied (now (table .entry)) (wordAt (now (line .entry)) new) (meant d) (source .0) (lifetimePart lifetime) (levelPart level) (digitPart digit))) r (now (table .exit)) ⌝ }
+    ensures { λ r. ⌜ Did (now (table .entry)) stop
+        (ending (now (table .entry))
+        (copied (now (table .entry)) (wordAt (now (line .entry)) new) (meant d) (source .0)
+        (lifetimePart lifetime) (levelPart level) (digitPart digit))) r (now (table .exit)) ⌝ }
 {
     let mut text = [0u8; 24000];
     copy_text(table, source, &mut text);
@@ -82,7 +84,11 @@ fn cpy_in(
     stop: u32,
 ) -> Answer
     requires { ⌜ Named (now table) (now line) new [] ⌝ }
-    ensures { λ r. ⌜ Did (now (table .entry)) stop (making (now (table .entry)) (copied (now (table .entry)) (wordAt (now (line .entry)) new) (meant d) (file (now (table .entry)) (meant f)) (lifetimePart lifetime) (levelPart level) (digitPart digit)) (readInhibited 1 (meant f) ∷ []) (notSimple 1 (now (table .entry)) (meant f) ∷ [])) r (now (table .exit)) ⌝ }
+    ensures { λ r. ⌜ Did (now (table .entry)) stop
+        (making (now (table .entry))
+        (copied (now (table .entry)) (wordAt (now (line .entry)) new) (meant d) (file (now (table .entry)) (meant f))
+        (lifetimePart lifetime) (levelPart level) (digitPart digit))
+        (readInhibited 1 (meant f) ∷ []) (notSimple 1 (now (table .entry)) (meant f) ∷ [])) r (now (table .exit)) ⌝ }
 {
     let read = f.code;
     if read.inhibits_read() {
@@ -112,7 +118,9 @@ pub(crate) fn cpy(
     stop: u32,
 ) -> Answer
     requires { ⌜ Named (now table) (now line) new [] ⌝ }
-    ensures { λ r. ⌜ Did (now (table .entry)) stop (cpyPlan (now (table .entry)) user (wordAt (now (line .entry)) old) (wordAt (now (line .entry)) new) (lifetimePart lifetime) (levelPart level) (digitPart digit)) r (now (table .exit)) ⌝ }
+    ensures { λ r. ⌜ Did (now (table .entry)) stop
+        (cpyPlan (now (table .entry)) user (wordAt (now (line .entry)) old) (wordAt (now (line .entry)) new)
+        (lifetimePart lifetime) (levelPart level) (digitPart digit)) r (now (table .exit)) ⌝ }
 {
     let both = to_both(table, line, old, new, user);
     match both {

@@ -1,30 +1,31 @@
 // DEL: name by name, an entry cleared and then its file, if no other entry names it.
+use answers::Answer;
 use effects::beside::is_named_beside;
 use effects::rooms::text_rooms;
 use effects::stage::clear_file;
 use effects::stage::put;
-use ends::answer::Answer;
-use ends::end::End;
-use ends::end::to_end;
-use ends::placing::is_directory_peopled;
+use placing::is_directory_peopled;
 use records::block::blocks;
 use records::bytes::Room;
 use records::entry::heading_named;
 use records::heading::text_length;
+use walk::end::End;
+use walk::end::to_end;
+use walk::state::State;
 use words::line::next_word;
-ghost use mathlib.Core.List.{[], _∷_};
+ghost use mathlib.Core.List.{_∷_};
 ghost use mathlib.Core.Path.{_≡_};
 ghost use Prim.Native.Nat.{_<_};
-ghost use lib.ListN.{length, take, drop};
-ghost use Rattle.paper.specs.Answer.{deleting};
-ghost use Rattle.paper.specs.Effect.{freed, delPlan};
+ghost use lib.ListN.{length, drop};
+ghost use Rattle.paper.specs.Effect.{freed, delAt, delPlan};
 ghost use Rattle.paper.specs.Line.{words, word};
 ghost use Rattle.paper.specs.Record.{byte};
-ghost use Rattle.paper.specs.Store.{clear, run};
+ghost use Rattle.paper.specs.Store.{clear};
 ghost use Rattle.paper.specs.Table.{rooms, rec};
-ghost use Rattle.ends.specs.Shown.{shown, wordAt, did};
-ghost use Rattle.ends.specs.Ends.{Fit};
-ghost use Rattle.elephant.specs.Deleted.{deletedShown, deletedAnswer};
+ghost use Rattle.answers.specs.Shown.{shown};
+ghost use Rattle.walk.specs.Shown.{meant};
+ghost use Rattle.elephant.specs.Done.{Fit, Filed, wordAt};
+ghost use Rattle.elephant.specs.Deleted.{deletedAnswer, Tried, Came, CameAll};
 
 // What one name came to: the stores that it needs, or its number and place.
 pub(crate) enum Deleted {
@@ -52,7 +53,7 @@ impl Deleted {
 // An entry and its file cleared, as many of the stores as are left; handed back, how many they are.
 fn clear_both(table: &mut [u8], entry: Room, heading: Room, left: usize) -> usize
     requires { ⌜ Fit (now table) × (heading .0 < rooms (now table)) × (byte (rec (now table) (heading .0)) 0 ≡ 1) ⌝ }
-    ensures { λ r. ⌜ (r ≡ length (clear (entry .0) ∷ freed (now (table .entry)) (heading .0))) × (now (table .exit) ≡ run (now (table .entry)) (take left (clear (entry .0) ∷ freed (now (table .entry)) (heading .0)))) ⌝ }
+    ensures { λ r. ⌜ Tried (now (table .entry)) left (clear (entry .0) ∷ freed (now (table .entry)) (heading .0)) r (now (table .exit)) ⌝ }
 {
     let mut rooms = [0u16; 1000];
     text_rooms(table, heading, &mut rooms);
@@ -60,6 +61,27 @@ fn clear_both(table: &mut [u8], entry: Room, heading: Room, left: usize) -> usiz
     let rest = put(table, entry, [0u8; 32], left);
     clear_file(table, heading, &rooms, count, rest);
     count + 2
+}
+
+// The entry of f in d and, if no other entry names it, the file: 14 and 18, and as many of the stores as are left.
+fn delete_at(table: &mut [u8], d: State, f: State, place: u32, left: usize) -> Deleted
+    requires { ⌜ Filed (now table) (meant f) ⌝ }
+    ensures { λ r. ⌜ Came (now (table .entry)) left (delAt (now (table .entry)) place (meant d) (meant f)) r (now (table .exit)) ⌝ }
+{
+    let applied = d.code;
+    if applied.inhibits_write() {
+        return Deleted::Refused { number: 14, place };
+    }
+    let entry = f.entry;
+    let heading = heading_named(table, entry);
+    if is_named_beside(table, heading, entry) {
+        put(table, entry, [0u8; 32], left);
+        return Deleted::Passed(1);
+    }
+    if is_directory_peopled(table, heading) {
+        return Deleted::Refused { number: 18, place };
+    }
+    Deleted::Passed(clear_both(table, entry, heading, left))
 }
 
 // One name of a DEL at this place, with so many stores left.
@@ -72,27 +94,14 @@ fn delete_one(
     left: usize,
 ) -> Deleted
     requires { ⌜ Fit (now table) ⌝ }
-    ensures { λ r. ⌜ (r ≡ deletedShown (delPlan (now (table .entry)) user place (wordAt (now (line .entry)) p))) × (now (table .exit) ≡ did (now (table .entry)) left (delPlan (now (table .entry)) user place (wordAt (now (line .entry)) p)) .table) ⌝ }
+    ensures { λ r. ⌜ Came (now (table .entry)) left
+        (delPlan (now (table .entry)) user place (wordAt (now (line .entry)) p)) r (now (table .exit)) ⌝ }
 {
     let end = to_end(table, line, p, user);
-    let End::At(directory, file) = end else {
-        let number = end.number();
-        return Deleted::Refused { number, place };
-    };
-    let applied = directory.code;
-    let entry = file.entry;
-    if applied.inhibits_write() {
-        return Deleted::Refused { number: 14, place };
+    match end {
+        End::Off { number, link: _ } => Deleted::Refused { number, place },
+        End::At(d, f) => delete_at(table, d, f, place, left),
     }
-    let heading = heading_named(table, entry);
-    if is_named_beside(table, heading, entry) {
-        put(table, entry, [0u8; 32], left);
-        return Deleted::Passed(1);
-    }
-    if is_directory_peopled(table, heading) {
-        return Deleted::Refused { number: 18, place };
-    }
-    Deleted::Passed(clear_both(table, entry, heading, left))
 }
 
 // "DEL does walk and end checks name by name and stops at the first refusal": the words from the first on, so many.
@@ -105,7 +114,7 @@ pub(crate) fn del(
     stop: u32,
 ) -> Answer
     requires { ⌜ Fit (now table) × (first ≡ word (now line) 1 .start) × (count ≡ length (drop 1 (words (now line)))) ⌝ }
-    ensures { λ r. ⌜ (r ≡ shown (deleting (now (table .entry)) user [] stop 0 0 (drop 1 (words (now (line .entry)))) .answer)) × (now (table .exit) ≡ deleting (now (table .entry)) user [] stop 0 0 (drop 1 (words (now (line .entry)))) .table) ⌝ }
+    ensures { λ r. ⌜ CameAll (now (table .entry)) user stop (drop 1 (words (now (line .entry)))) r (now (table .exit)) ⌝ }
 {
     let mut p = first;
     let mut names: u32 = 0;

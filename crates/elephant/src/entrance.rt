@@ -6,10 +6,10 @@ use crate::delete::del;
 use crate::making::crd;
 use crate::making::dup;
 use crate::making::wrs;
-use crate::reply::lst;
+use crate::reply::Sheet;
 use crate::reply::lst_base;
-use crate::reply::rds;
-use ends::answer::Answer;
+use crate::reply::read;
+use answers::Answer;
 use reader::request::Request;
 ghost use mathlib.Core.Path.{_≡_};
 ghost use Rattle.paper.specs.Answer.{entrance, requested};
@@ -42,7 +42,8 @@ pub(crate) fn grant(
     asked: Request,
 ) -> Answer
     requires { ⌜ Admitted (now table) (now line) (now text) user asked ⌝ }
-    ensures { λ r. ⌜ Promised (requested (now (table .entry)) (now (line .entry)) (now (text .entry)) (now (reply .entry)) user stop) r (now (table .exit)) (now (reply .exit)) ⌝ }
+    ensures { λ r. ⌜ Promised (requested (now (table .entry)) (now (line .entry)) (now (text .entry)) (now (reply .entry)) user stop)
+        r (now (table .exit)) (now (reply .exit)) ⌝ }
 {
     match asked {
         Request::Crd { name, level, digit } => crd(table, line, name, level, digit, user, stop),
@@ -52,7 +53,7 @@ pub(crate) fn grant(
             digit,
             name,
         } => wrs(table, line, text, lifetime, level, digit, name, user, stop),
-        Request::Rds { name } => rds(table, line, reply, name, user),
+        Request::Rds { name } => read(table, line, reply, Sheet::Text, name, user),
         Request::Cpy {
             old,
             new,
@@ -64,7 +65,7 @@ pub(crate) fn grant(
         Request::Chn { old, link } => chn(table, line, old, link, user, stop),
         Request::Del { first, count } => del(table, line, first, count as u32, user, stop),
         Request::Dpr { name, code } => dpr(table, line, name, code, user, stop),
-        Request::Lst { name } => lst(table, line, reply, name, user),
+        Request::Lst { name } => read(table, line, reply, Sheet::Lines, name, user),
         Request::LstBase => lst_base(table, reply, user),
     }
 }

@@ -1,13 +1,13 @@
 // A new entry, and before it a new file where it names one: end checks 17 to 19, the stores, the answer.
+use answers::Answer;
 use effects::rooms::room_at;
 use effects::rooms::text_rooms;
 use effects::stage::put;
 use effects::stage::put_texts;
-use ends::answer::Answer;
-use ends::placing::Meets;
-use ends::placing::entry_refusal;
-use ends::placing::meet;
-use ends::placing::place_entry;
+use placing::Meets;
+use placing::entry_refusal;
+use placing::meet;
+use placing::place_entry;
 use records::block::blocks;
 use records::bytes::Bytes;
 use records::bytes::Room;
@@ -19,8 +19,8 @@ ghost use mathlib.Core.Path.{_≡_};
 ghost use Prim.Native.Nat.{_≤_};
 ghost use lib.ListN.{length};
 ghost use Rattle.effects.specs.Stage.{Made};
-ghost use Rattle.ends.specs.Placing.{ending};
-ghost use Rattle.elephant.specs.Filing.{fileCount, fileStores, neededBy, storesBy, makingOf, Did, Ready};
+ghost use Rattle.elephant.specs.Done.{Did};
+ghost use Rattle.elephant.specs.Filing.{fileCount, fileStores, neededBy, storesBy, makingOf, Ready, ending};
 
 // A new file's heading, or no new file.
 pub(crate) struct File {
@@ -87,7 +87,9 @@ pub(crate) fn make(
     stop: u32,
 ) -> Answer
     requires { ⌜ Ready (now table) (now rooms) (now name) (now text) (named .0) ⌝ }
-    ensures { λ r. ⌜ Did (now (table .entry)) stop (ending (now (table .entry)) (makingOf (now (table .entry)) place d (now (name .entry)) (code .0) (named .0) file (now (text .entry)))) r (now (table .exit)) ⌝ }
+    ensures { λ r. ⌜ Did (now (table .entry)) stop
+        (ending (now (table .entry))
+        (makingOf (now (table .entry)) place d (now (name .entry)) (code .0) (named .0) file (now (text .entry)))) r (now (table .exit)) ⌝ }
 {
     let holder = d.holder;
     let first = count_file(file, text);

@@ -9,7 +9,7 @@ mod reply;
 
 use crate::entrance::entrance_number;
 use crate::entrance::grant;
-use ends::answer::Answer;
+use answers::Answer;
 use reader::request::Read;
 use reader::request::Request;
 use reader::request::read_line;
@@ -26,7 +26,8 @@ pub fn request(
     user: u32,
     stop: u32,
 ) -> Answer
-    ensures { λ r. ⌜ Promised (requested (now (table .entry)) (now (line .entry)) (now (text .entry)) (now (reply .entry)) user stop) r (now (table .exit)) (now (reply .exit)) ⌝ }
+    ensures { λ r. ⌜ Promised (requested (now (table .entry)) (now (line .entry)) (now (text .entry)) (now (reply .entry)) user stop)
+        r (now (table .exit)) (now (reply .exit)) ⌝ }
 {
     let number = entrance_number(table, user);
     if number != 0 {

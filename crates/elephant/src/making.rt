@@ -1,13 +1,11 @@
 // CRD and WRS: a new file and its entry. DUP: another entry of a file.
 use crate::filing::File;
 use crate::filing::make;
+use answers::Answer;
 use declarations::part::Digit;
 use declarations::part::Level;
 use effects::rooms::free_rooms;
 use effects::rooms::room_at;
-use ends::answer::Answer;
-use ends::end::Both;
-use ends::end::to_both;
 use records::bytes::Bytes;
 use records::bytes::Room;
 use records::bytes::part;
@@ -18,14 +16,15 @@ use records::heading::Heading;
 use walk::chain::Walked;
 use walk::chain::last_name;
 use walk::chain::to_directory;
+use walk::end::Both;
+use walk::end::to_both;
 use walk::state::State;
 ghost use mathlib.Core.List.{[]};
 ghost use Rattle.paper.specs.Effect.{making, filing, crdPlan, wrsPlan, dupPlan};
 ghost use Rattle.declarations.specs.Given.{levelPart, digitPart};
 ghost use Rattle.walk.specs.Shown.{meant};
-ghost use Rattle.ends.specs.Shown.{wordAt};
-ghost use Rattle.ends.specs.Placing.{ending};
-ghost use Rattle.elephant.specs.Filing.{Did, Named, second};
+ghost use Rattle.elephant.specs.Done.{wordAt, Did};
+ghost use Rattle.elephant.specs.Filing.{Named, second, ending};
 
 // A new file under the last name of the chain at `name`, in d: 17 to 19, the stores and the answer.
 pub(crate) fn file(
@@ -40,7 +39,9 @@ pub(crate) fn file(
     stop: u32,
 ) -> Answer
     requires { ⌜ Named (now table) (now line) name (now text) ⌝ }
-    ensures { λ r. ⌜ Did (now (table .entry)) stop (ending (now (table .entry)) (filing (now (table .entry)) place (wordAt (now (line .entry)) name) (meant d) (code .0) heading (now (text .entry)))) r (now (table .exit)) ⌝ }
+    ensures { λ r. ⌜ Did (now (table .entry)) stop
+        (ending (now (table .entry))
+        (filing (now (table .entry)) place (wordAt (now (line .entry)) name) (meant d) (code .0) heading (now (text .entry)))) r (now (table .exit)) ⌝ }
 {
     let mut rooms = [0u16; 1002];
     free_rooms(table, &mut rooms);
@@ -76,7 +77,9 @@ fn file_in(
     stop: u32,
 ) -> Answer
     requires { ⌜ Named (now table) (now line) name (now text) ⌝ }
-    ensures { λ r. ⌜ Did (now (table .entry)) stop (making (now (table .entry)) (filing (now (table .entry)) place (wordAt (now (line .entry)) name) (meant d) (code .0) heading (now (text .entry))) [] []) r (now (table .exit)) ⌝ }
+    ensures { λ r. ⌜ Did (now (table .entry)) stop
+        (making (now (table .entry))
+        (filing (now (table .entry)) place (wordAt (now (line .entry)) name) (meant d) (code .0) heading (now (text .entry))) [] []) r (now (table .exit)) ⌝ }
 {
     let applies = d.code;
     if applies.inhibits_write() {
@@ -96,7 +99,8 @@ pub(crate) fn crd(
     stop: u32,
 ) -> Answer
     requires { ⌜ Named (now table) (now line) name [] ⌝ }
-    ensures { λ r. ⌜ Did (now (table .entry)) stop (crdPlan (now (table .entry)) user (wordAt (now (line .entry)) name) (levelPart level) (digitPart digit)) r (now (table .exit)) ⌝ }
+    ensures { λ r. ⌜ Did (now (table .entry)) stop
+        (crdPlan (now (table .entry)) user (wordAt (now (line .entry)) name) (levelPart level) (digitPart digit)) r (now (table .exit)) ⌝ }
 {
     let code = Code(digit.or_else(0));
     let heading = Heading {
@@ -136,7 +140,9 @@ pub(crate) fn wrs(
     stop: u32,
 ) -> Answer
     requires { ⌜ Named (now table) (now line) name (now text) ⌝ }
-    ensures { λ r. ⌜ Did (now (table .entry)) stop (wrsPlan (now (table .entry)) user (now (text .entry)) lifetime (levelPart level) (digitPart digit) (wordAt (now (line .entry)) name)) r (now (table .exit)) ⌝ }
+    ensures { λ r. ⌜ Did (now (table .entry)) stop
+        (wrsPlan (now (table .entry)) user (now (text .entry)) lifetime (levelPart level) (digitPart digit)
+        (wordAt (now (line .entry)) name)) r (now (table .exit)) ⌝ }
 {
     let code = Code(digit.or_else(0));
     let heading = Heading {
@@ -164,7 +170,9 @@ fn dup_in(
     stop: u32,
 ) -> Answer
     requires { ⌜ Named (now table) (now line) new [] ⌝ }
-    ensures { λ r. ⌜ Did (now (table .entry)) stop (making (now (table .entry)) (second (now (table .entry)) (wordAt (now (line .entry)) new) (meant d) (entry .0) (code .0)) [] []) r (now (table .exit)) ⌝ }
+    ensures { λ r. ⌜ Did (now (table .entry)) stop
+        (making (now (table .entry))
+        (second (now (table .entry)) (wordAt (now (line .entry)) new) (meant d) (entry .0) (code .0)) [] []) r (now (table .exit)) ⌝ }
 {
     let applies = d.code;
     if applies.inhibits_write() {
@@ -203,7 +211,8 @@ pub(crate) fn dup(
     stop: u32,
 ) -> Answer
     requires { ⌜ Named (now table) (now line) new [] ⌝ }
-    ensures { λ r. ⌜ Did (now (table .entry)) stop (dupPlan (now (table .entry)) user (wordAt (now (line .entry)) old) (wordAt (now (line .entry)) new) (digitPart digit)) r (now (table .exit)) ⌝ }
+    ensures { λ r. ⌜ Did (now (table .entry)) stop
+        (dupPlan (now (table .entry)) user (wordAt (now (line .entry)) old) (wordAt (now (line .entry)) new) (digitPart digit)) r (now (table .exit)) ⌝ }
 {
     let code = Code(digit.or_else(0));
     let both = to_both(table, line, old, new, user);

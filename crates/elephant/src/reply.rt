@@ -1,9 +1,7 @@
 // RDS and LST: what they write to the front of the reply.
+use answers::Answer;
 use effects::reading::read_text;
 use effects::rooms::text_rooms;
-use ends::answer::Answer;
-use ends::end::End;
-use ends::end::to_end;
 use listing::Listed;
 use listing::listed_length;
 use listing::write_lines;
@@ -13,19 +11,28 @@ use records::entry::heading_named;
 use records::heading::is_directory;
 use records::heading::is_simple;
 use records::heading::text_length;
+use walk::end::End;
+use walk::end::to_end;
+use walk::state::State;
 ghost use mathlib.Core.Bool.{true};
 ghost use mathlib.Core.List.{[]};
 ghost use mathlib.Core.Path.{_≡_};
 ghost use lib.Seq.{sets};
-ghost use Rattle.paper.specs.Answer.{ran, single};
 ghost use Rattle.paper.specs.Block.{fileText};
-ghost use Rattle.paper.specs.Effect.{writing, rdsPlan, lstPlan, lstBasePlan};
+ghost use Rattle.paper.specs.Effect.{writing, lstBasePlan};
 ghost use Rattle.paper.specs.Listing.{listed, lines};
 ghost use Rattle.paper.specs.Record.{simple};
 ghost use Rattle.paper.specs.Table.{rec};
 ghost use Rattle.listing.specs.Shown.{isListed};
-ghost use Rattle.ends.specs.Shown.{shown, wordAt};
-ghost use Rattle.ends.specs.Ends.{Fit};
+ghost use Rattle.walk.specs.Shown.{meant};
+ghost use Rattle.elephant.specs.Done.{Fit, wordAt, Wrote};
+ghost use Rattle.elephant.specs.Reading.{isRight, written, readingAt, reading};
+
+// What is read of a file: the text of a simple one, or the lines of a directory.
+pub(crate) enum Sheet {
+    Text,
+    Lines,
+}
 
 // The text of a simple file copied to the front of the reply.
 pub(crate) fn copy_text(table: &[u8], heading: Room, reply: &mut [u8])
@@ -38,70 +45,98 @@ pub(crate) fn copy_text(table: &[u8], heading: Room, reply: &mut [u8])
     read_text(table, &rooms, count, reply);
 }
 
+// The text of a simple file, where it fits.
+fn write_text(table: &[u8], heading: Room, reply: &mut [u8]) -> Answer
+    requires { ⌜ Fit (now table) × (simple (rec (now table) (heading .0)) ≡ true) ⌝ }
+    ensures { λ r. ⌜ Wrote (now (table .entry)) (now (reply .entry))
+        (writing [] (fileText (now (table .entry)) (heading .0)) (now (reply .entry))) r (now (reply .exit)) ⌝ }
+{
+    let n = text_length(table, heading).0;
+    if reply.len() < n {
+        return Answer::refused(20, 0);
+    }
+    copy_text(table, heading, reply);
+    Answer::granted(false, n as u32, 0)
+}
+
 // The lines of what is listed, where they fit.
 fn list(table: &[u8], which: Listed, reply: &mut [u8]) -> Answer
     requires { ⌜ Fit (now table) ⌝ }
-    ensures { λ r. ⌜ (r ≡ shown (single (now (table .entry)) (now (reply .entry)) 0 (ran 0 (writing [] (lines (now (table .entry)) (listed (now (table .entry)) (isListed which))) (now (reply .entry)))) .answer)) × (now (reply .exit) ≡ single (now (table .entry)) (now (reply .entry)) 0 (ran 0 (writing [] (lines (now (table .entry)) (listed (now (table .entry)) (isListed which))) (now (reply .entry)))) .reply) ⌝ }
+    ensures { λ r. ⌜ Wrote (now (table .entry)) (now (reply .entry))
+        (writing [] (lines (now (table .entry)) (listed (now (table .entry)) (isListed which))) (now (reply .entry))) r (now (reply .exit)) ⌝ }
 {
     let n = listed_length(table, which).0;
     if reply.len() < n {
         return Answer::refused(20, 0);
     }
     write_lines(table, which, reply);
-    Answer::written(n as u32)
+    Answer::granted(false, n as u32, 0)
 }
 
-// "RDS writes the text to the front of the reply buffer."
-pub(crate) fn rds(table: &[u8], line: &[u8], reply: &mut [u8], name: usize, user: u32) -> Answer
-    requires { ⌜ Fit (now table) ⌝ }
-    ensures { λ r. ⌜ (r ≡ shown (single (now (table .entry)) (now (reply .entry)) 0 (ran 0 (rdsPlan (now (table .entry)) user (now (reply .entry)) (wordAt (now (line .entry)) name))) .answer)) × (now (reply .exit) ≡ single (now (table .entry)) (now (reply .entry)) 0 (ran 0 (rdsPlan (now (table .entry)) user (now (reply .entry)) (wordAt (now (line .entry)) name))) .reply) ⌝ }
+// Whether a heading is of the file that is read.
+fn is_right(table: &[u8], sheet: Sheet, heading: Room) -> bool
+    ensures { λ r. ⌜ r ≡ isRight sheet (rec (now (table .entry)) (heading .0)) ⌝ }
 {
-    let end = to_end(table, line, name, user);
-    let End::At(_, file) = end else {
-        return Answer::refused(end.number(), 1);
-    };
-    let entry = file.entry;
-    let applied = file.code;
+    match sheet {
+        Sheet::Text => is_simple(table, heading),
+        Sheet::Lines => is_directory(table, heading),
+    }
+}
+
+// What is read of a heading, where it fits.
+fn write(table: &[u8], sheet: Sheet, heading: Room, reply: &mut [u8]) -> Answer
+    requires { ⌜ Fit (now table) × (isRight sheet (rec (now table) (heading .0)) ≡ true) ⌝ }
+    ensures { λ r. ⌜ Wrote (now (table .entry)) (now (reply .entry))
+        (writing [] (written sheet (now (table .entry)) (heading .0)) (now (reply .entry))) r (now (reply .exit)) ⌝ }
+{
+    match sheet {
+        Sheet::Text => write_text(table, heading, reply),
+        Sheet::Lines => list(table, Listed::Directory(heading), reply),
+    }
+}
+
+// 13 and 15 of the file f, and what is read of it.
+fn read_at(table: &[u8], sheet: Sheet, f: State, reply: &mut [u8]) -> Answer
+    requires { ⌜ Fit (now table) ⌝ }
+    ensures { λ r. ⌜ Wrote (now (table .entry)) (now (reply .entry))
+        (readingAt sheet (now (table .entry)) (now (reply .entry)) (meant f)) r (now (reply .exit)) ⌝ }
+{
+    let applied = f.code;
     if applied.inhibits_read() {
         return Answer::refused(13, 1);
     }
-    let heading = heading_named(table, entry);
-    if !is_simple(table, heading) {
+    let heading = heading_named(table, f.entry);
+    if !is_right(table, sheet, heading) {
         return Answer::refused(15, 1);
     }
-    let n = text_length(table, heading).0;
-    if reply.len() < n {
-        return Answer::refused(20, 0);
-    }
-    copy_text(table, heading, reply);
-    Answer::written(n as u32)
+    write(table, sheet, heading, reply)
 }
 
-// "LST writes one line an entry"
-pub(crate) fn lst(table: &[u8], line: &[u8], reply: &mut [u8], name: usize, user: u32) -> Answer
+// "RDS writes the text to the front of the reply buffer." "LST writes one line an entry"
+pub(crate) fn read(
+    table: &[u8],
+    line: &[u8],
+    reply: &mut [u8],
+    sheet: Sheet,
+    name: usize,
+    user: u32,
+) -> Answer
     requires { ⌜ Fit (now table) ⌝ }
-    ensures { λ r. ⌜ (r ≡ shown (single (now (table .entry)) (now (reply .entry)) 0 (ran 0 (lstPlan (now (table .entry)) user (now (reply .entry)) (wordAt (now (line .entry)) name))) .answer)) × (now (reply .exit) ≡ single (now (table .entry)) (now (reply .entry)) 0 (ran 0 (lstPlan (now (table .entry)) user (now (reply .entry)) (wordAt (now (line .entry)) name))) .reply) ⌝ }
+    ensures { λ r. ⌜ Wrote (now (table .entry)) (now (reply .entry))
+        (reading sheet (now (table .entry)) user (now (reply .entry)) (wordAt (now (line .entry)) name)) r (now (reply .exit)) ⌝ }
 {
     let end = to_end(table, line, name, user);
-    let End::At(_, file) = end else {
-        return Answer::refused(end.number(), 1);
-    };
-    let entry = file.entry;
-    let applied = file.code;
-    if applied.inhibits_read() {
-        return Answer::refused(13, 1);
+    match end {
+        End::Off { number, link: _ } => Answer::refused(number, 1),
+        End::At(_, f) => read_at(table, sheet, f, reply),
     }
-    let heading = heading_named(table, entry);
-    if !is_directory(table, heading) {
-        return Answer::refused(15, 1);
-    }
-    list(table, Listed::Directory(heading), reply)
 }
 
 // "LST of a lone point"
 pub(crate) fn lst_base(table: &[u8], reply: &mut [u8], user: u32) -> Answer
     requires { ⌜ Fit (now table) ⌝ }
-    ensures { λ r. ⌜ (r ≡ shown (single (now (table .entry)) (now (reply .entry)) 0 (ran 0 (lstBasePlan (now (table .entry)) user (now (reply .entry)))) .answer)) × (now (reply .exit) ≡ single (now (table .entry)) (now (reply .entry)) 0 (ran 0 (lstBasePlan (now (table .entry)) user (now (reply .entry)))) .reply) ⌝ }
+    ensures { λ r. ⌜ Wrote (now (table .entry)) (now (reply .entry))
+        (lstBasePlan (now (table .entry)) user (now (reply .entry))) r (now (reply .exit)) ⌝ }
 {
     list(table, Listed::Base(user), reply)
 }

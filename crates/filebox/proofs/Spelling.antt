@@ -13,7 +13,7 @@ use native.Mathlib.Numerals.{add-one}
 use lib.ListN.{length, take, set, drop, length-append}
 use lib.Seq.{sets, sets-eq, length-sets, take-suc-set, take-append-seam, length-take-le}
 use Rattle.io.specs.Digits.{digits, Fewest}
-use Rattle.ends.specs.declared.answer.Answer.{Answer}
+use Rattle.answers.specs.declared.Answer.{Answer}
 use Rattle.filebox.specs.Spelled.{Spelled, Line}
 
 -- a number of 32 bits has at most ten digits

@@ -12,9 +12,9 @@ use lib.Seq.{take-suc}
 use borrow.Author.Tests.{lt-ltb, le-ltb}
 use Rattle.laws.proofs.Tests.{and-no-right, or-right}
 use Rattle.paper.specs.Answer.{Outcome, requested}
-use Rattle.ends.specs.Shown.{shown}
+use Rattle.answers.specs.Shown.{shown}
 use Rattle.elephant.specs.Promised.{Promised}
-use Rattle.ends.specs.declared.answer.Answer.{Answer}
+use Rattle.answers.specs.declared.Answer.{Answer}
 use Rattle.filebox.specs.FirstWord.{after, stages, isWrs}
 use Rattle.filebox.specs.Box.{Box, between, outcome, answered, grown, takesText, ended, stepped, fed, finished}
 use Rattle.filebox.specs.Shows.{Shows, Follows, Grows, Came, Over, Further, fresh}

@@ -4,8 +4,8 @@ use mathlib.Core.Path.{_≡_}
 use Prim.Native.Nat.{ℕ, _+_, _≤_}
 use lib.ListN.{take}
 use Rattle.io.specs.Digits.{digits, Fewest}
-use Rattle.ends.specs.declared.answer.Answer.{Answer}
-use Rattle.ends.specs.Shown.{shown}
+use Rattle.answers.specs.declared.Answer.{Answer}
+use Rattle.answers.specs.Shown.{shown}
 use Rattle.filebox.specs.Box.{Box, outcome}
 use Rattle.filebox.specs.Shows.{Shows}
 use Rattle.filebox.specs.declared.held.Held.{Held}

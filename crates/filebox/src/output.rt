@@ -1,5 +1,5 @@
 // An answer as it is written to standard output.
-use ends::answer::Answer;
+use answers::Answer;
 use libc::STDOUT_FILENO;
 use records::store::copy_in;
 ghost use mathlib.Core.Path.{_≡_};

@@ -1,5 +1,5 @@
 // The file box for C: include/filebox.h says what a caller owes and gets.
-use ends::answer::Answer;
+use answers::Answer;
 ghost use mathlib.Core.List.{[]};
 ghost use Rattle.paper.specs.Answer.{requested, mending};
 ghost use Rattle.elephant.specs.Promised.{Promised};

@@ -32,6 +32,15 @@ abbrev pub plain : (number place names stores : ℕ) → Answer
 plain number place names stores =
     record { number = number; place = place; names = names; displaced = 0; bytes = 0; stores = stores }
 
+abbrev pub yesNo : Bool → ℕ
+yesNo true = 1
+yesNo false = 0
+
+-- one name was granted all that it asks
+abbrev pub granting : (displaced : Bool) (bytes stores : ℕ) → Answer
+granting displaced bytes stores =
+    record { number = 0; place = 0; names = 1; displaced = yesNo displaced; bytes = bytes; stores = stores }
+
 -- a refusal changes nothing
 abbrev pub refusing : List ℕ → List ℕ → Refusal → Outcome
 refusing t reply f = record { answer = plain (f .number) (f .place) 0 0; table = t; reply = reply }
@@ -51,24 +60,12 @@ abbrev pub ran : ℕ → Planned → Ran
 ran k (halted f) = refusedBy f
 ran k (plan p) = stores k p (verdict (p .checks))
 
-abbrev pub yesNo : Bool → ℕ
-yesNo true = 1
-yesNo false = 0
-
 -- every function but DEL: "The rest of the buffer is unchanged."
 abbrev pub single : List ℕ → List ℕ → ℕ → Ran → Outcome
 single t reply k (refusedBy f) = refusing t reply f
 single t reply k (done p) =
     record {
-      answer =
-          record {
-            number = 0;
-            place = 0;
-            names = 1;
-            displaced = yesNo (p .displaced);
-            bytes = length (p .reply);
-            stores = length (p .stores);
-          };
+      answer = granting (p .displaced) (length (p .reply)) (length (p .stores));
       table = run t (p .stores);
       reply = p .reply ++ drop (length (p .reply)) reply;
     }

@@ -14,7 +14,7 @@ use Rattle.paper.specs.Check.{Refusal, Check, check}
 use Rattle.paper.specs.Code.{joined, noRead, noWrite, lacks}
 use Rattle.paper.specs.Entry.{find, full, named, peopled}
 use Rattle.paper.specs.Block.{blocks, block, blocksOf, fileText}
-use Rattle.paper.specs.Walk.{State, start, file, Walked, reached, stopped, toDirectory, lastName, toLast}
+use Rattle.paper.specs.Walk.{State, start, file, Walked, reached, stopped, toDirectory, lastName, End, arrived, astray, ended}
 use Rattle.paper.specs.Store.{Store, puts, clear}
 use Rattle.paper.specs.Listing.{directoryLines, baseLines}
 
@@ -37,12 +37,16 @@ onward place (stopped number link) f = halted (record { number = number; place =
 abbrev pub chainOf : Word → List (List ℕ)
 chainOf w = chain (w .names)
 
+abbrev pub inward : ℕ → End → (State → State → Planned) → Planned
+inward place (arrived d f) g = g d f
+inward place (astray number link) g = halted (record { number = number; place = place; link = link })
+
 -- to the directory of the argument at this place, and to the file it names
 abbrev pub toHolder : List ℕ → ℕ → ℕ → Word → (State → Planned) → Planned
 toHolder t u place w f = onward place (toDirectory t 1 (start u) (chainOf w)) f
 
 abbrev pub toEnd : List ℕ → ℕ → ℕ → Word → (State → State → Planned) → Planned
-toEnd t u place w f = toHolder t u place w (λ d. onward place (toLast t d (chainOf w)) (f d))
+toEnd t u place w g = inward place (ended t (start u) (chainOf w)) g
 
 -- "After an entry is displaced or cleared": heading h cleared, "then its text by position"
 unfoldable pub freed : List ℕ → ℕ → List Store
@@ -211,29 +215,35 @@ unfoldable pub renamed : List ℕ → List ℕ → List ℕ
 renamed r name = take 9 r ++ nameField name
 
 -- "CHN: the entry with its new name."
+abbrev pub chnAt : List ℕ → List ℕ → State → State → Planned
+chnAt t name d f =
+    storing (writeInhibited 1 d ∷ taken 2 (find t (d .holder) name) ∷ [])
+    (puts (f .entry) (renamed (rec t (f .entry)) name) ∷ [])
+
 unfoldable pub chnPlan : List ℕ → ℕ → Word → Word → Planned
-chnPlan t u old link =
-    toEnd t u 1 old
-    (λ d f. storing (writeInhibited 1 d ∷ taken 2 (find t (d .holder) (lastName (link .names))) ∷ [])
-    (puts (f .entry) (renamed (rec t (f .entry)) (lastName (link .names))) ∷ []))
+chnPlan t u old link = toEnd t u 1 old (chnAt t (lastName (link .names)))
 
 -- a heading with its new code
 unfoldable pub recoded : List ℕ → ℕ → List ℕ
 recoded r code = set r 3 code
 
 -- "DPR: the heading with its new code."
+abbrev pub dprAt : List ℕ → ℕ → State → Planned
+dprAt t code f =
+    storing (writeInhibited 1 f ∷ lacking 2 code (headingCode (rec t (file t f))) ∷ [])
+    (puts (file t f) (recoded (rec t (file t f)) code) ∷ [])
+
 unfoldable pub dprPlan : List ℕ → ℕ → Word → ℕ → Planned
-dprPlan t u name code =
-    toEnd t u 1 name
-    (λ _ f. storing (writeInhibited 1 f ∷ lacking 2 code (headingCode (rec t (file t f))) ∷ [])
-    (puts (file t f) (recoded (rec t (file t f)) code) ∷ []))
+dprPlan t u name code = toEnd t u 1 name (λ _ f. dprAt t code f)
 
 -- "DEL: for each name in turn, the entry cleared." One name, at this place
+abbrev pub delAt : List ℕ → ℕ → State → State → Planned
+delAt t place d f =
+    storing (writeInhibited place d ∷ stillPeopled place (losing t (f .entry) blank) ∷ [])
+    (clear (f .entry) ∷ settled t (f .entry) blank)
+
 unfoldable pub delPlan : List ℕ → ℕ → ℕ → Word → Planned
-delPlan t u place name =
-    toEnd t u place name
-    (λ d f. storing (writeInhibited place d ∷ stillPeopled place (losing t (f .entry) blank) ∷ [])
-    (clear (f .entry) ∷ settled t (f .entry) blank))
+delPlan t u place name = toEnd t u place name (delAt t place)
 
 -- a plan that stores nothing and writes to the reply buffer
 abbrev pub writing : List Check → List ℕ → List ℕ → Planned

@@ -76,3 +76,20 @@ lastName ns = getD ns (length ns - 1) []
 -- the last name is looked up in the directory d
 abbrev pub toLast : List ℕ → State → List (List ℕ) → Walked
 toLast t d ns = linked (length ns) (look t d (lastName ns)) reached
+
+-- the end of a walk: the directory and the file of a name, or its number with the link that it stopped at
+pub data End : Type 0 where
+  arrived : (directory file : State) → End
+  astray : (number link : ℕ) → End
+
+abbrev pub lastFrom : State → Walked → End
+lastFrom d (reached f) = arrived d f
+lastFrom d (stopped number link) = astray number link
+
+abbrev pub endFrom : List ℕ → List (List ℕ) → Walked → End
+endFrom t ns (reached d) = lastFrom d (toLast t d ns)
+endFrom t ns (stopped number link) = astray number link
+
+-- "at each link 11, 12, 13": every name but the last to its directory, and there the last
+unfoldable pub ended : List ℕ → State → List (List ℕ) → End
+ended t s ns = endFrom t ns (toDirectory t 1 s ns)

@@ -12,8 +12,8 @@ use Rattle.paper.specs.Table.{rooms, rec}
 use Rattle.paper.specs.Line.{Word}
 use Rattle.paper.specs.Code.{noRead}
 use Rattle.paper.specs.Entry.{inDirectory, find}
-use Rattle.paper.specs.Walk.{State, start, applies, file, Step, on, off, looked, look, enter, then, follow, Walked, reached, stopped, linked, toDirectory, lastName, toLast}
-use Rattle.paper.specs.Effect.{Planned, halted, onward, chainOf, toHolder, toEnd}
+use Rattle.paper.specs.Walk.{State, start, applies, file, Step, on, off, looked, look, enter, then, follow, Walked, reached, stopped, linked, toDirectory, lastName, toLast, lastFrom, endFrom, ended}
+use Rattle.paper.specs.Effect.{Planned, halted, onward, inward, chainOf, toHolder, toEnd}
 use Rattle.laws.proofs.Tests.{either, clash}
 use Rattle.laws.proofs.Entries.{Stands, bears-stands, bears-name, found-bears}
 
@@ -141,4 +141,13 @@ module _ (X : Planned → Type 0) (place : ℕ) (stop : (n link : ℕ) → Walks
     pub end-by : (f : State → State → Planned)
         → ((d s : State) → toDirectory t 1 (start u) (chainOf w) ≡ reached d → toLast t d (chainOf w) ≡ reached s → X (f d s))
         → X (toEnd t u place w f)
-    end-by f g = holder-by _ (λ d e. onward-by (toLast t d (chainOf w)) (f d) (stops-last t d (chainOf w)) (λ s. g d s e))
+    unfolding ended
+    end-by f g = go (toDirectory t 1 (start u) (chainOf w)) refl (stops-directory t 1 (start u) (chainOf w))
+      where
+        last : (d : State) (x : Walked) → Stops x → ((s : State) → x ≡ reached s → X (f d s)) → X (inward place (lastFrom d x) f)
+        last d (reached s) h k = k s refl
+        last d (stopped n link) h k = stop n link h
+
+        go : (x : Walked) → toDirectory t 1 (start u) (chainOf w) ≡ x → Stops x → X (inward place (endFrom t (chainOf w) x) f)
+        go (reached d) e h = last d (toLast t d (chainOf w)) (stops-last t d (chainOf w)) (λ s. g d s e)
+        go (stopped n link) e h = stop n link h

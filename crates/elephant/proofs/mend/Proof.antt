@@ -8,9 +8,9 @@ use Rattle.paper.specs.Answer.{plain, mending}
 use Rattle.mending.specs.Shown.{mendShown}
 use Rattle.mending.specs.declared.Mended.{Mended}
 use Rattle.mending.proofs.Answers.{mend-answer, mend-reply}
-use Rattle.ends.specs.declared.answer.Answer.{Answer}
+use Rattle.answers.specs.declared.Answer.{Answer}
 use Rattle.elephant.specs.Promised.{Promised}
-use Rattle.ends.specs.Shown.{shown}
+use Rattle.answers.specs.Shown.{shown}
 use Rattle.elephant.proofs.mend.Statement.{statement}
 use Rattle.elephant.proofs.mend.Tie as tie
 

@@ -21,9 +21,11 @@ same-length c = search needs
 
 returns : tie.Need-returns
 returns c =
-    let s = c .before .before .before .before .before .before .before .before in
+    let start = c .before .before .before .before .before .before .before .before in
+    let s = start in
     let n = c .before .before .entrance-number in
-    refused-out (s .args .table .now) (s .args .line .now) (s .args .text .now) (s .args .reply .now) (s .args .user) (s .args .stop) (n .result) (n .ensures) (c .before .if1 .taken) _ (c .refused .ensures)
+    refused-out (s .args .table .now) (s .args .line .now) (s .args .text .now) (s .args .reply .now) (s .args .user) (s .args .stop) (n .result)
+    (n .ensures) (c .before .if1 .taken) _ (c .refused .ensures)
 
 read-line-requires : tie.Need-read-line-requires
 read-line-requires c κs = search needs
@@ -33,9 +35,11 @@ enum-known-read c = search needs
 
 cast-refused : tie.Need-cast-refused
 cast-refused c =
-    let s = c .before .before .before .before .before .before .before .before .before .before .before .before in
+    let at-read-line = c .before .before .before .before in
+    let start = at-read-line .before .before .before .before .before .before .before .before in
+    let s = start in
     let g = c .before .before .read .given in
-    omega (arith, place-near (s .args .line .now) (g .0 .0) (sym (g .1) ∙ c .before .before .before .before .read-line .ensures))
+    omega (arith, place-near (s .args .line .now) (g .0 .0) (sym (g .1) ∙ at-read-line .read-line .ensures))
 
 refused-requires-2 : tie.Need-refused-requires-2
 refused-requires-2 c κs = search needs
@@ -48,11 +52,16 @@ enum-told c = search needs
 
 grant-requires : tie.Need-grant-requires
 grant-requires c κs =
-    let s = c .before .before .before .before .before .before .before .before .before .before .before .before .before .before in
-    let n = c .before .before .before .before .before .before .before .before .entrance-number in
-    let g = c .before .before .before .before .read2 .given in
-    let q = sym (g .1) ∙ c .before .before .before .before .before .before .read-line .ensures in
-    let-through (s .args .table .now) (s .args .line .now) (s .args .text .now) (s .args .reply .now) (s .args .user) (s .args .stop) (n .result) (n .ensures) (omega arith) (g .0 .0) q (no-text (s .args .line .now) (s .args .text .now) (g .0 .0) (c .before .before .match2 .keys2))
+    let at-read2 = c .before .before .before .before in
+    let at-read-line = at-read2 .before .before in
+    let at-entrance-number = at-read-line .before .before in
+    let start = at-entrance-number .before .before .before .before .before .before in
+    let s = start in
+    let n = at-entrance-number .entrance-number in
+    let g = at-read2 .read2 .given in
+    let q = sym (g .1) ∙ at-read-line .read-line .ensures in
+    let-through (s .args .table .now) (s .args .line .now) (s .args .text .now) (s .args .reply .now) (s .args .user) (s .args .stop) (n .result)
+    (n .ensures) (omega arith) (g .0 .0) q (no-text (s .args .line .now) (s .args .text .now) (g .0 .0) (c .before .before .match2 .keys2))
 
 same-length-2 : tie.Need-same-length-2
 same-length-2 c = search needs
@@ -61,7 +70,9 @@ same-length-3 : tie.Need-same-length-3
 same-length-3 c = search needs
 
 returns-2 : tie.Need-returns-2
-returns-2 c = c .before .before .before .before .grant .ensures
+returns-2 c =
+    let at-grant = c .before .before .before .before in
+    at-grant .grant .ensures
 
 refused-requires-3 : tie.Need-refused-requires-3
 refused-requires-3 c κs = search needs
@@ -71,32 +82,46 @@ same-length-4 c = search needs
 
 returns-3 : tie.Need-returns-3
 returns-3 c =
-    let s = c .before .before .before .before .before .before .before .before .before .before .before .before .before .before .before in
-    let n = c .before .before .before .before .before .before .before .before .before .entrance-number in
-    let g = c .before .before .before .before .before .read2 .given in
-    let q = sym (g .1) ∙ c .before .before .before .before .before .before .before .read-line .ensures in
+    let at-read2 = c .before .before .before .before .before in
+    let at-read-line = at-read2 .before .before in
+    let at-entrance-number = at-read-line .before .before in
+    let start = at-entrance-number .before .before .before .before .before .before in
+    let s = start in
+    let n = at-entrance-number .entrance-number in
+    let g = at-read2 .read2 .given in
+    let q = sym (g .1) ∙ at-read-line .read-line .ensures in
     let w = its-text (s .args .line .now) (s .args .text .now) (g .0 .0) _ _ _ _ (c .before .before .enum-told .given .1) in
-    refused-long (s .args .table .now) (s .args .line .now) (s .args .text .now) (s .args .reply .now) (s .args .user) (s .args .stop) (n .result) (n .ensures) (omega arith) (g .0 .0) q (w ∙ lt-ltb 24000 _ (c .before .if2 .taken)) _ (c .refused3 .ensures)
+    refused-long (s .args .table .now) (s .args .line .now) (s .args .text .now) (s .args .reply .now) (s .args .user) (s .args .stop) (n .result)
+    (n .ensures) (omega arith) (g .0 .0) q (w ∙ lt-ltb 24000 _ (c .before .if2 .taken)) _ (c .refused3 .ensures)
 
 grant-requires-2 : tie.Need-grant-requires-2
 grant-requires-2 c κs =
-    let s = c .before .before .before .before .before .before .before .before .before .before .before .before .before .before .before .before in
-    let n = c .before .before .before .before .before .before .before .before .before .before .entrance-number in
-    let g = c .before .before .before .before .before .before .read2 .given in
-    let q = sym (g .1) ∙ c .before .before .before .before .before .before .before .before .read-line .ensures in
+    let at-read2 = c .before .before .before .before .before .before in
+    let at-read-line = at-read2 .before .before in
+    let at-entrance-number = at-read-line .before .before in
+    let start = at-entrance-number .before .before .before .before .before .before in
+    let s = start in
+    let n = at-entrance-number .entrance-number in
+    let g = at-read2 .read2 .given in
+    let q = sym (g .1) ∙ at-read-line .read-line .ensures in
     let w = its-text (s .args .line .now) (s .args .text .now) (g .0 .0) _ _ _ _ (c .before .before .before .enum-told .given .1) in
-    let-through (s .args .table .now) (s .args .line .now) (s .args .text .now) (s .args .reply .now) (s .args .user) (s .args .stop) (n .result) (n .ensures) (omega arith) (g .0 .0) q (w ∙ le-ltb 24000 _ (c .before .before .if2 .left))
+    let-through (s .args .table .now) (s .args .line .now) (s .args .text .now) (s .args .reply .now) (s .args .user) (s .args .stop) (n .result)
+    (n .ensures) (omega arith) (g .0 .0) q (w ∙ le-ltb 24000 _ (c .before .before .if2 .left))
 
 same-length-5 : tie.Need-same-length-5
 same-length-5 c = search needs
 
 returns-4 : tie.Need-returns-4
 returns-4 c =
-    let s = c .before .before .before .before .before .before .before .before .before .before .before .before .before in
-    let n = c .before .before .before .before .before .before .before .entrance-number in
+    let at-read-line = c .before .before .before .before .before in
+    let at-entrance-number = at-read-line .before .before in
+    let start = at-entrance-number .before .before .before .before .before .before in
+    let s = start in
+    let n = at-entrance-number .entrance-number in
     let g = c .before .before .before .read .given in
-    let q = sym (g .1) ∙ c .before .before .before .before .before .read-line .ensures in
-    refused-unread (s .args .table .now) (s .args .line .now) (s .args .text .now) (s .args .reply .now) (s .args .user) (s .args .stop) (n .result) (n .ensures) (omega arith) (g .0 .0) q _ (c .refused2 .ensures)
+    let q = sym (g .1) ∙ at-read-line .read-line .ensures in
+    refused-unread (s .args .table .now) (s .args .line .now) (s .args .text .now) (s .args .reply .now) (s .args .user) (s .args .stop) (n .result)
+    (n .ensures) (omega arith) (g .0 .0) q _ (c .refused2 .ensures)
 
 same-length-6 : tie.Need-same-length-6
 same-length-6 c = search needs
@@ -105,7 +130,9 @@ same-length-7 : tie.Need-same-length-7
 same-length-7 c = search needs
 
 returns-5 : tie.Need-returns-5
-returns-5 c = c .before .before .before .before .grant2 .ensures
+returns-5 c =
+    let at-grant2 = c .before .before .before .before in
+    at-grant2 .grant2 .ensures
 
 pub request-spec : {M : Type 1} → statement M
 request-spec =

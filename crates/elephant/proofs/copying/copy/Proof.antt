@@ -4,7 +4,7 @@ use mathlib.Core.Path.{sym, _∙_}
 use Prim.Native.Nat.{ℕ}
 use native.Mathlib.Omega.{arith}
 use lib.ListN.{length-replicate}
-use Rattle.ends.specs.Ends.{Fit}
+use Rattle.elephant.specs.Done.{Fit}
 use Rattle.elephant.proofs.Written.{text-size, text-few, text-copied}
 use borrow.Author.Needs.{needs}
 use Rattle.elephant.proofs.copying.copy.Statement.{statement}
@@ -45,24 +45,55 @@ part-requires c κs = search needs
 
 file-requires : tie.Need-file-requires
 file-requires c κs =
-    let a = c .before .before .before .before .before .before .before .before .before .before .before .before .before .before .before .before .before .before .before .args in
-    let p = c .before .before .before .before .before .before .before .before .before .before .before .before .before .before .before .before .before .before .before .pre in
-    let n = c .before .before .before .before .before .before .before .before .before .before .before .text-length in
+    let at-level-of = c .before .before .before .before .before .before .before .before in
+    let at-text-length = at-level-of .before .before .before in
+    let at-copy-text = at-text-length .before .before .before in
+    let start = at-copy-text .before .before .before .before .before in
+    let a = start .args in
+    let p = start .pre in
+    let n = at-text-length .text-length in
     let f : Fit (a .table .now) = record { sized = p .0 .size; sound = p .0 .sound } in
-    let x = text-copied (a .table .now) (a .source .0) f (p .1) _ _ (n .result .0) (rw (length-replicate {A = ℕ} 24000 0) (omega arith)) (c .before .before .before .before .before .before .before .before .before .before .before .before .before .before .copy-text .ensures) (n .ensures .0) in
-    record { size = p .0 .size; sound = p .0 .sound; short = p .0 .short; few = rw (c .part .ensures ∙ x) (text-few (a .table .now) (a .source .0) f (p .1)) }
+    let x = text-copied (a .table .now) (a .source .0) f (p .1) _ _ (n .result .0) (rw (length-replicate {A = ℕ} 24000 0) (omega arith))
+    (at-copy-text .copy-text .ensures) (n .ensures .0) in
+    record {
+      size = p .0 .size;
+      sound = p .0 .sound;
+      short = p .0 .short;
+      few = rw (c .part .ensures ∙ x)
+          (text-few (a .table .now) (a .source .0) f (p .1));
+    }
 
 same-length : tie.Need-same-length
 same-length c = search needs
 
 returns : tie.Need-returns
 returns c =
-    let a = c .before .before .before .before .before .before .before .before .before .before .before .before .before .before .before .before .before .before .before .before .before .before .args in
-    let p = c .before .before .before .before .before .before .before .before .before .before .before .before .before .before .before .before .before .before .before .before .before .before .pre in
-    let n = c .before .before .before .before .before .before .before .before .before .before .before .before .before .before .text-length in
+    let at-laid = c .before .before .before .before .before .before in
+    let at-or-else3 = at-laid .before in
+    let at-lifetime-of = at-or-else3 .before in
+    let at-or-else2 = at-lifetime-of .before .before in
+    let at-level-of = at-or-else2 .before in
+    let at-or-else = at-level-of .before .before in
+    let at-text-length = at-or-else .before in
+    let at-copy-text = at-text-length .before .before .before in
+    let start = at-copy-text .before .before .before .before .before in
+    let a = start .args in
+    let p = start .pre in
+    let n = at-text-length .text-length in
     let f : Fit (a .table .now) = record { sized = p .0 .size; sound = p .0 .sound } in
-    let x = text-copied (a .table .now) (a .source .0) f (p .1) _ _ (n .result .0) (rw (length-replicate {A = ℕ} 24000 0) (omega arith)) (c .before .before .before .before .before .before .before .before .before .before .before .before .before .before .before .before .before .copy-text .ensures) (n .ensures .0) in
-    rw (c .before .before .before .part .ensures ∙ x, c .before .before .before .before .before .before .laid .ensures, c .before .before .before .before .before .before .before .or-else3 .ensures, c .before .before .before .before .before .before .before .before .lifetime-of .ensures, c .before .before .before .before .before .before .before .before .before .before .or-else2 .ensures, c .before .before .before .before .before .before .before .before .before .before .before .level-of .ensures, c .before .before .before .before .before .before .before .before .before .before .before .before .before .or-else .ensures, n .ensures .0 ∙ sym (text-size (a .table .now) (a .source .0) f (p .1))) at (c .before .before .file .ensures)
+    let x = text-copied (a .table .now) (a .source .0) f (p .1) _ _ (n .result .0) (rw (length-replicate {A = ℕ} 24000 0) (omega arith))
+    (at-copy-text .copy-text .ensures) (n .ensures .0) in
+    rw (
+      c .before .before .before .part .ensures
+          ∙ x,
+      at-laid .laid .ensures,
+      at-or-else3 .or-else3 .ensures,
+      at-lifetime-of .lifetime-of .ensures,
+      at-or-else2 .or-else2 .ensures,
+      at-level-of .level-of .ensures,
+      at-or-else .or-else .ensures,
+      n .ensures .0 ∙ sym (text-size (a .table .now) (a .source .0) f (p .1)),
+    ) at (c .before .before .file .ensures)
 
 pub copy-spec : {M : Type 1} → statement M
 copy-spec =

@@ -1,6 +1,7 @@
 -- The walks of both names choose: one stopped, or at the file and in the directory.
 -- What follows there is the plan's making.
-use Rattle.elephant.proofs.Makes.{cpy-stops, cpy-reaches}
+use Rattle.paper.specs.Effect.{cpyPlan}
+use Rattle.elephant.proofs.Ends.{both-stops, both-reaches}
 use borrow.Author.Needs.{needs}
 use Rattle.elephant.proofs.copying.cpy.Statement.{statement}
 use Rattle.elephant.proofs.copying.cpy.Tie as tie
@@ -24,19 +25,29 @@ same-length : tie.Need-same-length
 same-length c = search needs
 
 returns : tie.Need-returns
+unfolding cpyPlan
 returns c =
-    let a = c .before .before .before .before .before .before .before .before .args in
+    let at-to-both = c .before .before .before .before in
+    let start = at-to-both .before .before .before .before in
+    let a = start .args in
     let g = c .before .before .both .given in
-    rw (c .refused .ensures) (cpy-stops (a .table .now) (a .line .now) (a .user) (a .old) (a .new) (a .stop) _ (c .before .before .before .before .to-both .ensures) _ _ _ (g .0 .0) (g .0 .1 .0) (g .0 .1 .1 .0) (g .1))
+    rw (c .refused .ensures)
+    (both-stops (a .table .now) (a .line .now) (a .user) (a .old) (a .new) _ _ (at-to-both .to-both .ensures) (a .stop) (g .0 .0) (g .0 .1 .0)
+    (g .0 .1 .1 .0) (g .1))
 
 same-length-2 : tie.Need-same-length-2
 same-length-2 c = search needs
 
 returns-2 : tie.Need-returns-2
+unfolding cpyPlan
 returns-2 c =
-    let a = c .before .before .before .before .before .before .before .before .before .before .before .args in
-    let g = c .before .before .before .before .before .both2 .given in
-    cpy-reaches (a .table .now) (a .line .now) (a .user) (a .old) (a .new) (a .stop) _ (c .before .before .before .before .before .before .before .to-both .ensures) _ _ _ (g .0 .0) (g .0 .1 .0) _ _ (g .1)
+    let at-both2 = c .before .before .before .before .before in
+    let at-to-both = at-both2 .before .before in
+    let start = at-to-both .before .before .before .before in
+    let a = start .args in
+    let g = at-both2 .both2 .given in
+    both-reaches (a .table .now) (a .line .now) (a .user) (a .old) (a .new) _ _ (at-to-both .to-both .ensures) (a .stop) (g .0 .0) (g .0 .1 .0) _ _
+    (g .1)
     (c .before .before .cpy-in .ensures)
 
 pub cpy-spec : {M : Type 1} → statement M

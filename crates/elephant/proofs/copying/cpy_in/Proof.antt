@@ -14,7 +14,8 @@ refused-requires c κs = search needs
 
 returns : tie.Need-returns
 returns c =
-    let a = c .before .before .before .before .before .before .args in
+    let start = c .before .before .before .before .before .before in
+    let a = start .args in
     rw (c .refused .ensures) (copy-first (a .table .now) (a .stop) _ _ _ (rw (c .before .before .inhibits-read .ensures) at (c .before .if1 .taken)))
 
 inhibits-write-requires : tie.Need-inhibits-write-requires
@@ -25,8 +26,13 @@ refused-requires-2 c κs = search needs
 
 returns-2 : tie.Need-returns-2
 returns-2 c =
-    let a = c .before .before .before .before .before .before .before .before .before .args in
-    rw (c .refused2 .ensures) (copy-second (a .table .now) (a .stop) _ _ _ (rw (c .before .before .before .before .before .inhibits-read .ensures) at (c .before .before .before .before .if1 .left)) (rw (c .before .before .inhibits-write .ensures) at (c .before .if2 .taken)))
+    let at-if1 = c .before .before .before .before in
+    let at-inhibits-read = at-if1 .before in
+    let start = at-inhibits-read .before .before .before .before in
+    let a = start .args in
+    rw (c .refused2 .ensures)
+    (copy-second (a .table .now) (a .stop) _ _ _ (rw (at-inhibits-read .inhibits-read .ensures) at (at-if1 .if1 .left))
+    (rw (c .before .before .inhibits-write .ensures) at (c .before .if2 .taken)))
 
 heading-named-requires : tie.Need-heading-named-requires
 heading-named-requires c κs = search needs
@@ -42,24 +48,42 @@ same-length c = search needs
 
 returns-3 : tie.Need-returns-3
 returns-3 c =
-    let a = c .before .before .before .before .before .before .before .before .before .before .before .before .before .before .args in
+    let at-heading-named = c .before .before .before .before in
+    let at-if2 = at-heading-named .before .before in
+    let at-inhibits-write = at-if2 .before in
+    let at-if1 = at-inhibits-write .before .before in
+    let at-inhibits-read = at-if1 .before in
+    let start = at-inhibits-read .before .before .before .before in
+    let a = start .args in
     rw (c .refused3 .ensures)
-    (copy-third (a .table .now) (a .stop) _ _ _ (rw (c .before .before .before .before .before .before .before .before .before .before .inhibits-read .ensures) at (c .before .before .before .before .before .before .before .before .before .if1 .left)) (rw (c .before .before .before .before .before .before .before .inhibits-write .ensures) at (c .before .before .before .before .before .before .if2 .left))
-    (rw (c .before .before .is-simple .ensures, c .before .before .before .before .heading-named .ensures .0) at (c .before .if3 .taken)))
+    (copy-third (a .table .now) (a .stop) _ _ _ (rw (at-inhibits-read .inhibits-read .ensures) at (at-if1 .if1 .left))
+    (rw (at-inhibits-write .inhibits-write .ensures) at (at-if2 .if2 .left))
+    (rw (c .before .before .is-simple .ensures, at-heading-named .heading-named .ensures .0) at (c .before .if3 .taken)))
 
 copy-requires : tie.Need-copy-requires
 copy-requires c κs =
-    (c .before .before .before .before .before .before .before .before .before .before .before .before .before .before .pre, not-false _ (rw (c .before .before .is-simple .ensures) at (c .before .if3 .left)))
+    let at-written = c .before .before .before .before .before .before .before .before in
+    let start = at-written .before .before .before .before .before .before in
+    (start .pre, not-false _ (rw (c .before .before .is-simple .ensures) at (c .before .if3 .left)))
 
 same-length-2 : tie.Need-same-length-2
 same-length-2 c = search needs
 
 returns-4 : tie.Need-returns-4
 returns-4 c =
-    let a = c .before .before .before .before .before .before .before .before .before .before .before .before .before .before .before .before .before .args in
-    let h = c .before .before .before .before .before .before .before .heading-named in
-    copy-ends (a .table .now) (a .stop) _ _ _ _ _ (rw (c .before .before .before .before .before .before .before .before .before .before .before .before .before .inhibits-read .ensures) at (c .before .before .before .before .before .before .before .before .before .before .before .before .if1 .left)) (rw (c .before .before .before .before .before .before .before .before .before .before .inhibits-write .ensures) at (c .before .before .before .before .before .before .before .before .before .if2 .left))
-    (rw (c .before .before .before .before .before .is-simple .ensures, h .ensures .0) at (c .before .before .before .before .if3 .left))
+    let at-if3 = c .before .before .before .before in
+    let at-is-simple = at-if3 .before in
+    let at-heading-named = at-is-simple .before .before in
+    let at-if2 = at-heading-named .before .before in
+    let at-inhibits-write = at-if2 .before in
+    let at-if1 = at-inhibits-write .before .before in
+    let at-inhibits-read = at-if1 .before in
+    let start = at-inhibits-read .before .before .before .before in
+    let a = start .args in
+    let h = at-heading-named .heading-named in
+    copy-ends (a .table .now) (a .stop) _ _ _ _ _ (rw (at-inhibits-read .inhibits-read .ensures) at (at-if1 .if1 .left))
+    (rw (at-inhibits-write .inhibits-write .ensures) at (at-if2 .if2 .left))
+    (rw (at-is-simple .is-simple .ensures, h .ensures .0) at (at-if3 .if3 .left))
     (rw (h .ensures .0) at (c .before .before .copy .ensures))
 
 pub cpy-in-spec : {M : Type 1} → statement M

@@ -1,8 +1,8 @@
 -- The entry is one stage and its file the next: joined they are the entry cleared and the file freed. A sound table's file has at most
 -- 1,000 blocks, whose rooms are listed before the first store.
-use borrow.Author.Needs.{needs}
 use Rattle.paper.specs.Record.{blank}
-use Rattle.elephant.proofs.Clearings.{cleared-length, cleared-table}
+use Rattle.elephant.proofs.Clearings.{both-cleared}
+use borrow.Author.Needs.{needs}
 use Rattle.elephant.proofs.delete.clear_both.Statement.{statement}
 use Rattle.elephant.proofs.delete.clear_both.Tie as tie
 
@@ -30,9 +30,17 @@ same-length c = search needs
 returns : tie.Need-returns
 unfolding blank
 returns c =
-    let a = c .before .before .before .before .before .before .before .before .before .before .before .before .before .before .before .before .args in
-    let n = c .before .before .before .before .before .before .before .before .before .before .text-length in
-    (cleared-length (a .table .now) (a .entry .0) (a .heading .0) (c .before .before .before .before .before .before .before .before .before .before .before .before .before .before .before .before .pre .0) (c .before .before .before .before .before .before .before .before .before .before .before .before .before .before .before .before .pre .1) (c .before .before .before .before .before .before .before .before .before .before .before .before .before .before .before .before .pre .2) _ (c .before .before .before .before .before .before .before .before .before .blocks2 .result .0) (n .result .0) (c .before .before .before .before .before .before .before .before .before .before .before .before .text-rooms .ensures) (c .before .before .before .before .before .before .before .before .before .blocks2 .ensures) (n .ensures .0), cleared-table (a .table .now) (a .entry .0) (a .heading .0) (c .before .before .before .before .before .before .before .before .before .before .before .before .before .before .before .before .pre .0) (c .before .before .before .before .before .before .before .before .before .before .before .before .before .before .before .before .pre .1) (c .before .before .before .before .before .before .before .before .before .before .before .before .before .before .before .before .pre .2) _ (c .before .before .before .before .before .before .before .before .before .blocks2 .result .0) (n .result .0) (c .before .before .before .before .before .before .before .before .before .before .before .before .text-rooms .ensures) (c .before .before .before .before .before .before .before .before .before .blocks2 .ensures) (n .ensures .0) _ _ _ _ _ (c .before .before .before .before .before .before .before .put .ensures) (c .before .before .clear-file .ensures))
+    let at-put = c .before .before .before .before .before .before .before in
+    let at-blocks2 = at-put .before .before in
+    let at-text-length = at-blocks2 .before in
+    let at-text-rooms = at-text-length .before .before in
+    let start = at-text-rooms .before .before .before .before in
+    let a = start .args in
+    let p = start .pre in
+    let n = at-text-length .text-length in
+    let b = at-blocks2 .blocks2 in
+    both-cleared (a .table .now) (a .entry .0) (a .heading .0) (p .0) (p .1) (p .2) _ (b .result .0) (n .result .0)
+    (at-text-rooms .text-rooms .ensures) (b .ensures) (n .ensures .0) _ _ _ _ _ (at-put .put .ensures) (c .before .before .clear-file .ensures)
 
 pub clear-both-spec : {M : Type 1} → statement M
 clear-both-spec =

@@ -1,11 +1,8 @@
 -- What is left of the names is the whole: a name done leaves the table sound, and the word after it is the next name.
 -- The measure is the names not yet done.
-use mathlib.Core.Path.{sym, ap, _∙_}
 use Prim.Native.Nat.{_-_}
 use native.Mathlib.Omega.{arith}
 use borrow.Author.Needs.{needs}
-use Rattle.paper.specs.Answer.{Outcome}
-use Rattle.ends.specs.Shown.{shown}
 use Rattle.elephant.proofs.Turns.{Deleting, deleting-start, deleting-end, deleting-refused, deleting-cut, deleting-on}
 use Rattle.elephant.proofs.delete.del.Statement.{statement}
 use Rattle.elephant.proofs.delete.del.Tie as tie
@@ -17,7 +14,9 @@ abbrev μ-loop : tie.MeasureT-loop
 μ-loop table₀ line first count user stop p₀ names₀ left₀ table p names left = count - names
 
 loop-holds : tie.Need-loop-holds Inv-loop μ-loop
-loop-holds c = deleting-start (c .before .before .args .table .now) (c .before .before .args .line .now) (c .before .before .args .user) (c .before .before .args .stop) (c .before .before .args .first) (c .before .before .pre .0) (c .before .before .pre .1)
+loop-holds c =
+    let s = c .before .before in
+    deleting-start (s .args .table .now) (s .args .line .now) (s .args .user) (s .args .stop) (s .args .first) (s .pre .0) (s .pre .1)
 
 add-delete-one : tie.Need-add-delete-one Inv-loop μ-loop
 add-delete-one c = omega arith
@@ -45,27 +44,31 @@ same-length c = omega (arith, c .before .before .before .before .before .before 
 
 returns : tie.Need-returns Inv-loop μ-loop
 returns c =
-    let a = c .before .before .before .before .before .before .before .before .before .before .before .args in
-    let l = c .before .before .before .before .before .before .before .before .loop in
-    let d = c .before .before .before .before .before .delete-one in
+    let d = c .before .before .before .before .before in
+    let l = d .before .before .before in
+    let s = l .before .before .before in
     let g = c .before .enum-told .given in
-    let w = deleting-refused (a .table .now) (a .line .now) (a .user) (a .stop) (l .table) (l .p) (l .names) (l .left) (l .inv) (omega (arith, c .before .before .before .before .before .before .before .before .before .before .before .pre .2)) _ (d .ensures .1) (d .result) (g .0 .0) (g .0 .1 .0) (d .ensures .0) (g .1) in
-    (c .refusal .ensures ∙ sym (ap (λ (o : Outcome). shown (o .answer)) w), sym (ap (λ (o : Outcome). o .table) w))
+    deleting-refused (s .args .table .now) (s .args .line .now) (s .args .user) (s .args .stop) (l .loop .table) (l .loop .p) (l .loop .names)
+    (l .loop .left) (l .loop .inv) (omega (arith, s .pre .2)) (d .delete-one .result) _ (d .delete-one .ensures) (g .0 .0) (g .0 .1 .0) (g .1)
+    _ (c .refusal .ensures)
 
 plain-requires : tie.Need-plain-requires Inv-loop μ-loop
 plain-requires c κs = search needs
 
 same-length-2 : tie.Need-same-length-2 Inv-loop μ-loop
-same-length-2 c = omega (arith, c .before .before .before .before .before .before .before .before .before .before .loop .inv .size)
+same-length-2 c =
+    let at-delete-one = c .before .before .before .before .before .before .before in
+    omega (arith, at-delete-one .before .before .before .loop .inv .size)
 
 returns-2 : tie.Need-returns-2 Inv-loop μ-loop
 returns-2 c =
-    let a = c .before .before .before .before .before .before .before .before .before .before .before .before .before .args in
-    let l = c .before .before .before .before .before .before .before .before .before .before .loop in
-    let d = c .before .before .before .before .before .before .before .delete-one in
     let g = c .before .before .before .deleted .given in
-    let w = deleting-cut (a .table .now) (a .line .now) (a .user) (a .stop) (l .table) (l .p) (l .names) (l .left) (l .inv) (omega (arith, c .before .before .before .before .before .before .before .before .before .before .before .before .before .pre .2)) _ (d .ensures .1) (g .0 .0) (sym (g .1) ∙ d .ensures .0) (omega arith) in
-    (c .plain .ensures ∙ sym (ap (λ (o : Outcome). shown (o .answer)) w), sym (ap (λ (o : Outcome). o .table) w))
+    let d = c .before .before .before .before .before .before .before in
+    let l = d .before .before .before in
+    let s = l .before .before .before in
+    deleting-cut (s .args .table .now) (s .args .line .now) (s .args .user) (s .args .stop) (l .loop .table) (l .loop .p) (l .loop .names)
+    (l .loop .left) (l .loop .inv) (omega (arith, s .pre .2)) (d .delete-one .result) _ (d .delete-one .ensures) (g .0 .0) (g .1)
+    (omega arith) _ (c .plain .ensures)
 
 add-names : tie.Need-add-names Inv-loop μ-loop
 add-names c = omega arith
@@ -78,11 +81,13 @@ loop-less c = omega arith
 
 loop-again : tie.Need-loop-again Inv-loop μ-loop
 loop-again c =
-    let a = c .before .before .before .before .before .before .before .before .before .before .before .before .before .args in
-    let l = c .before .before .before .before .before .before .before .before .before .before .loop in
-    let d = c .before .before .before .before .before .before .before .delete-one in
     let g = c .before .before .before .deleted .given in
-    deleting-on (a .table .now) (a .line .now) (a .user) (a .stop) (l .table) (l .p) (l .names) (l .left) (l .inv) (omega (arith, c .before .before .before .before .before .before .before .before .before .before .before .before .before .pre .2)) _ (d .ensures .1) (g .0 .0) (c .next-word .result) (sym (g .1) ∙ d .ensures .0) (omega arith) (c .next-word .ensures) (omega (arith, l .inv .size))
+    let d = c .before .before .before .before .before .before .before in
+    let l = d .before .before .before in
+    let s = l .before .before .before in
+    deleting-on (s .args .table .now) (s .args .line .now) (s .args .user) (s .args .stop) (l .loop .table) (l .loop .p) (l .loop .names)
+    (l .loop .left) (l .loop .inv) (omega (arith, s .pre .2)) (d .delete-one .result) _ (d .delete-one .ensures) (g .0 .0) (g .1)
+    (omega arith) (c .next-word .result) (c .next-word .ensures) (omega (arith, l .loop .inv .size))
 
 cast-plain : tie.Need-cast-plain Inv-loop μ-loop
 cast-plain c = omega (arith, c .before .loop .inv .some)
@@ -98,10 +103,10 @@ same-length-3 c = omega (arith, c .before .before .loop .inv .size)
 
 returns-3 : tie.Need-returns-3 Inv-loop μ-loop
 returns-3 c =
-    let a = c .before .before .before .before .before .args in
-    let l = c .before .before .loop in
-    let w = deleting-end (a .table .now) (a .line .now) (a .user) (a .stop) (l .table) (l .p) (l .names) (l .left) (l .inv) (omega (arith, c .before .before .before .before .before .pre .2)) in
-    (c .plain2 .ensures ∙ sym (ap (λ (o : Outcome). shown (o .answer)) w), sym (ap (λ (o : Outcome). o .table) w))
+    let l = c .before .before in
+    let s = l .before .before .before in
+    deleting-end (s .args .table .now) (s .args .line .now) (s .args .user) (s .args .stop) (l .loop .table) (l .loop .p) (l .loop .names)
+    (l .loop .left) (l .loop .inv) (omega (arith, s .pre .2)) _ (c .plain2 .ensures)
 
 pub del-spec : {M : Type 1} → statement M
 del-spec =

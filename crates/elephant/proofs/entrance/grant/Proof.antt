@@ -13,7 +13,7 @@ crd-requires : tie.Need-crd-requires
 crd-requires c κs =
     let s = c .before .before .before .before .before .before .before .before in
     let g = c .before .before .asked .given in
-    crd-ready (s .args .table .now) (s .args .line .now) (s .args .text .now) (s .args .user) (s .args .asked) (s .pre) (g .0 .0) (g .0 .1 .0) (g .0 .1 .1 .0) (g .1)
+    crd-ready (s .pre) (g .0 .0) (g .0 .1 .0) (g .0 .1 .1 .0) (g .1)
 
 enum-known-asked-2 : tie.Need-enum-known-asked-2
 enum-known-asked-2 c = search needs
@@ -22,13 +22,13 @@ wrs-requires : tie.Need-wrs-requires
 wrs-requires c κs =
     let s = c .before .before .before .before .before .before .before .before in
     let g = c .before .before .asked2 .given in
-    wrs-ready (s .args .table .now) (s .args .line .now) (s .args .text .now) (s .args .user) (s .args .asked) (s .pre) (g .0 .0) (g .0 .1 .0) (g .0 .1 .1 .0) (g .0 .1 .1 .1 .0) (g .1)
+    wrs-ready (s .pre) (g .0 .0) (g .0 .1 .0) (g .0 .1 .1 .0) (g .0 .1 .1 .1 .0) (g .1)
 
 enum-known-asked-3 : tie.Need-enum-known-asked-3
 enum-known-asked-3 c = search needs
 
-rds-requires : tie.Need-rds-requires
-rds-requires c κs = search needs
+read-requires : tie.Need-read-requires
+read-requires c κs = search needs
 
 enum-known-asked-4 : tie.Need-enum-known-asked-4
 enum-known-asked-4 c = search needs
@@ -37,7 +37,7 @@ cpy-requires : tie.Need-cpy-requires
 cpy-requires c κs =
     let s = c .before .before .before .before .before .before .before .before in
     let g = c .before .before .asked4 .given in
-    cpy-ready (s .args .table .now) (s .args .line .now) (s .args .text .now) (s .args .user) (s .args .asked) (s .pre) (g .0 .0) (g .0 .1 .0) (g .0 .1 .1 .0) (g .0 .1 .1 .1 .0) (g .0 .1 .1 .1 .1 .0) (g .1)
+    cpy-ready (s .pre) (g .0 .0) (g .0 .1 .0) (g .0 .1 .1 .0) (g .0 .1 .1 .1 .0) (g .0 .1 .1 .1 .1 .0) (g .1)
 
 enum-known-asked-5 : tie.Need-enum-known-asked-5
 enum-known-asked-5 c = search needs
@@ -46,7 +46,7 @@ dup-requires : tie.Need-dup-requires
 dup-requires c κs =
     let s = c .before .before .before .before .before .before .before .before in
     let g = c .before .before .asked5 .given in
-    dup-ready (s .args .table .now) (s .args .line .now) (s .args .text .now) (s .args .user) (s .args .asked) (s .pre) (g .0 .0) (g .0 .1 .0) (g .0 .1 .1 .0) (g .1)
+    dup-ready (s .pre) (g .0 .0) (g .0 .1 .0) (g .0 .1 .1 .0) (g .1)
 
 enum-known-asked-6 : tie.Need-enum-known-asked-6
 enum-known-asked-6 c = search needs
@@ -55,7 +55,7 @@ chn-requires : tie.Need-chn-requires
 chn-requires c κs =
     let s = c .before .before .before .before .before .before .before .before in
     let g = c .before .before .asked6 .given in
-    (s .pre .fit, chn-ready (s .args .table .now) (s .args .line .now) (s .args .text .now) (s .args .user) (s .args .asked) (s .pre) (g .0 .0) (g .0 .1 .0) (g .1))
+    (s .pre .fit, chn-ready (s .pre) (g .0 .0) (g .0 .1 .0) (g .1))
 
 enum-known-asked-7 : tie.Need-enum-known-asked-7
 enum-known-asked-7 c = search needs
@@ -64,14 +64,14 @@ cast-del : tie.Need-cast-del
 cast-del c =
     let s = c .before .before .before .before .before .before .before .before in
     let g = c .before .before .asked7 .given in
-    let d = del-ready (s .args .table .now) (s .args .line .now) (s .args .text .now) (s .args .user) (s .args .asked) (s .pre) (g .0 .0) (g .0 .1 .0) (g .1) in
+    let d = del-ready (s .pre) (g .0 .0) (g .0 .1 .0) (g .1) in
     omega (arith, d .2)
 
 del-requires : tie.Need-del-requires
 del-requires c κs =
     let s = c .before .before .before .before .before .before .before .before in
     let g = c .before .before .asked7 .given in
-    let d = del-ready (s .args .table .now) (s .args .line .now) (s .args .text .now) (s .args .user) (s .args .asked) (s .pre) (g .0 .0) (g .0 .1 .0) (g .1) in
+    let d = del-ready (s .pre) (g .0 .0) (g .0 .1 .0) (g .1) in
     (s .pre .fit, d .0, d .1)
 
 enum-known-asked-8 : tie.Need-enum-known-asked-8
@@ -83,8 +83,8 @@ dpr-requires c κs = search needs
 enum-known-asked-9 : tie.Need-enum-known-asked-9
 enum-known-asked-9 c = search needs
 
-lst-requires : tie.Need-lst-requires
-lst-requires c κs = search needs
+read-requires-2 : tie.Need-read-requires-2
+read-requires-2 c κs = search needs
 
 enum-told : tie.Need-enum-told
 enum-told c = search needs
@@ -97,18 +97,21 @@ same-length c = search needs
 
 returns : tie.Need-returns
 returns c =
-    let s = c .before .before .before .before .before .before .before .before .before .before .before in
-    let g = c .before .before .before .before .before .asked .given in
-    crd-done (s .args .table .now) (s .args .line .now) (s .args .text .now) (s .args .user) (s .args .asked) (s .pre) (s .args .reply .now) (s .args .stop) _ _ (g .0 .0) (g .0 .1 .0) (g .0 .1 .1 .0) (g .1) (c .before .before .crd .ensures)
+    let at-asked = c .before .before .before .before .before in
+    let s = at-asked .before .before .before .before .before .before in
+    let g = at-asked .asked .given in
+    crd-done (s .pre) (s .args .reply .now) (s .args .stop) _ _ (g .0 .0) (g .0 .1 .0) (g .0 .1 .1 .0) (g .1) (c .before .before .crd .ensures)
 
 same-length-2 : tie.Need-same-length-2
 same-length-2 c = search needs
 
 returns-2 : tie.Need-returns-2
 returns-2 c =
-    let s = c .before .before .before .before .before .before .before .before .before .before .before in
-    let g = c .before .before .before .before .before .asked2 .given in
-    wrs-done (s .args .table .now) (s .args .line .now) (s .args .text .now) (s .args .user) (s .args .asked) (s .pre) (s .args .reply .now) (s .args .stop) _ _ (g .0 .0) (g .0 .1 .0) (g .0 .1 .1 .0) (g .0 .1 .1 .1 .0) (g .1) (c .before .before .wrs .ensures)
+    let at-asked = c .before .before .before .before .before in
+    let s = at-asked .before .before .before .before .before .before in
+    let g = at-asked .asked2 .given in
+    wrs-done (s .pre) (s .args .reply .now) (s .args .stop) _ _ (g .0 .0) (g .0 .1 .0) (g .0 .1 .1 .0) (g .0 .1 .1 .1 .0) (g .1)
+    (c .before .before .wrs .ensures)
 
 same-length-3 : tie.Need-same-length-3
 same-length-3 c = search needs
@@ -118,54 +121,61 @@ same-length-4 c = search needs
 
 returns-3 : tie.Need-returns-3
 returns-3 c =
-    let s = c .before .before .before .before .before .before .before .before .before .before .before .before in
-    let g = c .before .before .before .before .before .before .asked3 .given in
-    rds-done (s .args .table .now) (s .args .line .now) (s .args .text .now) (s .args .user) (s .args .asked) (s .pre) (s .args .reply .now) (s .args .stop) _ _ (g .0 .0) (g .1) (c .before .before .rds .ensures)
+    let at-asked = c .before .before .before .before .before .before in
+    let s = at-asked .before .before .before .before .before .before in
+    let g = at-asked .asked3 .given in
+    rds-done (s .pre) (s .args .reply .now) (s .args .stop) _ _ (g .0 .0) (g .1) (c .before .before .read .ensures)
 
 same-length-5 : tie.Need-same-length-5
 same-length-5 c = search needs
 
 returns-4 : tie.Need-returns-4
 returns-4 c =
-    let s = c .before .before .before .before .before .before .before .before .before .before .before in
-    let g = c .before .before .before .before .before .asked4 .given in
-    cpy-done (s .args .table .now) (s .args .line .now) (s .args .text .now) (s .args .user) (s .args .asked) (s .pre) (s .args .reply .now) (s .args .stop) _ _ (g .0 .0) (g .0 .1 .0) (g .0 .1 .1 .0) (g .0 .1 .1 .1 .0) (g .0 .1 .1 .1 .1 .0) (g .1) (c .before .before .cpy .ensures)
+    let at-asked = c .before .before .before .before .before in
+    let s = at-asked .before .before .before .before .before .before in
+    let g = at-asked .asked4 .given in
+    cpy-done (s .pre) (s .args .reply .now) (s .args .stop) _ _ (g .0 .0) (g .0 .1 .0) (g .0 .1 .1 .0) (g .0 .1 .1 .1 .0) (g .0 .1 .1 .1 .1 .0) (g .1)
+    (c .before .before .cpy .ensures)
 
 same-length-6 : tie.Need-same-length-6
 same-length-6 c = search needs
 
 returns-5 : tie.Need-returns-5
 returns-5 c =
-    let s = c .before .before .before .before .before .before .before .before .before .before .before in
-    let g = c .before .before .before .before .before .asked5 .given in
-    dup-done (s .args .table .now) (s .args .line .now) (s .args .text .now) (s .args .user) (s .args .asked) (s .pre) (s .args .reply .now) (s .args .stop) _ _ (g .0 .0) (g .0 .1 .0) (g .0 .1 .1 .0) (g .1) (c .before .before .dup .ensures)
+    let at-asked = c .before .before .before .before .before in
+    let s = at-asked .before .before .before .before .before .before in
+    let g = at-asked .asked5 .given in
+    dup-done (s .pre) (s .args .reply .now) (s .args .stop) _ _ (g .0 .0) (g .0 .1 .0) (g .0 .1 .1 .0) (g .1) (c .before .before .dup .ensures)
 
 same-length-7 : tie.Need-same-length-7
 same-length-7 c = search needs
 
 returns-6 : tie.Need-returns-6
 returns-6 c =
-    let s = c .before .before .before .before .before .before .before .before .before .before .before in
-    let g = c .before .before .before .before .before .asked6 .given in
-    chn-done (s .args .table .now) (s .args .line .now) (s .args .text .now) (s .args .user) (s .args .asked) (s .pre) (s .args .reply .now) (s .args .stop) _ _ (g .0 .0) (g .0 .1 .0) (g .1) (c .before .before .chn .ensures)
+    let at-asked = c .before .before .before .before .before in
+    let s = at-asked .before .before .before .before .before .before in
+    let g = at-asked .asked6 .given in
+    chn-done (s .pre) (s .args .reply .now) (s .args .stop) _ _ (g .0 .0) (g .0 .1 .0) (g .1) (c .before .before .chn .ensures)
 
 same-length-8 : tie.Need-same-length-8
 same-length-8 c = search needs
 
 returns-7 : tie.Need-returns-7
 returns-7 c =
-    let s = c .before .before .before .before .before .before .before .before .before .before .before in
-    let g = c .before .before .before .before .before .asked7 .given in
-    del-done (s .args .table .now) (s .args .line .now) (s .args .text .now) (s .args .user) (s .args .asked) (s .pre) (s .args .reply .now) (s .args .stop) _ _ (g .0 .0) (g .0 .1 .0) (g .1) (c .before .before .del .ensures)
+    let at-asked = c .before .before .before .before .before in
+    let s = at-asked .before .before .before .before .before .before in
+    let g = at-asked .asked7 .given in
+    del-done (s .pre) (s .args .reply .now) (s .args .stop) _ _ (g .0 .0) (g .0 .1 .0) (g .1) (c .before .before .del .ensures)
 
 same-length-9 : tie.Need-same-length-9
 same-length-9 c = search needs
 
 returns-8 : tie.Need-returns-8
 returns-8 c =
-    let s = c .before .before .before .before .before .before .before .before .before .before .before in
-    let g = c .before .before .before .before .before .asked8 .given in
-    dpr-done (s .args .table .now) (s .args .line .now) (s .args .text .now) (s .args .user) (s .args .asked) (s .pre) (s .args .reply .now) (s .args .stop) _ _ (g .0 .0) (g .0 .1 .0) (g .1) (c .before .before .dpr .ensures)
+    let at-asked = c .before .before .before .before .before in
+    let s = at-asked .before .before .before .before .before .before in
+    let g = at-asked .asked8 .given in
+    dpr-done (s .pre) (s .args .reply .now) (s .args .stop) _ _ (g .0 .0) (g .0 .1 .0) (g .1) (c .before .before .dpr .ensures)
 
 same-length-10 : tie.Need-same-length-10
 same-length-10 c = search needs
@@ -175,9 +185,10 @@ same-length-11 c = search needs
 
 returns-9 : tie.Need-returns-9
 returns-9 c =
-    let s = c .before .before .before .before .before .before .before .before .before .before .before .before in
-    let g = c .before .before .before .before .before .before .asked9 .given in
-    lst-done (s .args .table .now) (s .args .line .now) (s .args .text .now) (s .args .user) (s .args .asked) (s .pre) (s .args .reply .now) (s .args .stop) _ _ (g .0 .0) (g .1) (c .before .before .lst .ensures)
+    let at-asked = c .before .before .before .before .before .before in
+    let s = at-asked .before .before .before .before .before .before in
+    let g = at-asked .asked9 .given in
+    lst-done (s .pre) (s .args .reply .now) (s .args .stop) _ _ (g .0 .0) (g .1) (c .before .before .read2 .ensures)
 
 same-length-12 : tie.Need-same-length-12
 same-length-12 c = search needs
@@ -187,9 +198,10 @@ same-length-13 c = search needs
 
 returns-10 : tie.Need-returns-10
 returns-10 c =
-    let s = c .before .before .before .before .before .before .before .before .before .before .before in
-    let g = c .before .before .before .before .before .enum-told .given in
-    lst-base-done (s .args .table .now) (s .args .line .now) (s .args .text .now) (s .args .user) (s .args .asked) (s .pre) (s .args .reply .now) (s .args .stop) _ _ (g .1) (c .before .before .lst-base .ensures)
+    let at-asked = c .before .before .before .before .before in
+    let s = at-asked .before .before .before .before .before .before in
+    let g = at-asked .enum-told .given in
+    lst-base-done (s .pre) (s .args .reply .now) (s .args .stop) _ _ (g .1) (c .before .before .lst-base .ensures)
 
 pub grant-spec : {M : Type 1} → statement M
 grant-spec =
@@ -200,7 +212,7 @@ grant-spec =
     enum-known-asked-2
     wrs-requires
     enum-known-asked-3
-    rds-requires
+    read-requires
     enum-known-asked-4
     cpy-requires
     enum-known-asked-5
@@ -213,7 +225,7 @@ grant-spec =
     enum-known-asked-8
     dpr-requires
     enum-known-asked-9
-    lst-requires
+    read-requires-2
     enum-told
     lst-base-requires
     same-length

@@ -4,7 +4,7 @@ use mathlib.Core.Path.{refl}
 use lib.Seq.{take-all}
 use Rattle.effects.proofs.Stages.{made-both}
 use Rattle.elephant.proofs.Ending.{file-count, ends-refused, ends-stored}
-use Rattle.ends.proofs.Meeting.{met-few}
+use Rattle.placing.proofs.Meeting.{met-few}
 use borrow.Author.Needs.{needs}
 use Rattle.elephant.proofs.filing.make.Statement.{statement}
 use Rattle.elephant.proofs.filing.make.Tie as tie
@@ -22,7 +22,10 @@ meet-requires : tie.Need-meet-requires
 meet-requires c κs = search needs
 
 needed-requires : tie.Need-needed-requires
-needed-requires c κs = rw (c .before .before .before .before .before .before .before .count-file .ensures) (file-count (c .before .before .before .before .before .before .before .before .before .before .before .before .args .file) (c .before .before .before .before .before .before .before .before .before .before .before .before .args .text .now) (c .before .before .before .before .before .before .before .before .before .before .before .before .pre .few))
+needed-requires c κs =
+    let at-count-file = c .before .before .before .before .before .before .before in
+    let start = at-count-file .before .before .before .before .before in
+    rw (at-count-file .count-file .ensures) (file-count (start .args .file) (start .args .text .now) (start .pre .few))
 
 entry-refusal-requires : tie.Need-entry-refusal-requires
 entry-refusal-requires c κs = search needs
@@ -35,15 +38,21 @@ same-length c = search needs
 
 returns : tie.Need-returns
 returns c =
-    let a = c .before .before .before .before .before .before .before .before .before .before .before .before .before .before .before .before .before .args in
-    let n = c .before .before .before .before .before .before .before .before .before .before .before .before .count-file in
-    let m = c .before .before .before .before .before .before .meet in
+    let at-needed = c .before .before .before .before in
+    let at-meet = at-needed .before .before in
+    let at-room-at = at-meet .before in
+    let at-find = at-room-at .before .before .before in
+    let at-count-file = at-find .before .before in
+    let start = at-count-file .before .before .before .before .before in
+    let a = start .args in
+    let n = at-count-file .count-file in
+    let m = at-meet .meet in
     let r = c .before .before .before .entry-refusal in
     rw (c .refused .ensures)
-    (ends-refused (a .table .now) (a .rooms .now) (a .name .now) (a .text .now) (a .named .0) (c .before .before .before .before .before .before .before .before .before .before .before .before .before .before .before .before .before .pre) (a .place) (a .d) (a .code .0) (a .file)
-    (c .before .before .before .before .before .before .before .room-at .result .0) (rw (n .ensures) at (c .before .before .before .before .before .before .before .room-at .ensures)) (a .stop)
-    (m .result) (rw (c .before .before .before .before .before .before .before .before .before .before .find .ensures) at (m .ensures))
-    (r .result) (rw (c .before .before .before .before .needed .ensures, n .ensures) at (r .ensures))
+    (ends-refused (a .table .now) (a .rooms .now) (a .name .now) (a .text .now) (a .named .0) (start .pre) (a .place) (a .d) (a .code .0) (a .file)
+    (at-room-at .room-at .result .0) (rw (n .ensures) at (at-room-at .room-at .ensures)) (a .stop)
+    (m .result) (rw (at-find .find .ensures) at (m .ensures))
+    (r .result) (rw (at-needed .needed .ensures, n .ensures) at (r .ensures))
     (c .before .if1 .taken))
 
 laid-requires : tie.Need-laid-requires
@@ -59,11 +68,17 @@ place-entry-requires : tie.Need-place-entry-requires
 place-entry-requires c κs = search needs
 
 count-stores-requires : tie.Need-count-stores-requires
-count-stores-requires c κs = (
-  rw (c .before .before .before .before .before .before .before .before .before .before .before .before .before .before .before .before .before .before .before .before .before .before .before .before .count-file .ensures) (file-count (c .before .before .before .before .before .before .before .before .before .before .before .before .before .before .before .before .before .before .before .before .before .before .before .before .before .before .before .before .before .args .file) (c .before .before .before .before .before .before .before .before .before .before .before .before .before .before .before .before .before .before .before .before .before .before .before .before .before .before .before .before .before .args .text .now) (c .before .before .before .before .before .before .before .before .before .before .before .before .before .before .before .before .before .before .before .before .before .before .before .before .before .before .before .before .before .pre .few)),
-  rw (c .before .before .before .before .before .before .before .before .before .before .before .before .before .before .before .before .before .before .meet .ensures, c .before .before .before .before .before .before .before .before .before .before .before .before .before .before .before .before .before .before .before .before .before .before .find .ensures)
-      (met-few (c .before .before .before .before .before .before .before .before .before .before .before .before .before .before .before .before .before .before .before .before .before .before .before .before .before .before .before .before .before .args .table .now) (c .before .before .before .before .before .before .before .before .before .before .before .before .before .before .before .before .before .before .before .before .before .before .before .before .before .before .before .before .before .pre .size) (c .before .before .before .before .before .before .before .before .before .before .before .before .before .before .before .before .before .before .before .before .before .before .before .before .before .before .before .before .before .pre .sound) _ _ _ _ _ refl),
-)
+count-stores-requires c κs =
+    let at-put-file = c .before .before .before .before .before .before .before in
+    let at-entry-refusal = at-put-file .before .before .before .before .before .before .before .before in
+    let at-meet = at-entry-refusal .before .before .before in
+    let at-find = at-meet .before .before .before .before in
+    let at-count-file = at-find .before .before in
+    let start = at-count-file .before .before .before .before .before in (
+      rw (at-count-file .count-file .ensures) (file-count (start .args .file) (start .args .text .now) (start .pre .few)),
+      rw (at-meet .meet .ensures, at-find .find .ensures)
+          (met-few (start .args .table .now) (start .pre .size) (start .pre .sound) _ _ _ _ _ refl),
+    )
 
 stored-requires : tie.Need-stored-requires
 stored-requires c κs = search needs
@@ -73,21 +88,33 @@ same-length-2 c = search needs
 
 returns-2 : tie.Need-returns-2
 returns-2 c =
-    let a = c .before .before .before .before .before .before .before .before .before .before .before .before .before .before .before .before .before .before .before .before .before .before .before .before .before .before .before .before .before .before .before .args in
-    let n = c .before .before .before .before .before .before .before .before .before .before .before .before .before .before .before .before .before .before .before .before .before .before .before .before .before .before .count-file in
-    let m = c .before .before .before .before .before .before .before .before .before .before .before .before .before .before .before .before .before .before .before .before .meet in
-    let r = c .before .before .before .before .before .before .before .before .before .before .before .before .before .before .before .before .before .entry-refusal in
-    let w = c .before .before .before .before .before .before .before .before .before .before .before .before .before .before .before .before .before .before .before .before .before .before .before .before .before .before .before .before .before .before .before .pre in
-    let e = c .before .before .before .before .before .before .before .before .before .before .before .before .before .before .laid in
-    let p = c .before .before .before .before .place-entry in
+    let at-place-entry = c .before .before .before .before in
+    let at-put-file = at-place-entry .before .before .before .before .before in
+    let at-text-rooms = at-put-file .before .before in
+    let at-laid = at-text-rooms .before .before .before in
+    let at-if1 = at-laid .before in
+    let at-entry-refusal = at-if1 .before .before in
+    let at-needed = at-entry-refusal .before in
+    let at-meet = at-needed .before .before in
+    let at-room-at = at-meet .before in
+    let at-find = at-room-at .before .before .before in
+    let at-count-file = at-find .before .before in
+    let start = at-count-file .before .before .before .before .before in
+    let a = start .args in
+    let n = at-count-file .count-file in
+    let m = at-meet .meet in
+    let r = at-entry-refusal .entry-refusal in
+    let w = start .pre in
+    let e = at-laid .laid in
+    let p = at-place-entry .place-entry in
     rw (c .stored .ensures, c .before .count-stores .ensures, n .ensures)
     (ends-stored (a .table .now) (a .rooms .now) (a .name .now) (a .text .now) (a .named .0) w (a .place) (a .d) (a .code .0) (a .file)
-    (c .before .before .before .before .before .before .before .before .before .before .before .before .before .before .before .before .before .before .before .before .before .room-at .result .0) (rw (n .ensures) at (c .before .before .before .before .before .before .before .before .before .before .before .before .before .before .before .before .before .before .before .before .before .room-at .ensures)) (a .stop)
-    (m .result) (rw (c .before .before .before .before .before .before .before .before .before .before .before .before .before .before .before .before .before .before .before .before .before .before .before .before .find .ensures) at (m .ensures))
-    (r .result) (rw (c .before .before .before .before .before .before .before .before .before .before .before .before .before .before .before .before .before .before .needed .ensures, n .ensures) at (r .ensures))
-    (c .before .before .before .before .before .before .before .before .before .before .before .before .before .before .before .if1 .left) (p .last .0) (e .result) (p .result)
+    (at-room-at .room-at .result .0) (rw (n .ensures) at (at-room-at .room-at .ensures)) (a .stop)
+    (m .result) (rw (at-find .find .ensures) at (m .ensures))
+    (r .result) (rw (at-needed .needed .ensures, n .ensures) at (r .ensures))
+    (at-if1 .if1 .left) (p .last .0) (e .result) (p .result)
     (rw (take-all 10 (a .name .now) (w .short)) at (e .ensures))
-    (made-both _ _ _ _ _ _ _ _ (c .before .before .before .before .before .before .before .before .before .put-file .ensures) (rw (c .before .before .before .before .before .before .before .before .before .before .before .text-rooms .ensures) at (p .ensures))))
+    (made-both _ _ _ _ _ _ _ _ (at-put-file .put-file .ensures) (rw (at-text-rooms .text-rooms .ensures) at (p .ensures))))
 
 pub make-spec : {M : Type 1} → statement M
 make-spec =

@@ -7,7 +7,9 @@ use Rattle.elephant.proofs.filing.put_file.Statement.{statement}
 use Rattle.elephant.proofs.filing.put_file.Tie as tie
 
 returns : tie.Need-returns
-returns c = rw (not-true (c .before .before .before .before .args .file .new) (c .if1 .taken)) (made-none _ _)
+returns c =
+    let start = c .before .before .before .before in
+    rw (not-true (start .args .file .new) (c .if1 .taken)) (made-none _ _)
 
 room-at-requires : tie.Need-room-at-requires
 room-at-requires c κs = search needs
@@ -23,8 +25,12 @@ same-length c = search needs
 
 returns-2 : tie.Need-returns-2
 returns-2 c =
-    rw (not-false (c .before .before .before .before .before .before .before .before .before .before .before .before .before .before .before .args .file .new) (c .before .before .before .before .before .before .before .before .before .before .before .if1 .left), ← c .before .before .before .before .before .before .before .room-at .ensures)
-    (made-both _ _ _ _ _ _ _ _ (c .before .before .before .before .before .before .put .ensures) (c .before .before .put-texts .ensures))
+    let at-put = c .before .before .before .before .before .before in
+    let at-room-at = at-put .before in
+    let at-if1 = at-room-at .before .before .before .before in
+    let start = at-if1 .before .before .before .before in
+    rw (not-false (start .args .file .new) (at-if1 .if1 .left), ← at-room-at .room-at .ensures)
+    (made-both _ _ _ _ _ _ _ _ (at-put .put .ensures) (c .before .before .put-texts .ensures))
 
 pub put-file-spec : {M : Type 1} → statement M
 put-file-spec =

@@ -1,6 +1,7 @@
 -- The walks of both names choose: one stopped, or at the file and in the directory.
 -- What follows there is the plan's making.
-use Rattle.elephant.proofs.Makes.{dup-stops, dup-reaches}
+use Rattle.paper.specs.Effect.{dupPlan}
+use Rattle.elephant.proofs.Ends.{both-stops, both-reaches}
 use borrow.Author.Needs.{needs}
 use Rattle.elephant.proofs.making.dup.Statement.{statement}
 use Rattle.elephant.proofs.making.dup.Tie as tie
@@ -27,20 +28,31 @@ same-length : tie.Need-same-length
 same-length c = search needs
 
 returns : tie.Need-returns
+unfolding dupPlan
 returns c =
-    let a = c .before .before .before .before .before .before .before .before .before .args in
+    let at-to-both = c .before .before .before .before in
+    let start = at-to-both .before .before .before .before .before in
+    let a = start .args in
     let g = c .before .before .both .given in
-    rw (c .refused .ensures) (dup-stops (a .table .now) (a .line .now) (a .user) (a .old) (a .new) (a .stop) _ (c .before .before .before .before .to-both .ensures) _ (g .0 .0) (g .0 .1 .0) (g .0 .1 .1 .0) (g .1))
+    rw (c .refused .ensures)
+    (both-stops (a .table .now) (a .line .now) (a .user) (a .old) (a .new) _ _ (at-to-both .to-both .ensures) (a .stop) (g .0 .0) (g .0 .1 .0)
+    (g .0 .1 .1 .0) (g .1))
 
 same-length-2 : tie.Need-same-length-2
 same-length-2 c = search needs
 
 returns-2 : tie.Need-returns-2
+unfolding dupPlan
 returns-2 c =
-    let a = c .before .before .before .before .before .before .before .before .before .before .before .before .args in
-    let g = c .before .before .before .before .before .both2 .given in
-    dup-reaches (a .table .now) (a .line .now) (a .user) (a .old) (a .new) (a .stop) _ (c .before .before .before .before .before .before .before .to-both .ensures) _ (g .0 .0) (g .0 .1 .0) _ _ (g .1)
-    (rw (c .before .before .before .before .before .before .before .before .before .or-else .ensures) at (c .before .before .dup-in .ensures))
+    let at-both2 = c .before .before .before .before .before in
+    let at-to-both = at-both2 .before .before in
+    let at-or-else = at-to-both .before .before in
+    let start = at-or-else .before .before .before in
+    let a = start .args in
+    let g = at-both2 .both2 .given in
+    both-reaches (a .table .now) (a .line .now) (a .user) (a .old) (a .new) _ _ (at-to-both .to-both .ensures) (a .stop) (g .0 .0) (g .0 .1 .0) _ _
+    (g .1)
+    (rw (at-or-else .or-else .ensures) at (c .before .before .dup-in .ensures))
 
 pub dup-spec : {M : Type 1} → statement M
 dup-spec =

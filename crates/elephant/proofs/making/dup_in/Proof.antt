@@ -14,7 +14,8 @@ refused-requires c κs = search needs
 
 returns : tie.Need-returns
 returns c =
-    let a = c .before .before .before .before .before .before .args in
+    let start = c .before .before .before .before .before .before in
+    let a = start .args in
     rw (c .refused .ensures) (shut-refused (a .table .now) (a .stop) _ (rw (c .before .before .inhibits-write .ensures) at (c .before .if1 .taken)))
 
 heading-named-requires : tie.Need-heading-named-requires
@@ -37,12 +38,15 @@ part-requires c κs = search needs
 
 make-requires : tie.Need-make-requires
 make-requires c κs =
-    let p = c .before .before .before .before .before .before .before .before .before .before .before .before .before .before .before .before .before .pre in
-    let h = c .before .before .before .before .before .before .before .before .before .before .heading-named in
+    let at-free-rooms = c .before .before .before .before in
+    let at-heading-named = at-free-rooms .before .before .before .before .before .before in
+    let start = at-heading-named .before .before .before .before .before .before .before in
+    let p = start .pre in
+    let h = at-heading-named .heading-named in
     record {
       size = p .size;
       sound = p .sound;
-      free = c .before .before .before .before .free-rooms .ensures;
+      free = at-free-rooms .free-rooms .ensures;
       short = rw (c .before .last-name .ensures) (p .short);
       few = rw (c .part .ensures) (omega arith);
       small = h .ensures .1;
@@ -53,9 +57,17 @@ same-length c = search needs
 
 returns-2 : tie.Need-returns-2
 returns-2 c =
-    let a = c .before .before .before .before .before .before .before .before .before .before .before .before .before .before .before .before .before .before .before .before .args in
-    open-ends (a .table .now) (a .stop) _ _ _ (rw (c .before .before .before .before .before .before .before .before .before .before .before .before .before .before .before .before .inhibits-write .ensures) at (c .before .before .before .before .before .before .before .before .before .before .before .before .before .before .before .if1 .left))
-    (rw (c .before .before .before .before .last-name .ensures, c .before .before .before .before .before .before .before .before .before .before .joined .ensures, c .before .before .before .before .before .before .before .before .before .before .before .entry-code .ensures, c .before .before .before .before .before .before .before .before .before .before .before .before .before .heading-named .ensures .0) at (c .before .before .make .ensures))
+    let at-last-name = c .before .before .before .before in
+    let at-joined = at-last-name .before .before .before .before .before .before in
+    let at-entry-code = at-joined .before in
+    let at-heading-named = at-entry-code .before .before in
+    let at-if1 = at-heading-named .before .before in
+    let at-inhibits-write = at-if1 .before in
+    let start = at-inhibits-write .before .before .before .before in
+    let a = start .args in
+    open-ends (a .table .now) (a .stop) _ _ _ (rw (at-inhibits-write .inhibits-write .ensures) at (at-if1 .if1 .left))
+    (rw (at-last-name .last-name .ensures, at-joined .joined .ensures, at-entry-code .entry-code .ensures, at-heading-named .heading-named .ensures .0)
+    at (c .before .before .make .ensures))
 
 pub dup-in-spec : {M : Type 1} → statement M
 dup-in-spec =

@@ -11,7 +11,9 @@ free-rooms-requires : tie.Need-free-rooms-requires
 free-rooms-requires c κs = search needs
 
 slice-aggregate-room-at : tie.Need-slice-aggregate-room-at
-slice-aggregate-room-at c = rw (c .before .free-rooms .ensures) (free-length (c .before .before .before .before .before .before .before .args .table .now))
+slice-aggregate-room-at c =
+    let start = c .before .before .before .before .before .before .before in
+    rw (c .before .free-rooms .ensures) (free-length (start .args .table .now))
 
 room-at-requires : tie.Need-room-at-requires
 room-at-requires c κs = search needs
@@ -21,15 +23,17 @@ last-name-requires c κs = search needs
 
 make-requires : tie.Need-make-requires
 make-requires c κs =
-    let p = c .before .before .before .before .before .before .before .before .before .before .before .pre in
-    let f = c .before .before .before .before .before .free-rooms in
+    let at-free-rooms = c .before .before .before .before .before in
+    let start = at-free-rooms .before .before .before .before .before .before in
+    let p = start .pre in
+    let f = at-free-rooms .free-rooms in
     record {
       size = p .size;
       sound = p .sound;
       free = f .ensures;
       short = rw (c .last-name .ensures) (p .short);
       few = p .few;
-      small = rw (c .before .before .before .room-at .ensures, f .ensures) (free-small (c .before .before .before .before .before .before .before .before .before .before .before .args .table .now));
+      small = rw (c .before .before .before .room-at .ensures, f .ensures) (free-small (start .args .table .now));
     }
 
 same-length : tie.Need-same-length
@@ -37,8 +41,17 @@ same-length c = search needs
 
 returns : tie.Need-returns
 returns c =
-    let p = c .before .before .before .before .before .before .before .before .before .before .before .before .before .before .pre in
-    rw (c .before .before .before .last-name .ensures, c .before .before .before .before .before .before .room-at .ensures, c .before .before .before .before .before .before .before .before .free-rooms .ensures, free-room (c .before .before .before .before .before .before .before .before .before .before .before .before .before .before .args .table .now) 0 (p .size) (omega arith))
+    let at-room-at = c .before .before .before .before .before .before in
+    let at-free-rooms = at-room-at .before .before in
+    let start = at-free-rooms .before .before .before .before .before .before in
+    let p = start .pre in
+    rw (
+      c .before .before .before .last-name .ensures,
+      at-room-at .room-at .ensures,
+      at-free-rooms .free-rooms .ensures,
+      free-room
+          (start .args .table .now) 0 (p .size) (omega arith),
+    )
     at (c .before .before .make .ensures)
 
 pub file-spec : {M : Type 1} → statement M

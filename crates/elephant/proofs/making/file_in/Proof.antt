@@ -12,7 +12,10 @@ refused-requires : tie.Need-refused-requires
 refused-requires c κs = search needs
 
 returns : tie.Need-returns
-returns c = rw (c .refused .ensures) (shut-refused (c .before .before .before .before .before .before .before .args .table .now) (c .before .before .before .before .before .before .before .args .stop) _ (rw (c .before .before .inhibits-write .ensures) at (c .before .if1 .taken)))
+returns c =
+    let start = c .before .before .before .before .before .before .before in
+    rw (c .refused .ensures)
+    (shut-refused (start .args .table .now) (start .args .stop) _ (rw (c .before .before .inhibits-write .ensures) at (c .before .if1 .taken)))
 
 file-requires : tie.Need-file-requires
 file-requires c κs = search needs
@@ -21,7 +24,12 @@ same-length : tie.Need-same-length
 same-length c = search needs
 
 returns-2 : tie.Need-returns-2
-returns-2 c = open-ends (c .before .before .before .before .before .before .before .before .before .before .args .table .now) (c .before .before .before .before .before .before .before .before .before .before .args .stop) _ _ _ (rw (c .before .before .before .before .before .inhibits-write .ensures) at (c .before .before .before .before .if1 .left)) (c .before .before .file .ensures)
+returns-2 c =
+    let at-if1 = c .before .before .before .before in
+    let at-inhibits-write = at-if1 .before in
+    let start = at-inhibits-write .before .before .before .before .before in
+    open-ends (start .args .table .now) (start .args .stop) _ _ _ (rw (at-inhibits-write .inhibits-write .ensures) at (at-if1 .if1 .left))
+    (c .before .before .file .ensures)
 
 pub file-in-spec : {M : Type 1} → statement M
 file-in-spec =

@@ -38,22 +38,32 @@ same-length c = search needs
 
 returns : tie.Need-returns
 returns c =
-    let a = c .before .before .before .before .before .before .before .before .before .before .before .before .before .args in
+    let at-to-directory = c .before .before .before .before in
+    let at-start = at-to-directory .before in
+    let start = at-start .before .before .before .before .before .before .before .before in
+    let a = start .args in
     let g = c .before .before .walked .given in
     rw (c .refused .ensures)
     (wrs-stops (a .table .now) (a .line .now) (a .user) (a .name) (a .stop) _ _ (a .text .now) (a .lifetime) (g .0 .0) (g .0 .1 .0)
-    (sym (rw (c .before .before .before .before .before .start .ensures) at (c .before .before .before .before .to-directory .ensures)) ∙ g .1))
+    (sym (rw (at-start .start .ensures) at (at-to-directory .to-directory .ensures)) ∙ g .1))
 
 same-length-2 : tie.Need-same-length-2
 same-length-2 c = search needs
 
 returns-2 : tie.Need-returns-2
 returns-2 c =
-    let a = c .before .before .before .before .before .before .before .before .before .before .before .before .before .before .before .before .args in
-    let g = c .before .before .before .before .before .walked2 .given in
+    let at-walked2 = c .before .before .before .before .before in
+    let at-to-directory = at-walked2 .before .before in
+    let at-start = at-to-directory .before in
+    let at-laid = at-start .before .before in
+    let at-or-else2 = at-laid .before in
+    let at-or-else = at-or-else2 .before in
+    let start = at-or-else .before .before .before .before in
+    let a = start .args in
+    let g = at-walked2 .walked2 .given in
     wrs-reaches (a .table .now) (a .line .now) (a .user) (a .name) (a .stop) _ _ (a .text .now) (a .lifetime) (g .0 .0) _ _
-    (sym (rw (c .before .before .before .before .before .before .before .before .start .ensures) at (c .before .before .before .before .before .before .before .to-directory .ensures)) ∙ g .1)
-    (rw (c .before .before .before .before .before .before .before .before .before .before .laid .ensures, c .before .before .before .before .before .before .before .before .before .before .before .or-else2 .ensures, c .before .before .before .before .before .before .before .before .before .before .before .before .or-else .ensures) at (c .before .before .file-in .ensures))
+    (sym (rw (at-start .start .ensures) at (at-to-directory .to-directory .ensures)) ∙ g .1)
+    (rw (at-laid .laid .ensures, at-or-else2 .or-else2 .ensures, at-or-else .or-else .ensures) at (c .before .before .file-in .ensures))
 
 pub wrs-spec : {M : Type 1} → statement M
 wrs-spec =

@@ -22,10 +22,15 @@ same-length c = search needs
 
 returns : tie.Need-returns
 returns c =
-    let a = c .before .before .before .before .before .before .before .before .before .before .before .args in
-    let p = c .before .before .before .before .before .before .before .before .before .before .before .pre in
-    let n = c .before .before .before .before .before .before .text-length in
-    rw (← (text-there (a .table .now) (a .heading .0) (p .0) (p .1) _ (c .before .before .before .before .before .blocks2 .result .0) (n .result .0) (c .before .before .before .before .before .before .before .text-rooms .ensures) (c .before .before .before .before .before .blocks2 .ensures) (n .ensures .0))) (c .before .before .read-text .ensures)
+    let at-blocks2 = c .before .before .before .before .before in
+    let at-text-length = at-blocks2 .before in
+    let at-text-rooms = at-text-length .before in
+    let start = at-text-rooms .before .before .before .before in
+    let a = start .args in
+    let p = start .pre in
+    let n = at-text-length .text-length in
+    rw (← (text-there (a .table .now) (a .heading .0) (p .0) (p .1) _ (at-blocks2 .blocks2 .result .0) (n .result .0)
+    (at-text-rooms .text-rooms .ensures) (at-blocks2 .blocks2 .ensures) (n .ensures .0))) (c .before .before .read-text .ensures)
 
 pub copy-text-spec : {M : Type 1} → statement M
 copy-text-spec =

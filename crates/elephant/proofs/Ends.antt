@@ -1,0 +1,106 @@
+-- A plan after a walk is refused where the walk stopped, and else goes on from the states it came to: the code's walk shows the
+-- paper's, so that the case it chooses is the plan's. On a fit table the file that it came to is there.
+use mathlib.Core.List.{List}
+use mathlib.Core.Path.{_≡_, refl, sym, ap, _∙_}
+use Prim.Native.Nat.{ℕ}
+use Rattle.paper.specs.Line.{Word}
+use Rattle.paper.specs.Walk as W
+use Rattle.paper.specs.Walk.{start, toDirectory, ended}
+use Rattle.paper.specs.Answer.{plain}
+use Rattle.paper.specs.Effect.{Planned, halted, chainOf, onward, inward, toHolder, toEnd}
+use Rattle.demands.proofs.Sound.Clauses.{sound-clauses}
+use Rattle.demands.proofs.Request.Walked.{walk-reached}
+use Rattle.walk.specs.Shown.{meant, walkedShown}
+use Rattle.walk.specs.Ends.{endShown, bothShown}
+use Rattle.walk.specs.declared.state.State.{State}
+use Rattle.walk.specs.declared.chain.Walked.the-variants.{Reached, Stopped}
+use Rattle.walk.specs.declared.end.End.{End}
+use Rattle.walk.specs.declared.end.End.the-variants.{At, Off}
+use Rattle.walk.specs.declared.end.Both.{Both}
+use Rattle.walk.specs.declared.end.Both.the-variants as both
+use Rattle.walk.proofs.Ends.{walked-stopped, walked-reached, end-arrived, end-astray, arrived-last}
+use Rattle.answers.specs.Shown.{shown}
+use Rattle.answers.specs.declared.Answer.{Answer}
+use Rattle.elephant.specs.Done.{Fit, Filed, wordAt, Did, Wrote}
+use Rattle.elephant.specs.Deleted.{Came}
+use Rattle.elephant.specs.declared.delete.Deleted.{Deleted}
+use Rattle.elephant.specs.declared.delete.Deleted.the-variants.{Refused}
+
+-- ---- to a directory
+
+module _ (t : List ℕ) (u place k : ℕ) (w : Word) (f : W.State → Planned) where
+  pub holder-stops : (n l : ℕ) → walkedShown (toDirectory t 1 (start u) (chainOf w)) ≡ Stopped n l
+      → Did t k (toHolder t u place w f) (shown (plain n place 0 0)) t
+  holder-stops n l e = rw (walked-stopped (toDirectory t 1 (start u) (chainOf w)) n l e) (record { answer = refl; table = refl })
+
+  pub holder-reaches : (d : State) (r : Answer) (x : List ℕ) → walkedShown (toDirectory t 1 (start u) (chainOf w)) ≡ Reached d
+      → Did t k (f (meant d)) r x → Did t k (toHolder t u place w f) r x
+  holder-reaches d r x e y = rw (walked-reached (toDirectory t 1 (start u) (chainOf w)) d e) y
+
+-- ---- to a file
+
+module _ (t line : List ℕ) (u p place : ℕ) (g : W.State → W.State → Planned)
+    (r : End) (e : r ≡ endShown (ended t (start u) (chainOf (wordAt line p)))) where
+  module _ (n l : ℕ) (z : r ≡ Off n l) where
+    stops : toEnd t u place (wordAt line p) g ≡ halted (record { number = n; place = place; link = l })
+    stops = ap (λ (x : W.End). inward place x g) (end-astray (ended t (start u) (chainOf (wordAt line p))) n l (sym e ∙ z))
+
+    pub end-off : (k : ℕ) → Did t k (toEnd t u place (wordAt line p) g) (shown (plain n place 0 0)) t
+    end-off k = rw stops (record { answer = refl; table = refl })
+
+    pub name-off : (k : ℕ) → Came t k (toEnd t u place (wordAt line p) g) (Refused n place) t
+    name-off k = rw stops (record { answer = refl; table = refl })
+
+    pub read-off : (reply : List ℕ) → Wrote t reply (toEnd t u place (wordAt line p) g) (shown (plain n place 0 0)) reply
+    read-off reply = rw stops (record { answer = refl; reply = refl })
+
+  module _ (d f : State) (z : r ≡ At d f) where
+    arrives : toEnd t u place (wordAt line p) g ≡ g (meant d) (meant f)
+    arrives = ap (λ (x : W.End). inward place x g) (end-arrived (ended t (start u) (chainOf (wordAt line p))) d f (sym e ∙ z))
+
+    pub end-at : (k : ℕ) (a : Answer) (v : List ℕ) → Did t k (g (meant d) (meant f)) a v → Did t k (toEnd t u place (wordAt line p) g) a v
+    end-at k a v w = rw arrives w
+
+    pub name-at : (k : ℕ) (a : Deleted) (v : List ℕ) → Came t k (g (meant d) (meant f)) a v → Came t k (toEnd t u place (wordAt line p) g) a v
+    name-at k a v w = rw arrives w
+
+    pub read-at : (reply : List ℕ) (a : Answer) (v : List ℕ) → Wrote t reply (g (meant d) (meant f)) a v
+        → Wrote t reply (toEnd t u place (wordAt line p) g) a v
+    read-at reply a v w = rw arrives w
+
+-- the file is there
+pub filed : (t line : List ℕ) (u p : ℕ) (r : End) → r ≡ endShown (ended t (start u) (chainOf (wordAt line p))) → Fit t
+    → (d f : State) → r ≡ At d f → Filed t (meant f)
+filed t line u p r e h d f z =
+    let ns : List (List ℕ) = chainOf (wordAt line p) in
+    let x = end-arrived (ended t (start u) ns) d f (sym e ∙ z) in
+    let w = walk-reached 65535 t (sound-clauses t (h .sized) (h .sound)) (meant d) ns (meant f) (arrived-last t (start u) ns (meant d) (meant f) x) in
+    record { fit = h; entry = w .looked .within; heading = w .within; kind = w .heading }
+
+-- ---- to a file and to a directory
+
+abbrev bothPlan : Both → (W.State → W.State → Planned) → Planned
+bothPlan (both.At f d) g = g (meant f) (meant d)
+bothPlan (both.Off number place link) g = halted (record { number = number; place = place; link = link })
+
+both-plan : (e : W.End) (w : W.Walked) (g : W.State → W.State → Planned)
+    → inward 1 e (λ _ f. onward 2 w (g f)) ≡ bothPlan (bothShown e w) g
+both-plan (W.astray n l) w g = refl
+both-plan (W.arrived d f) (W.stopped n l) g = refl
+both-plan (W.arrived d f) (W.reached s) g = refl
+
+module _ (t line : List ℕ) (u old new : ℕ) (g : W.State → W.State → Planned) (r : Both)
+    (e : r ≡ bothShown (ended t (start u) (chainOf (wordAt line old))) (toDirectory t 1 (start u) (chainOf (wordAt line new)))) where
+  abbrev whole : Planned
+  whole = toEnd t u 1 (wordAt line old) (λ _ f. toHolder t u 2 (wordAt line new) (g f))
+
+  came : (x : Both) → r ≡ x → whole ≡ bothPlan x g
+  came x z =
+      both-plan (ended t (start u) (chainOf (wordAt line old))) (toDirectory t 1 (start u) (chainOf (wordAt line new))) g
+      ∙ ap (λ (y : Both). bothPlan y g) (sym e ∙ z)
+
+  pub both-stops : (k n q l : ℕ) → r ≡ both.Off n q l → Did t k whole (shown (plain n q 0 0)) t
+  both-stops k n q l z = rw (came (both.Off n q l) z) (record { answer = refl; table = refl })
+
+  pub both-reaches : (k : ℕ) (f d : State) (a : Answer) (x : List ℕ) → r ≡ both.At f d → Did t k (g (meant f) (meant d)) a x → Did t k whole a x
+  both-reaches k f d a x z w = rw (came (both.At f d) z) w

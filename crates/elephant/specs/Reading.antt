@@ -1,0 +1,32 @@
+-- RDS and LST are one reading: the file that 15 asks for, and what is written of it.
+use mathlib.Core.Bool.{Bool, not}
+use mathlib.Core.List.{List, [], _∷_}
+use Prim.Native.Nat.{ℕ}
+use Rattle.paper.specs.Record.{directory, simple}
+use Rattle.paper.specs.Table.{rec}
+use Rattle.paper.specs.Line.{Word}
+use Rattle.paper.specs.Block.{fileText}
+use Rattle.paper.specs.Check.{check}
+use Rattle.paper.specs.Listing.{directoryLines}
+use Rattle.paper.specs.Walk.{State, file}
+use Rattle.paper.specs.Effect.{Planned, readInhibited, toEnd, writing}
+use Rattle.elephant.specs.declared.reply.Sheet.{Sheet}
+use Rattle.elephant.specs.declared.reply.Sheet.the-variants.{Text, Lines}
+
+-- "RDS, CPY: not simple; LST: no directory"
+abbrev pub isRight : Sheet → List ℕ → Bool
+isRight Text r = simple r
+isRight Lines r = directory r
+
+-- "RDS writes the text", "LST writes one line an entry"
+abbrev pub written : Sheet → List ℕ → ℕ → List ℕ
+written Text t h = fileText t h
+written Lines t h = directoryLines t h
+
+-- at the end of the walk: `rdsPlan` and `lstPlan`
+abbrev pub readingAt : Sheet → List ℕ → List ℕ → State → Planned
+readingAt s t reply f =
+    writing (readInhibited 1 f ∷ check (not (isRight s (rec t (file t f)))) 15 1 ∷ []) (written s t (file t f)) reply
+
+abbrev pub reading : Sheet → List ℕ → ℕ → List ℕ → Word → Planned
+reading s t u reply name = toEnd t u 1 name (λ _ f. readingAt s t reply f)
