@@ -46,11 +46,11 @@ stores-length f r text = go (f .new)
     go true = rw (text-stores-length r text) (omega arith)
     go false = refl
 
-entry-length : (m : Meets) (entry r : List ℕ) → length (entryStores m entry r) ≡ cond (m .lost) (m .count + 2) 1
+entry-length : (m : Meets) (entry r : List ℕ) → length (entryStores m entry r) ≡ cond (m .lost) (m .count .0 + 2) 1
 entry-length m entry r = go (m .lost)
   where
-    go : (b : Bool) → length (puts (m .room .0) entry ∷ cond b (clearStores (m .heading .0) r (m .count)) []) ≡ cond b (m .count + 2) 1
-    go true = rw (clear-stores-length (m .heading .0) r (m .count)) (omega arith)
+    go : (b : Bool) → length (puts (m .room .0) entry ∷ cond b (clearStores (m .heading .0) r (m .count .0)) []) ≡ cond b (m .count .0 + 2) 1
+    go true = rw (clear-stores-length (m .heading .0) r (m .count .0)) (omega arith)
     go false = refl
 
 pub first-stores : (t : List ℕ) (f : File) (text : List ℕ) → sized t ≡ true → length text ≤ 24000

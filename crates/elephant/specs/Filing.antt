@@ -38,7 +38,7 @@ neededBy first false = first + 1
 
 -- how many stores there are in all
 abbrev pub storesBy : ℕ → Meets → ℕ
-storesBy first m = first + cond (m .lost) (m .count + 2) 1
+storesBy first m = first + cond (m .lost) (m .count .0 + 2) 1
 
 -- a new entry of the directory d
 abbrev pub makingOf : List ℕ → ℕ → State → List ℕ → ℕ → ℕ → File → List ℕ → Making

@@ -47,7 +47,7 @@ fn copy(
         (copied (now (table .entry)) (wordAt (now (line .entry)) new) (meant d) (source .0)
         (lifetimePart lifetime) (levelPart level) (digitPart digit))) r (now (table .exit)) ⌝ }
 {
-    let mut text = [0u8; 24000];
+    let mut text = [0u8; Heading::MOST_LENGTH];
     copy_text(table, source, &mut text);
     let length = text_length(table, source);
     let code = Code(digit.or_else(0));
@@ -66,7 +66,7 @@ fn copy(
         2,
         code,
         heading,
-        part(&text, 0, length.0),
+        part(&text, 0, length),
         stop,
     )
 }

@@ -9,6 +9,7 @@ use records::block::blocks;
 use records::bytes::Room;
 use records::entry::heading_named;
 use records::heading::text_length;
+use records::text::Text;
 use walk::end::End;
 use walk::end::to_end;
 use walk::state::State;
@@ -55,12 +56,12 @@ fn clear_both(table: &mut [u8], entry: Room, heading: Room, left: usize) -> usiz
     requires { ⌜ Fit (now table) × (heading .0 < rooms (now table)) × (byte (rec (now table) (heading .0)) 0 ≡ 1) ⌝ }
     ensures { λ r. ⌜ Tried (now (table .entry)) left (clear (entry .0) ∷ freed (now (table .entry)) (heading .0)) r (now (table .exit)) ⌝ }
 {
-    let mut rooms = [0u16; 1000];
+    let mut rooms = [0u16; Text::MOST];
     text_rooms(table, heading, &mut rooms);
-    let count = blocks(text_length(table, heading)).0;
-    let rest = put(table, entry, [0u8; 32], left);
+    let count = blocks(text_length(table, heading));
+    let rest = put(table, entry, [0u8; Room::SIZE], left);
     clear_file(table, heading, &rooms, count, rest);
-    count + 2
+    count.0 + 2
 }
 
 // The entry of f in d and, if no other entry names it, the file: 14 and 18, and as many of the stores as are left.
@@ -75,7 +76,7 @@ fn delete_at(table: &mut [u8], d: State, f: State, place: u32, left: usize) -> D
     let entry = f.entry;
     let heading = heading_named(table, entry);
     if is_named_beside(table, heading, entry) {
-        put(table, entry, [0u8; 32], left);
+        put(table, entry, [0u8; Room::SIZE], left);
         return Deleted::Passed(1);
     }
     if is_directory_peopled(table, heading) {

@@ -11,6 +11,7 @@ use crate::reply::lst_base;
 use crate::reply::read;
 use answers::Answer;
 use reader::request::Request;
+use records::entry::Holder;
 ghost use mathlib.Core.Path.{_≡_};
 ghost use Rattle.paper.specs.Answer.{entrance, requested};
 ghost use Rattle.elephant.specs.Entrance.{entranceNumber};
@@ -25,7 +26,7 @@ pub(crate) fn entrance_number(table: &[u8], user: u32) -> u8
     if judged != 0 {
         return judged;
     }
-    if 999999 < user {
+    if Holder::LAST_USER < user {
         return 3;
     }
     0

@@ -13,6 +13,7 @@ use records::bytes::Bytes;
 use records::bytes::Room;
 use records::code::Code;
 use records::entry::Entry;
+use records::text::Text;
 use scans::find;
 use walk::state::State;
 ghost use mathlib.Core.Path.{_≡_};
@@ -25,7 +26,7 @@ ghost use Rattle.elephant.specs.Filing.{fileCount, fileStores, neededBy,
 // A new file's heading, or no new file.
 pub(crate) struct File {
     pub new: bool,
-    pub heading: [u8; 32],
+    pub heading: [u8; Room::SIZE],
 }
 
 // How many stores a new file has.
@@ -40,7 +41,13 @@ fn count_file(file: File, text: &[u8]) -> usize
 }
 
 // "heading, text by position"
-fn put_file(table: &mut [u8], file: File, rooms: &[u16; 1002], text: &[u8], left: usize) -> usize
+fn put_file(
+    table: &mut [u8],
+    file: File,
+    rooms: &[u16; Entry::MOST_NEW],
+    text: &[u8],
+    left: usize,
+) -> usize
     ensures { λ r. ⌜ Made (now (table .entry)) (now (table .exit)) left r (fileStores file (now (rooms .entry)) (now (text .entry))) ⌝ }
 {
     if !file.new {
@@ -64,11 +71,11 @@ fn needed(first: usize, displaced: bool) -> usize
 
 // How many stores there are in all.
 fn count_stores(first: usize, meets: Meets) -> u32
-    requires { ⌜ (first ≤ 1001) × (meets .count ≤ 1000) ⌝ }
+    requires { ⌜ (first ≤ 1001) × (meets .count .0 ≤ 1000) ⌝ }
     ensures { λ r. ⌜ r ≡ storesBy first meets ⌝ }
 {
     if meets.lost {
-        return (first + (meets.count + 2)) as u32;
+        return (first + (meets.count.0 + 2)) as u32;
     }
     (first + 1) as u32
 }
@@ -76,7 +83,7 @@ fn count_stores(first: usize, meets: Meets) -> u32
 // The entry that names a heading under a name in d, and before it the new file if there is one, on the free records in `rooms`.
 pub(crate) fn make(
     table: &mut [u8],
-    rooms: &[u16; 1002],
+    rooms: &[u16; Entry::MOST_NEW],
     d: State,
     name: &[u8],
     code: Code,
@@ -104,7 +111,7 @@ pub(crate) fn make(
         holder: holder,
         heading: named,
     }.laid(name);
-    let mut texts = [0u16; 1000];
+    let mut texts = [0u16; Text::MOST];
     text_rooms(table, meets.heading, &mut texts);
     let rest = put_file(table, file, rooms, text, stop as usize);
     place_entry(table, entry, meets, &texts, rest);

@@ -13,6 +13,7 @@ use answers::Answer;
 use reader::request::Read;
 use reader::request::Request;
 use reader::request::read_line;
+use records::heading::Heading;
 ghost use mathlib.Core.List.{[]};
 ghost use Rattle.paper.specs.Answer.{requested, mending};
 ghost use Rattle.elephant.specs.Promised.{Promised};
@@ -46,7 +47,7 @@ pub fn request(
             else {
                 return grant(table, line, text, reply, user, stop, asked);
             };
-            if 24000 < text.len() {
+            if Heading::MOST_LENGTH < text.len() {
                 return Answer::refused(10, 0);
             }
             grant(table, line, text, reply, user, stop, asked)

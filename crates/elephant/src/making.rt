@@ -10,6 +10,7 @@ use records::bytes::Bytes;
 use records::bytes::Room;
 use records::bytes::part;
 use records::code::Code;
+use records::entry::Entry;
 use records::entry::entry_code;
 use records::entry::heading_named;
 use records::heading::Heading;
@@ -34,7 +35,7 @@ pub(crate) fn file(
     d: State,
     place: u32,
     code: Code,
-    heading: [u8; 32],
+    heading: [u8; Room::SIZE],
     text: &[u8],
     stop: u32,
 ) -> Answer
@@ -43,7 +44,7 @@ pub(crate) fn file(
         (ending (now (table .entry))
         (filing (now (table .entry)) place (wordAt (now (line .entry)) name) (meant d) (code .0) heading (now (text .entry)))) r (now (table .exit)) ⌝ }
 {
-    let mut rooms = [0u16; 1002];
+    let mut rooms = [0u16; Entry::MOST_NEW];
     free_rooms(table, &mut rooms);
     let named = room_at(&rooms, 0);
     let file = File {
@@ -72,7 +73,7 @@ fn file_in(
     d: State,
     place: u32,
     code: Code,
-    heading: [u8; 32],
+    heading: [u8; Room::SIZE],
     text: &[u8],
     stop: u32,
 ) -> Answer
@@ -107,7 +108,7 @@ pub(crate) fn crd(
         ty: Heading::DIRECTORY,
         level: level.or_else(0),
         code: code,
-        lifetime: 1,
+        lifetime: Heading::MEDIUM,
         length: Bytes(0),
     }.laid();
     let walked = to_directory(table, line, name, State::start(user));
@@ -121,7 +122,7 @@ pub(crate) fn crd(
             1,
             code,
             heading,
-            part(line, 0, 0),
+            part(line, 0, Bytes(0)),
             stop,
         ),
     }
@@ -180,11 +181,11 @@ fn dup_in(
     }
     let named = heading_named(table, entry);
     let both = entry_code(table, entry).joined(code);
-    let mut rooms = [0u16; 1002];
+    let mut rooms = [0u16; Entry::MOST_NEW];
     free_rooms(table, &mut rooms);
     let file = File {
         new: false,
-        heading: [0u8; 32],
+        heading: [0u8; Room::SIZE],
     };
     make(
         table,
@@ -195,7 +196,7 @@ fn dup_in(
         named,
         2,
         file,
-        part(line, 0, 0),
+        part(line, 0, Bytes(0)),
         stop,
     )
 }

@@ -11,6 +11,7 @@ use records::entry::heading_named;
 use records::heading::is_directory;
 use records::heading::is_simple;
 use records::heading::text_length;
+use records::text::Text;
 use walk::end::End;
 use walk::end::to_end;
 use walk::state::State;
@@ -39,9 +40,9 @@ pub(crate) fn copy_text(table: &[u8], heading: Room, reply: &mut [u8])
     requires { ⌜ Fit (now table) × (simple (rec (now table) (heading .0)) ≡ true) ⌝ }
     ensures { λ _. ⌜ now (reply .exit) ≡ sets (now (reply .entry)) 0 (fileText (now (table .entry)) (heading .0)) ⌝ }
 {
-    let mut rooms = [0u16; 1000];
+    let mut rooms = [0u16; Text::MOST];
     text_rooms(table, heading, &mut rooms);
-    let count = blocks(text_length(table, heading)).0;
+    let count = blocks(text_length(table, heading));
     read_text(table, &rooms, count, reply);
 }
 

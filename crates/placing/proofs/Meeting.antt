@@ -47,10 +47,10 @@ lost-other t e h k q = rw (ne-eqb k h q) (or-no (namedBeside t h e))
 pub met-nothing : (t : List ℕ) (f : Found) (k free : ℕ) → f ≡ Nowhere → met t Nowhere k free ≡ met t f k free
 met-nothing t f k free e = rw e
 
-pub met-entry : (t : List ℕ) (f : Found) (k free : ℕ) (e h : Room) (lost : Bool) (count : ℕ)
-    → f ≡ At e → h .0 ≡ headingNamed (rec t (e .0)) → lost ≡ lostBy t (e .0) (h .0) k → count ≡ blocksOf t (h .0)
+pub met-entry : (t : List ℕ) (f : Found) (k free : ℕ) (e h : Room) (lost : Bool) (count : Room)
+    → f ≡ At e → h .0 ≡ headingNamed (rec t (e .0)) → lost ≡ lostBy t (e .0) (h .0) k → count .0 ≡ blocksOf t (h .0)
     → record { displaced = true; room = e; lost = lost; heading = h; count = count } ≡ met t f k free
-met-entry t f k free e h lost count q a b n = rw (q, b, n, ← a)
+met-entry t f k free e h lost count q a b n = rw (q, b, ← a, ← n)
 
 -- ---- what the paper asks
 
@@ -85,6 +85,6 @@ module _ (t : List ℕ) (fit : sized t ≡ true) (right : sound t ≡ true) wher
     placed-settled m F.nowhere q z = refl
 
   -- few text records are cleared
-  pub met-few : (hd : Holder) (name : List ℕ) (f : F.Found) (k free : ℕ) → find t hd name ≡ f → met t (foundShown f) k free .count ≤ 1000
+  pub met-few : (hd : Holder) (name : List ℕ) (f : F.Found) (k free : ℕ) → find t hd name ≡ f → met t (foundShown f) k free .count .0 ≤ 1000
   met-few hd name (F.at e) k free q = found-few hd name e q
   met-few hd name F.nowhere k free q = omega arith

@@ -29,10 +29,10 @@ met t (At e) k free =
       room = e;
       lost = lostBy t (e .0) (headingNamed (rec t (e .0))) k;
       heading = record { 0 = headingNamed (rec t (e .0)) };
-      count = blocksOf t (headingNamed (rec t (e .0)));
+      count = record { 0 = blocksOf t (headingNamed (rec t (e .0))) };
     }
 met t Nowhere k free =
-    record { displaced = false; room = record { 0 = free }; lost = false; heading = record { 0 = 0 }; count = 0 }
+    record { displaced = false; room = record { 0 = free }; lost = false; heading = record { 0 = 0 }; count = record { 0 = 0 } }
 
 -- "file losing its last entry is a directory with entries"
 abbrev pub losingBy : List ℕ → Meets → Bool
@@ -53,4 +53,4 @@ refusalShown (refused f) = record { number = f .number; place = f .place }
 
 -- the entry's store, and the file that it takes the last entry from cleared: its text records are listed in r
 abbrev pub entryStores : Meets → List ℕ → List ℕ → List Store
-entryStores m entry r = puts (m .room .0) entry ∷ cond (m .lost) (clearStores (m .heading .0) r (m .count)) []
+entryStores m entry r = puts (m .room .0) entry ∷ cond (m .lost) (clearStores (m .heading .0) r (m .count .0)) []

@@ -8,6 +8,7 @@ use records::entry::Holder;
 use records::entry::heading_named;
 use records::heading::is_directory;
 use records::heading::text_length;
+use records::text::Text;
 use scans::Found;
 use scans::count_free;
 use scans::is_full;
@@ -29,7 +30,7 @@ pub struct Meets {
     pub room: Room,
     pub lost: bool,
     pub heading: Room,
-    pub count: usize,
+    pub count: Room,
 }
 
 // A number and its place, or 0 and 0.
@@ -58,12 +59,12 @@ pub fn meet(table: &[u8], found: Found, named: Room, free: Room) -> Meets
             room: free,
             lost: false,
             heading: Room(0),
-            count: 0,
+            count: Room(0),
         };
     };
     let heading = heading_named(table, entry);
     let lost = is_lost(table, entry, heading, named);
-    let count = blocks(text_length(table, heading)).0;
+    let count = blocks(text_length(table, heading));
     Meets {
         displaced: true,
         room: entry,
@@ -134,9 +135,9 @@ pub fn entry_refusal(
 // The entry's store, and then the file lost with the entry that it displaces: its text records are listed in `texts`.
 pub fn place_entry(
     table: &mut [u8],
-    entry: [u8; 32],
+    entry: [u8; Room::SIZE],
     meets: Meets,
-    texts: &[u16; 1000],
+    texts: &[u16; Text::MOST],
     left: usize,
 ) -> usize
     ensures { λ r. ⌜ Made (now (table .entry)) (now (table .exit)) left r (entryStores meets entry (now (texts .entry))) ⌝ }

@@ -35,7 +35,7 @@ returns-2 c =
     let a = start .args in
     let f = at-found .found .given in
     let h = c .before .before .before .heading-named in
-    met-entry (a .table .now) (a .found) (a .named .0) (a .free .0) (f .0 .0) (h .result) (c .before .before .is-lost .result) (c .blocks2 .result .0)
+    met-entry (a .table .now) (a .found) (a .named .0) (a .free .0) (f .0 .0) (h .result) (c .before .before .is-lost .result) (c .blocks2 .result)
     (f .1) (h .ensures .0) (c .before .before .is-lost .ensures) (c .blocks2 .ensures ∙ ap blocks (c .before .text-length .ensures .0))
 
 pub meet-spec : {M : Type 1} → statement M
