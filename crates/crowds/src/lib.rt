@@ -73,7 +73,8 @@ fn are_beside(t: &[u8], i: usize, k: usize) -> bool
 
 // One more than the last entry before entry i in its place, or 0: a walk through its bucket.
 fn last_beside(t: &[u8], next: &[u16; Room::MOST], i: usize, first: usize) -> usize
-    requires { ⌜ (i < rooms (now t)) × (length (now t) ≤ 65536) × (first ≡ lastIn placeOf (now t) (placeOf (rec (now t) i)) i) × Linked placeOf (now t) (now next) i ⌝ }
+    requires { ⌜ (i < rooms (now t)) × (length (now t) ≤ 65536) × (first ≡ lastIn placeOf (now t) (placeOf (rec (now t) i)) i)
+        × Linked placeOf (now t) (now next) i ⌝ }
     ensures { λ r. ⌜ (r ≡ lastBelow (besideTo (now (t .entry)) i) i) × (r ≤ i) ⌝ }
 {
     let mut c = first;
@@ -88,7 +89,8 @@ fn last_beside(t: &[u8], next: &[u16; Room::MOST], i: usize, first: usize) -> us
 
 // The number of entry i in its place, from the last entry there.
 fn rank_of(t: &[u8], rank: &[u8; Room::MOST], i: usize, last: usize) -> usize
-    requires { ⌜ (i < rooms (now t)) × (length (now t) ≤ 65536) × (isKind 2 (rec (now t) i) ≡ true) × Ranked (now t) (now rank) i × (last ≡ lastBelow (besideTo (now t) i) i) × (last ≤ i) ⌝ }
+    requires { ⌜ (i < rooms (now t)) × (length (now t) ≤ 65536) × (isKind 2 (rec (now t) i) ≡ true) × Ranked (now t) (now rank) i
+        × (last ≡ lastBelow (besideTo (now t) i) i) × (last ≤ i) ⌝ }
     ensures { λ r. ⌜ r ≡ rankOf (now (t .entry)) i ⌝ }
 {
     if last == 0 {
@@ -117,7 +119,9 @@ fn crowd_turn(
     i: usize,
 ) -> bool
     requires { ⌜ (i < rooms (now t)) × (length (now t) ≤ 65536) × Chains placeOf (now t) (now head) (now next) i × Ranked (now t) (now rank) i ⌝ }
-    ensures { λ r. ⌜ (r ≡ roomy (now (t .entry)) i) × (r ≡ true → Chains placeOf (now (t .entry)) (now (head .exit)) (now (next .exit)) (i + 1) × Ranked (now (t .entry)) (now (rank .exit)) (i + 1)) ⌝ }
+    ensures { λ r. ⌜ (r ≡ roomy (now (t .entry)) i)
+        × (r ≡ true → Chains placeOf (now (t .entry)) (now (head .exit)) (now (next .exit)) (i + 1) × Ranked (now (t .entry))
+        (now (rank .exit)) (i + 1)) ⌝ }
 {
     if byte_of(t, i, Room::KIND) != Entry::KIND as usize {
         return true;

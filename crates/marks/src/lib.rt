@@ -107,7 +107,8 @@ fn text_of(t: &[u8], gone: &[u8; Room::MOST], i: usize) -> usize
 // Whether no file is too long and there is as much text as the headings ask for; if so, each record's first slot is laid down.
 fn lay_out(t: &[u8], gone: &[u8; Room::MOST], start: &mut [u16; Room::MOST]) -> bool
     requires { ⌜ (length (now t) % 32 ≡ 0) × (length (now t) ≤ 65536) × (length (now start) ≡ 2048) ⌝ }
-    ensures { λ r. ⌜ (r ≡ false → textSound (without (now (gone .entry)) (now (t .entry))) ≡ false) × (r ≡ true → Laid (without (now (gone .entry)) (now (t .entry))) (now (start .exit))) ⌝ }
+    ensures { λ r. ⌜ (r ≡ false → textSound (without (now (gone .entry)) (now (t .entry))) ≡ false)
+        × (r ≡ true → Laid (without (now (gone .entry)) (now (t .entry))) (now (start .exit))) ⌝ }
 {
     let n = t.len() / Room::SIZE;
     let mut sum: usize = 0;
@@ -154,7 +155,10 @@ fn mark_turn(
     i: usize,
 ) -> bool
     requires { ⌜ (i < rooms (now t)) × Laid (without (now gone) (now t)) (now start) ⌝ }
-    ensures { λ r. ⌜ (r ≡ fresh (without (now (gone .entry)) (now (t .entry))) (now (mark .entry)) i) × (now (mark .exit) ≡ cond (fresh (without (now (gone .entry)) (now (t .entry))) (now (mark .entry)) i && isKind 3 (rec (without (now (gone .entry)) (now (t .entry))) i)) (set (now (mark .entry)) (slotOf (without (now (gone .entry)) (now (t .entry))) i) 1) (now (mark .entry))) ⌝ }
+    ensures { λ r. ⌜ (r ≡ fresh (without (now (gone .entry)) (now (t .entry))) (now (mark .entry)) i)
+        × (now (mark .exit) ≡ cond (fresh (without (now (gone .entry)) (now (t .entry))) (now (mark .entry)) i && isKind 3
+        (rec (without (now (gone .entry)) (now (t .entry))) i))
+        (set (now (mark .entry)) (slotOf (without (now (gone .entry)) (now (t .entry))) i) 1) (now (mark .entry))) ⌝ }
 {
     if !is_text(t, gone, i) {
         return true;
@@ -195,7 +199,8 @@ fn mark_all(
 // Whether the table is sized and, without the records that go, its text is sound: each simple file has its text whole, and there
 // is no other.
 pub fn text_is_sound(t: &[u8], gone: &[u8; Room::MOST]) -> bool
-    ensures { λ r. ⌜ r ≡ (sized (now (t .entry)) && (textsWhole (without (now (gone .entry)) (now (t .entry))) && noOtherText (without (now (gone .entry)) (now (t .entry))))) ⌝ }
+    ensures { λ r. ⌜ r ≡ (sized (now (t .entry)) && (textsWhole (without (now (gone .entry)) (now (t .entry))) && noOtherText
+        (without (now (gone .entry)) (now (t .entry))))) ⌝ }
 {
     if !is_sized(t) {
         return false;
@@ -211,7 +216,8 @@ pub fn text_is_sound(t: &[u8], gone: &[u8; Room::MOST]) -> bool
 // If record i is an entry that names a record a table may have, that record is marked.
 fn name_turn(t: &[u8], mark: &mut [u8; Room::MOST], i: usize)
     requires { ⌜ i < rooms (now t) ⌝ }
-    ensures { λ _. ⌜ now (mark .exit) ≡ cond (namesOne (now (t .entry)) i) (set (now (mark .entry)) (headingNamed (rec (now (t .entry)) i)) 1) (now (mark .entry)) ⌝ }
+    ensures { λ _. ⌜ now (mark .exit) ≡ cond (namesOne (now (t .entry)) i) (set (now (mark .entry)) (headingNamed (rec (now (t .entry)) i)) 1)
+        (now (mark .entry)) ⌝ }
 {
     if byte_of(t, i, Room::KIND) == Entry::KIND as usize {
         let h = two_of(t, i, Entry::HEADING);

@@ -67,14 +67,14 @@ pub fn record_at(table: &[u8], room: Room) -> &[u8]
 }
 
 // The byte at a place; past the end, 0.
-pub fn byte_at(s: &[u8], place: usize) -> u8
+fn byte_at(s: &[u8], place: usize) -> u8
     ensures { λ r. ⌜ r ≡ byte (now (s .entry)) place ⌝ }
 {
     if place < s.len() { s[place] } else { 0 }
 }
 
 // The two-byte number at a place, low byte first.
-pub fn two_at(s: &[u8], place: usize) -> u16
+fn two_at(s: &[u8], place: usize) -> u16
     ensures { λ r. ⌜ r ≡ two (now (s .entry)) place ⌝ }
 {
     if s.len() <= place {
@@ -86,7 +86,7 @@ pub fn two_at(s: &[u8], place: usize) -> u16
 }
 
 // The three-byte number at a place, low byte first.
-pub fn three_at(s: &[u8], place: usize) -> u32
+fn three_at(s: &[u8], place: usize) -> u32
     ensures { λ r. ⌜ r ≡ three (now (s .entry)) place ⌝ }
 {
     if s.len() <= place {

@@ -22,7 +22,7 @@ impl Code {
     }
 
     // Whether this code inhibits what the mask stands for.
-    pub fn inhibits(self, mask: u8) -> bool
+    fn inhibits(self, mask: u8) -> bool
         ensures { λ r. ⌜ r ≡ inhibits mask (self .0) ⌝ }
     {
         self.0 & mask != 0

@@ -65,7 +65,7 @@ impl Text {
     }
 }
 
-pub fn bytes_held(table: &[u8], room: Room) -> Bytes
+fn bytes_held(table: &[u8], room: Room) -> Bytes
     ensures { λ r. ⌜ (r .0 ≡ bytesHeld (rec (now (table .entry)) (room .0))) × (r .0 < 256) ⌝ }
 {
     Bytes(byte_of(table, room, Text::HELD) as usize)

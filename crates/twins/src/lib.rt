@@ -89,7 +89,8 @@ fn are_twins(t: &[u8], i: usize, k: usize) -> bool
 
 // Whether entry i has a twin before it: a walk through its bucket, from one more than the last entry there.
 fn twin_before(t: &[u8], next: &[u16; Room::MOST], i: usize, first: usize) -> bool
-    requires { ⌜ (i < rooms (now t)) × (length (now t) ≤ 65536) × (first ≡ lastIn hashOf (now t) (hashOf (rec (now t) i)) i) × Linked hashOf (now t) (now next) i ⌝ }
+    requires { ⌜ (i < rooms (now t)) × (length (now t) ≤ 65536) × (first ≡ lastIn hashOf (now t) (hashOf (rec (now t) i)) i)
+        × Linked hashOf (now t) (now next) i ⌝ }
     ensures { λ r. ⌜ r ≡ anyBelow (twinTo (now (t .entry)) i) i ⌝ }
 {
     let mut c = first;

@@ -15,8 +15,10 @@ two-of-requires-2 c κs = search needs
 
 returns : tie.Need-returns
 returns c =
-    let a = c .before .before .before .before .args in
-    sym (beside-not (rec (a .t .now) (a .i)) (rec (a .t .now) (a .k)) (λ q. c .if1 .taken (c .before .before .two-of .ensures .0 ∙ q ∙ sym (c .before .two-of2 .ensures .0))))
+    let c4 = c .before .before .before .before in
+    let a = c4 .args in
+    sym (beside-not (rec (a .t .now) (a .i)) (rec (a .t .now) (a .k))
+    (λ q. c .if1 .taken (c .before .before .two-of .ensures .0 ∙ q ∙ sym (c .before .two-of2 .ensures .0))))
 
 three-of-requires : tie.Need-three-of-requires
 three-of-requires c κs = search needs
@@ -26,8 +28,12 @@ three-of-requires-2 c κs = search needs
 
 returns-2 : tie.Need-returns-2
 returns-2 c =
-    let a = c .before .before .before .before .before .before .args in
-    sym (beside-user (rec (a .t .now) (a .i)) (rec (a .t .now) (a .k)) (c .before .before .before .before .before .before .pre .2) (sym (c .before .before .before .before .two-of .ensures .0) ∙ c .before .before .if1 .left ∙ c .before .before .before .two-of2 .ensures .0)
+    let c3 = c .before .before .before in
+    let c4 = c3 .before in
+    let c6 = c4 .before .before in
+    let a = c6 .args in
+    sym (beside-user (rec (a .t .now) (a .i)) (rec (a .t .now) (a .k)) (c6 .pre .2)
+    (sym (c4 .two-of .ensures .0) ∙ c .before .before .if1 .left ∙ c3 .two-of2 .ensures .0)
     ∙ rw (← c .three-of2 .ensures .0, ← c .before .three-of .ensures .0))
 
 pub are-beside-spec : {M : Type 1} → statement M

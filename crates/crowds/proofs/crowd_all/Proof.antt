@@ -14,7 +14,12 @@ use Rattle.crowds.proofs.crowd_all.Statement.{statement}
 use Rattle.crowds.proofs.crowd_all.Tie as tie
 
 abbrev Inv-loop : tie.InvT-loop
-Inv-loop t head₀ next₀ rank₀ n i₀ head next rank i = Chains placeOf t head next i × Ranked t rank i × ((j : ℕ) → j < i → roomy t j ≡ true) × (i ≤ n) × (n ≡ rooms t)
+Inv-loop t head₀ next₀ rank₀ n i₀ head next rank i =
+    Chains placeOf t head next i
+    × Ranked t rank i
+    × ((j : ℕ) → j < i → roomy t j ≡ true)
+    × (i ≤ n)
+    × (n ≡ rooms t)
 
 abbrev μ-loop : tie.MeasureT-loop
 μ-loop t head₀ next₀ rank₀ n i₀ head next rank i = n - i
@@ -23,12 +28,16 @@ loop-holds : tie.Need-loop-holds Inv-loop μ-loop
 loop-holds c = (c .before .pre .1, c .before .pre .2, below-none _, omega arith, refl)
 
 crowd-turn-requires : tie.Need-crowd-turn-requires Inv-loop μ-loop
-crowd-turn-requires c κs = (omega arith, omega arith, c .before .before .before .before .loop .inv .0, c .before .before .before .before .loop .inv .1)
+crowd-turn-requires c κs =
+    let c4 = c .before .before .before .before in
+    (omega arith, omega arith, c4 .loop .inv .0, c4 .loop .inv .1)
 
 returns : tie.Need-returns Inv-loop μ-loop
 returns c =
-    let l = c .before .before .before .before .before .before .loop in
-    sym (crowded-one (c .before .before .before .before .before .before .before .before .args .t .now) (l .i) (omega arith) (sym (c .before .crowd-turn .ensures .0) ∙ not-true _ (c .if1 .taken)))
+    let c6 = c .before .before .before .before .before .before in
+    let c8 = c6 .before .before in
+    let l = c6 .loop in
+    sym (crowded-one (c8 .args .t .now) (l .i) (omega arith) (sym (c .before .crowd-turn .ensures .0) ∙ not-true _ (c .if1 .taken)))
 
 add-i : tie.Need-add-i Inv-loop μ-loop
 add-i c = omega arith
@@ -38,9 +47,11 @@ loop-less c = omega arith
 
 loop-again : tie.Need-loop-again Inv-loop μ-loop
 loop-again c =
-    let l = c .before .before .before .before .before .before .loop in
+    let c6 = c .before .before .before .before .before .before in
+    let c8 = c6 .before .before in
+    let l = c6 .loop in
     let r : c .before .crowd-turn .result ≡ true = not-false _ (c .if1 .left) in
-    let e : roomy (c .before .before .before .before .before .before .before .before .args .t .now) (l .i) ≡ true = sym (c .before .crowd-turn .ensures .0) ∙ r in
+    let e : roomy (c8 .args .t .now) (l .i) ≡ true = sym (c .before .crowd-turn .ensures .0) ∙ r in
     let z = c .before .crowd-turn .ensures .1 r in
     (z .0, z .1, below-more _ _ (l .inv .2) e, omega arith, refl)
 

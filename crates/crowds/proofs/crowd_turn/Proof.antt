@@ -23,11 +23,18 @@ cast-if1 c = search needs
 
 returns : tie.Need-returns
 returns c =
-    let a = c .before .before .before in
+    let c3 = c .before .before .before in
+    let a = c3 in
     let t = a .args .t .now in
     let k : isKind 2 (rec t (a .args .i)) ≡ false = rw (← c .before .byte-of .ensures .0) (ne-eqb _ _ (c .if1 .taken)) in
-    let e : roomy t (a .args .i) ≡ true = rw k in
-    (sym e, λ f. (chains-other placeOf t (a .args .head .now) (a .args .next .now) (a .args .i) (a .pre .2) k, ranked-other t (a .args .rank .now) (a .args .i) (a .pre .3) k))
+    let e : roomy t (a .args .i) ≡ true = rw k in (
+      sym e,
+      λ f. (
+        chains-other placeOf t (a .args .head .now) (a .args .next .now) (a .args .i) (a .pre .2) k,
+        ranked-other t (a .args .rank .now)
+            (a .args .i) (a .pre .3) k,
+      ),
+    )
 
 place-of-requires : tie.Need-place-of-requires
 place-of-requires c κs = search needs
@@ -43,27 +50,43 @@ wide16-requires c κs = search needs
 
 last-beside-requires : tie.Need-last-beside-requires
 last-beside-requires c κs =
-    let a = c .before .before .before .before .before .before .before in
+    let c3 = c .before .before .before in
+    let c7 = c3 .before .before .before .before in
+    let a = c7 in
     let t = a .args .t .now in (
       omega arith,
       omega arith,
-      c .wide16 .ensures .0 ∙ a .pre .2 .heads (c .before .before .before .place-of .result) (omega arith) ∙ ap (λ b. lastIn placeOf t b (a .args .i)) (c .before .before .before .place-of .ensures .0),
+      c .wide16 .ensures .0 ∙ a .pre .2 .heads (c3 .place-of .result) (omega arith) ∙ ap (λ b. lastIn placeOf t b (a .args .i)) (c3 .place-of .ensures .0),
       a .pre .2 .nexts,
     )
 
 rank-of-requires : tie.Need-rank-of-requires
 rank-of-requires c κs =
-    let a = c .before .before .before .before .before .before .before .before .before in
-    (omega arith, omega arith, rw (← c .before .before .before .before .before .before .before .byte-of .ensures .0) (eq-eqb _ _ (c .before .before .before .before .before .before .if1 .left)), a .pre .3, c .before .last-beside .ensures .0, c .before .last-beside .ensures .1)
+    let c6 = c .before .before .before .before .before .before in
+    let c7 = c6 .before in
+    let c9 = c7 .before .before in
+    let a = c9 in (
+      omega arith,
+      omega arith,
+      rw (← c7 .byte-of .ensures .0)
+          (eq-eqb _ _ (c6 .if1 .left)),
+      a .pre .3,
+      c .before .last-beside .ensures .0,
+      c .before .last-beside .ensures .1,
+    )
 
 limit-of-requires : tie.Need-limit-of-requires
 limit-of-requires c κs = search needs
 
 returns-2 : tie.Need-returns-2
 returns-2 c =
-    let a = c .before .before .before .before .before .before .before .before .before .before .before .before in
+    let c8 = c .before .before .before .before .before .before .before .before in
+    let c9 = c8 .before in
+    let c10 = c9 .before in
+    let c12 = c10 .before .before in
+    let a = c12 in
     let t = a .args .t .now in
-    let k : isKind 2 (rec t (a .args .i)) ≡ true = rw (← c .before .before .before .before .before .before .before .before .before .before .byte-of .ensures .0) (eq-eqb _ _ (c .before .before .before .before .before .before .before .before .before .if1 .left)) in
+    let k : isKind 2 (rec t (a .args .i)) ≡ true = rw (← c10 .byte-of .ensures .0) (eq-eqb _ _ (c9 .if1 .left)) in
     let e : roomy t (a .args .i) ≡ false = rw (k, lt-leb (rankOf t (a .args .i)) (limit (holder (rec t (a .args .i)))) (omega arith)) in
     (sym e, λ f. absurd (true≢false (sym f)))
 
@@ -93,13 +116,18 @@ element-write-head c = search needs
 
 returns-3 : tie.Need-returns-3
 returns-3 c =
-    let a = c .before .before .before .before .before .before .before .before .before .before .before .before in
+    let c8 = c .before .before .before .before .before .before .before .before in
+    let c9 = c8 .before in
+    let c10 = c9 .before in
+    let c12 = c10 .before .before in
+    let a = c12 in
     let t = a .args .t .now in
-    let k : isKind 2 (rec t (a .args .i)) ≡ true = rw (← c .before .before .before .before .before .before .before .before .before .before .byte-of .ensures .0) (eq-eqb _ _ (c .before .before .before .before .before .before .before .before .before .if1 .left)) in
+    let k : isKind 2 (rec t (a .args .i)) ≡ true = rw (← c10 .byte-of .ensures .0) (eq-eqb _ _ (c9 .if1 .left)) in
     let e : roomy t (a .args .i) ≡ true = rw (k, le-leb (rankOf t (a .args .i)) (limit (holder (rec t (a .args .i)))) (omega arith)) in (
       sym e,
       λ f. (
-        rw (c .before .before .before .before .before .before .before .before .place-of .ensures .0) (chains-entry placeOf t (a .args .head .now) (a .args .next .now) (a .args .i) (a .pre .2) (bucket-below (rec t (a .args .i))) (omega arith) k),
+        rw (c8 .place-of .ensures .0) (chains-entry placeOf t (a .args .head .now) (a .args .next .now) (a .args .i) (a .pre .2)
+            (bucket-below (rec t (a .args .i))) (omega arith) k),
         ranked-entry t (a .args .rank .now) (a .args .i) (a .pre .3) (omega arith) (c .before .before .rank-of .result) (c .before .before .rank-of .ensures),
       ),
     )

@@ -25,8 +25,10 @@ are-beside-requires c κs = (omega arith, omega arith, c .before .loop .inv .her
 
 returns : tie.Need-returns Inv-loop μ-loop
 returns c =
-    let a = c .before .before .before .before .before in
-    let l = c .before .before .before .loop in
+    let c3 = c .before .before .before in
+    let c5 = c3 .before .before in
+    let a = c5 in
+    let l = c3 .loop in
     (sym (beside-found (a .args .t .now) (a .args .i) (l .c) (l .inv) (omega arith) (sym (c .before .are-beside .ensures) ∙ c .if1 .taken)), omega arith)
 
 sub-wide16 : tie.Need-sub-wide16 Inv-loop μ-loop
@@ -43,15 +45,23 @@ wide16-requires c κs = omega arith
 
 loop-less : tie.Need-loop-less Inv-loop μ-loop
 loop-less c =
-    let a = c .before .before .before .before .before .before .before in
-    let l = c .before .before .before .before .before .loop in
-    beside-on (a .args .t .now) (a .args .i) (l .c) (l .inv) (a .args .next .now) (c .wide16 .result) (omega arith) (sym (c .before .before .before .are-beside .ensures) ∙ c .before .before .if1 .left) (a .pre .3) (c .wide16 .ensures .0) .1
+    let c3 = c .before .before .before in
+    let c5 = c3 .before .before in
+    let c7 = c5 .before .before in
+    let a = c7 in
+    let l = c5 .loop in
+    beside-on (a .args .t .now) (a .args .i) (l .c) (l .inv) (a .args .next .now) (c .wide16 .result) (omega arith)
+    (sym (c3 .are-beside .ensures) ∙ c .before .before .if1 .left) (a .pre .3) (c .wide16 .ensures .0) .1
 
 loop-again : tie.Need-loop-again Inv-loop μ-loop
 loop-again c =
-    let a = c .before .before .before .before .before .before .before in
-    let l = c .before .before .before .before .before .loop in
-    beside-on (a .args .t .now) (a .args .i) (l .c) (l .inv) (a .args .next .now) (c .wide16 .result) (omega arith) (sym (c .before .before .before .are-beside .ensures) ∙ c .before .before .if1 .left) (a .pre .3) (c .wide16 .ensures .0) .0
+    let c3 = c .before .before .before in
+    let c5 = c3 .before .before in
+    let c7 = c5 .before .before in
+    let a = c7 in
+    let l = c5 .loop in
+    beside-on (a .args .t .now) (a .args .i) (l .c) (l .inv) (a .args .next .now) (c .wide16 .result) (omega arith)
+    (sym (c3 .are-beside .ensures) ∙ c .before .before .if1 .left) (a .pre .3) (c .wide16 .ensures .0) .0
 
 returns-2 : tie.Need-returns-2 Inv-loop μ-loop
 returns-2 c =

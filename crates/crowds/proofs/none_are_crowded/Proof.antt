@@ -19,15 +19,25 @@ is-sized-requires : tie.Need-is-sized-requires
 is-sized-requires c κs = search needs
 
 returns : tie.Need-returns
-returns c = sym (and-no-left (sized (c .before .before .before .args .t .now)) (noneCrowded (c .before .before .before .args .t .now)) (sym (c .before .is-sized .ensures) ∙ not-true _ (c .if1 .taken)))
+returns c =
+    let c3 = c .before .before .before in
+    sym (and-no-left (sized (c3 .args .t .now)) (noneCrowded (c3 .args .t .now)) (sym (c .before .is-sized .ensures) ∙ not-true _ (c .if1 .taken)))
 
 crowd-all-requires : tie.Need-crowd-all-requires
 crowd-all-requires c κs =
-    let e = sym (c .before .before .before .before .is-sized .ensures) ∙ not-false _ (c .before .before .before .if1 .left) in
-    (sized-whole (c .before .before .before .before .before .before .args .t .now) e .1, chains-none placeOf _ _ _ refl refl (λ s l. getD-replicate 2048 s 0 0 l), ranked-none _ _ refl)
+    let c3 = c .before .before .before in
+    let c4 = c3 .before in
+    let c6 = c4 .before .before in
+    let e = sym (c4 .is-sized .ensures) ∙ not-false _ (c3 .if1 .left) in
+    (sized-whole (c6 .args .t .now) e .1, chains-none placeOf _ _ _ refl refl (λ s l. getD-replicate 2048 s 0 0 l), ranked-none _ _ refl)
 
 returns-2 : tie.Need-returns-2
-returns-2 c = c .crowd-all .ensures ∙ sym (and-past (sized (c .before .before .before .before .before .before .before .args .t .now)) (noneCrowded (c .before .before .before .before .before .before .before .args .t .now)) (sym (c .before .before .before .before .before .is-sized .ensures) ∙ not-false _ (c .before .before .before .before .if1 .left)))
+returns-2 c =
+    let c4 = c .before .before .before .before in
+    let c5 = c4 .before in
+    let c7 = c5 .before .before in
+    c .crowd-all .ensures ∙ sym (and-past (sized (c7 .args .t .now)) (noneCrowded (c7 .args .t .now))
+    (sym (c5 .is-sized .ensures) ∙ not-false _ (c4 .if1 .left)))
 
 pub none-are-crowded-spec : {M : Type 1} → statement M
 none-are-crowded-spec = tie.close (tie.spec is-sized-requires returns crowd-all-requires returns-2)

@@ -27,8 +27,10 @@ add-result c = search needs
 
 returns-2 : tie.Need-returns-2
 returns-2 c =
-    let a = c .before .before .before .before in
-    ap (λ m. m + 1) (c .wide .ensures .0) ∙ sym (rank-next (a .args .t .now) (a .args .rank .now) (a .args .i) (a .args .last) (a .pre .3) (a .pre .2) (a .pre .4) (omega arith))
+    let c4 = c .before .before .before .before in
+    let a = c4 in
+    ap (λ m. m + 1) (c .wide .ensures .0) ∙ sym
+    (rank-next (a .args .t .now) (a .args .rank .now) (a .args .i) (a .args .last) (a .pre .3) (a .pre .2) (a .pre .4) (omega arith))
 
 pub rank-of-spec : {M : Type 1} → statement M
 rank-of-spec =

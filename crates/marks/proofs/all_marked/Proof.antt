@@ -28,9 +28,12 @@ heading-marked-requires c κs = (omega arith, omega arith, omega arith, c .befor
 
 returns : tie.Need-returns Inv-loop μ-loop
 returns c =
-    let l = c .before .before .before .loop in
-    let a = c .before .before .before .before .before .args in
-    sym (one-bare (without (a .gone .now) (a .t .now)) (l .i) (rw (rooms-without (a .gone .now) (a .t .now)) (omega arith)) (sym (c .before .heading-marked .ensures) ∙ not-true _ (c .if1 .taken)))
+    let c3 = c .before .before .before in
+    let c5 = c3 .before .before in
+    let l = c3 .loop in
+    let a = c5 .args in
+    sym (one-bare (without (a .gone .now) (a .t .now)) (l .i) (rw (rooms-without (a .gone .now) (a .t .now)) (omega arith))
+    (sym (c .before .heading-marked .ensures) ∙ not-true _ (c .if1 .taken)))
 
 add-i : tie.Need-add-i Inv-loop μ-loop
 add-i c = omega arith

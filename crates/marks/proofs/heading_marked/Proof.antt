@@ -25,17 +25,35 @@ element-copy-out-if2 c = omega arith
 
 returns-2 : tie.Need-returns-2
 returns-2 c =
-    let a = c .before .before .before .before .before in
-    rw (heading-without (a .args .gone .now) (a .args .t .now) (a .pre .1) (a .args .i), ← c .before .before .before .byte-of .ensures .0, c .before .before .if1 .left, ne-eqb _ _ (c .if2 .taken))
+    let c3 = c .before .before .before in
+    let c5 = c3 .before .before in
+    let a = c5 in
+    rw (
+      heading-without (a .args .gone .now) (a .args .t .now) (a .pre .1)
+          (a .args .i),
+      ← c3 .byte-of .ensures .0,
+      c .before .before .if1 .left,
+      ne-eqb _ _ (c .if2 .taken),
+    )
 
 element-copy-out-result : tie.Need-element-copy-out-result
 element-copy-out-result c = omega arith
 
 returns-3 : tie.Need-returns-3
 returns-3 c =
-    let a = c .before .before .before .before .before .before in
+    let c3 = c .before .before .before in
+    let c4 = c3 .before in
+    let c6 = c4 .before .before in
+    let a = c6 in
     mark-tells (a .args .t .now) (a .args .mark .now) (a .pre .3) (a .args .i) (omega arith)
-    ∙ rw (heading-without (a .args .gone .now) (a .args .t .now) (a .pre .1) (a .args .i), ← c .before .before .before .before .byte-of .ensures .0, c .before .before .before .if1 .left, c .before .if2 .left, named-without (a .args .gone .now) (a .args .t .now) (a .args .i))
+    ∙ rw (
+      heading-without (a .args .gone .now) (a .args .t .now) (a .pre .1)
+          (a .args .i),
+      ← c4 .byte-of .ensures .0,
+      c3 .if1 .left,
+      c .before .if2 .left,
+      named-without (a .args .gone .now) (a .args .t .now) (a .args .i),
+    )
 
 pub heading-marked-spec : {M : Type 1} → statement M
 heading-marked-spec =

@@ -17,7 +17,10 @@ is-sized-requires : tie.Need-is-sized-requires
 is-sized-requires c κs = search needs
 
 returns : tie.Need-returns
-returns c = sym (and-no-left (sized (c .before .before .before .args .t .now)) (allNamed (without (c .before .before .before .args .gone .now) (c .before .before .before .args .t .now))) (sym (c .before .is-sized .ensures) ∙ not-true _ (c .if1 .taken)))
+returns c =
+    let c3 = c .before .before .before in
+    sym (and-no-left (sized (c3 .args .t .now)) (allNamed (without (c3 .args .gone .now) (c3 .args .t .now)))
+    (sym (c .before .is-sized .ensures) ∙ not-true _ (c .if1 .taken)))
 
 mark-named-requires : tie.Need-mark-named-requires
 mark-named-requires c κs = (refl, λ s l. getD-replicate 2048 s 0 0 l)
@@ -29,7 +32,12 @@ all-marked-requires c κs =
     (w .0, w .1, c .before .mark-named .ensures .0)
 
 returns-2 : tie.Need-returns-2
-returns-2 c = c .all-marked .ensures ∙ sym (and-past (sized (c .before .before .before .before .before .before .before .args .t .now)) (allNamed (without (c .before .before .before .before .before .before .before .args .gone .now) (c .before .before .before .before .before .before .before .args .t .now))) (sym (c .before .before .before .before .before .is-sized .ensures) ∙ not-false _ (c .before .before .before .before .if1 .left)))
+returns-2 c =
+    let c4 = c .before .before .before .before in
+    let c5 = c4 .before in
+    let c7 = c5 .before .before in
+    c .all-marked .ensures ∙ sym (and-past (sized (c7 .args .t .now)) (allNamed (without (c7 .args .gone .now) (c7 .args .t .now)))
+    (sym (c5 .is-sized .ensures) ∙ not-false _ (c4 .if1 .left)))
 
 pub headings-are-named-spec : {M : Type 1} → statement M
 headings-are-named-spec =

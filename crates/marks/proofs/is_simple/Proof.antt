@@ -27,16 +27,23 @@ cast-if2 c = search needs
 
 returns-2 : tie.Need-returns-2
 returns-2 c =
-    let a = c .before .before .before .before .before .args in
-    sym (simple-without (a .gone .now) (a .t .now) (omega arith) (a .i) ∙ rw (← c .before .before .before .byte-of .ensures .0, c .before .before .if1 .left, ← c .before .byte-of2 .ensures .0, ne-eqb _ _ (c .if2 .taken)))
+    let c3 = c .before .before .before in
+    let c5 = c3 .before .before in
+    let a = c5 .args in
+    sym (simple-without (a .gone .now) (a .t .now) (omega arith) (a .i) ∙ rw
+    (← c3 .byte-of .ensures .0, c .before .before .if1 .left, ← c .before .byte-of2 .ensures .0, ne-eqb _ _ (c .if2 .taken)))
 
 element-copy-out-result : tie.Need-element-copy-out-result
 element-copy-out-result c = omega arith
 
 returns-3 : tie.Need-returns-3
 returns-3 c =
-    let a = c .before .before .before .before .before .before .args in
-    sym (simple-without (a .gone .now) (a .t .now) (omega arith) (a .i) ∙ rw (← c .before .before .before .before .byte-of .ensures .0, c .before .before .before .if1 .left, ← c .before .before .byte-of2 .ensures .0, c .before .if2 .left))
+    let c3 = c .before .before .before in
+    let c4 = c3 .before in
+    let c6 = c4 .before .before in
+    let a = c6 .args in
+    sym (simple-without (a .gone .now) (a .t .now) (omega arith) (a .i) ∙ rw
+    (← c4 .byte-of .ensures .0, c3 .if1 .left, ← c .before .before .byte-of2 .ensures .0, c .before .if2 .left))
 
 pub is-simple-spec : {M : Type 1} → statement M
 is-simple-spec =

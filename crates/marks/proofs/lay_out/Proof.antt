@@ -21,7 +21,16 @@ use Rattle.marks.proofs.lay_out.Statement.{statement}
 use Rattle.marks.proofs.lay_out.Tie as tie
 
 abbrev Inv-loop : tie.InvT-loop
-Inv-loop t gone start₀ n sum₀ count₀ i₀ start sum count i = (sum ≡ starts (without gone t) i) × (count ≡ texts (without gone t) i) × (sum ≤ n) × (i ≤ n) × (n ≡ rooms t) × (count ≤ i) × (length start ≡ 2048) × ((h : ℕ) → h < i → getD start h 0 ≡ starts (without gone t) h) × ((h : ℕ) → h < i → shortAt (without gone t) h ≡ true)
+Inv-loop t gone start₀ n sum₀ count₀ i₀ start sum count i =
+    (sum ≡ starts (without gone t) i)
+    × (count ≡ texts (without gone t) i)
+    × (sum ≤ n)
+    × (i ≤ n)
+    × (n ≡ rooms t)
+    × (count ≤ i)
+    × (length start ≡ 2048)
+    × ((h : ℕ) → h < i → getD start h 0 ≡ starts (without gone t) h)
+    × ((h : ℕ) → h < i → shortAt (without gone t) h ≡ true)
 
 abbrev μ-loop : tie.MeasureT-loop
 μ-loop t gone start₀ n sum₀ count₀ i₀ start sum count i = n - i
@@ -47,11 +56,16 @@ is-short-requires c κs = (omega arith, omega arith, omega arith)
 
 returns : tie.Need-returns Inv-loop μ-loop
 returns c =
-    let g = c .before .before .before .before .before .args in
+    let c3 = c .before .before .before in
+    let c5 = c3 .before .before in
+    let g = c5 .args in
     let t = without (g .gone .now) (g .t .now) in
     let q : rooms t ≡ rooms (g .t .now) = rooms-without (g .gone .now) (g .t .now) in
-    let i = c .before .before .before .loop .i in
-    (λ f. sound-not-long t (whole-without (g .gone .now) (g .t .now) (omega arith)) i (omega arith) (sym (c .before .is-short .ensures) ∙ not-true _ (c .if1 .taken)), λ f. absurd (true≢false (sym f)))
+    let i = c3 .loop .i in (
+      λ f. sound-not-long t (whole-without (g .gone .now) (g .t .now) (omega arith)) i (omega arith)
+          (sym (c .before .is-short .ensures) ∙ not-true _ (c .if1 .taken)),
+      λ f. absurd (true≢false (sym f)),
+    )
 
 weight-of-requires : tie.Need-weight-of-requires Inv-loop μ-loop
 weight-of-requires c κs = (omega arith, omega arith, omega arith)
@@ -61,14 +75,19 @@ add-sum c = omega arith
 
 returns-2 : tie.Need-returns-2 Inv-loop μ-loop
 returns-2 c =
-    let g = c .before .before .before .before .before .before .before .args in
+    let c5 = c .before .before .before .before .before in
+    let c7 = c5 .before .before in
+    let g = c7 .args in
     let t = without (g .gone .now) (g .t .now) in
     let q : rooms t ≡ rooms (g .t .now) = rooms-without (g .gone .now) (g .t .now) in
-    let i = c .before .before .before .before .before .loop .i in
+    let i = c5 .loop .i in
     let a = starts-more t i in
     let b = starts-up t (i + 1) (rooms t) (omega arith) in
-    let d = texts-most t (rooms t) in
-    (λ f. sound-not-apart t (whole-without (g .gone .now) (g .t .now) (omega arith)) (λ (e : texts t (rooms t) ≡ starts t (rooms t)). omega (arith, q)), λ f. absurd (true≢false (sym f)))
+    let d = texts-most t (rooms t) in (
+      λ f. sound-not-apart t (whole-without (g .gone .now) (g .t .now) (omega arith))
+          (λ (e : texts t (rooms t) ≡ starts t (rooms t)). omega (arith, q)),
+      λ f. absurd (true≢false (sym f)),
+    )
 
 text-of-requires : tie.Need-text-of-requires Inv-loop μ-loop
 text-of-requires c κs = (omega arith, omega arith, omega arith)
@@ -84,11 +103,14 @@ loop-less c = omega arith
 
 loop-again : tie.Need-loop-again Inv-loop μ-loop
 loop-again c =
-    let a = c .before .before .before .before .before .before in
+    let c3 = c .before .before .before in
+    let c4 = c3 .before in
+    let c6 = c4 .before .before in
+    let a = c6 in
     let g = a .before .before .args in
     let t = without (g .gone .now) (g .t .now) in
     let q : rooms t ≡ rooms (g .t .now) = rooms-without (g .gone .now) (g .t .now) in
-    let y : shortAt t (a .loop .i) ≡ true = sym (c .before .before .before .before .is-short .ensures) ∙ not-false _ (c .before .before .before .if1 .left) in
+    let y : shortAt t (a .loop .i) ≡ true = sym (c4 .is-short .ensures) ∙ not-false _ (c3 .if1 .left) in
     let i = a .loop .i in
     let s = a .loop .start in
     let m = starts-more t i in

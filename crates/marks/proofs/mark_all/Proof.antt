@@ -28,9 +28,13 @@ mark-turn-requires c κs = (omega arith, c .before .before .before .before .pre 
 
 returns : tie.Need-returns Inv-loop μ-loop
 returns c =
-    let a = c .before .before .before .before .before .before in
-    let l = c .before .before .before .before .loop in
-    sym (mark-refused (without (a .args .gone .now) (a .args .t .now)) (a .args .start .now) (l .mark) (l .i) (a .pre .0) (rw (rooms-without (a .args .gone .now) (a .args .t .now)) (omega arith)) (l .inv .0) (sym (c .before .mark-turn .ensures .0) ∙ not-true _ (c .if1 .taken)))
+    let c4 = c .before .before .before .before in
+    let c6 = c4 .before .before in
+    let a = c6 in
+    let l = c4 .loop in
+    sym (mark-refused (without (a .args .gone .now) (a .args .t .now)) (a .args .start .now) (l .mark) (l .i) (a .pre .0)
+    (rw (rooms-without (a .args .gone .now) (a .args .t .now)) (omega arith)) (l .inv .0)
+    (sym (c .before .mark-turn .ensures .0) ∙ not-true _ (c .if1 .taken)))
 
 add-i : tie.Need-add-i Inv-loop μ-loop
 add-i c = omega arith
@@ -40,10 +44,14 @@ loop-less c = omega arith
 
 loop-again : tie.Need-loop-again Inv-loop μ-loop
 loop-again c =
-    let a = c .before .before .before .before .before .before in
-    let l = c .before .before .before .before .loop in
+    let c4 = c .before .before .before .before in
+    let c6 = c4 .before .before in
+    let a = c6 in
+    let l = c4 .loop in
     let m = c .before .mark-turn in (
-      mark-turned (without (a .args .gone .now) (a .args .t .now)) (a .args .start .now) (l .mark) (l .i) (a .pre .0) (rw (rooms-without (a .args .gone .now) (a .args .t .now)) (omega arith)) (l .inv .0) (m .last .1 .1 .1 .0) (l .inv .3) (sym (m .ensures .0) ∙ not-false _ (c .if1 .left)) (m .ensures .1),
+      mark-turned (without (a .args .gone .now) (a .args .t .now)) (a .args .start .now) (l .mark) (l .i) (a .pre .0)
+          (rw (rooms-without (a .args .gone .now) (a .args .t .now)) (omega arith)) (l .inv .0) (m .last .1 .1 .1 .0) (l .inv .3)
+          (sym (m .ensures .0) ∙ not-false _ (c .if1 .left)) (m .ensures .1),
       omega arith,
       refl,
       length-turned (without (a .args .gone .now) (a .args .t .now)) (l .mark) (m .last .1 .1 .1 .0) (l .i) (m .ensures .1) ∙ l .inv .3,
@@ -51,7 +59,8 @@ loop-again c =
 
 returns-2 : tie.Need-returns-2 Inv-loop μ-loop
 returns-2 c =
-    let a = c .before .before .before in
+    let c3 = c .before .before .before in
+    let a = c3 in
     let l = c .before .loop in
     let w = without (a .args .gone .now) (a .args .t .now) in
     let q : rooms w ≡ rooms (a .args .t .now) = rooms-without (a .args .gone .now) (a .args .t .now) in

@@ -36,8 +36,10 @@ is-text-requires c κs =
 
 returns : tie.Need-returns
 returns c =
-    let s = c .before .before .before in
-    turn-other (without (s .args .gone .now) (s .args .t .now)) (s .args .mark .now) (s .args .i) (sym (c .before .is-text .ensures) ∙ not-true _ (c .if1 .taken))
+    let c3 = c .before .before .before in
+    let s = c3 in
+    turn-other (without (s .args .gone .now) (s .args .t .now)) (s .args .mark .now) (s .args .i)
+    (sym (c .before .is-text .ensures) ∙ not-true _ (c .if1 .taken))
 
 two-of-requires : tie.Need-two-of-requires
 two-of-requires c κs = omega arith
@@ -50,21 +52,28 @@ in-place-requires c κs =
 
 returns-2 : tie.Need-returns-2
 returns-2 c =
-    let s = c .before .before .before .before .before .before in
+    let c3 = c .before .before .before in
+    let c4 = c3 .before in
+    let c6 = c4 .before .before in
+    let s = c6 in
     let w = without (s .args .gone .now) (s .args .t .now) in
     let q = length-without (s .args .gone .now) (s .args .t .now) in
-    let k : isKind 3 (rec w (s .args .i)) ≡ true = sym (c .before .before .before .before .is-text .ensures) ∙ not-false _ (c .before .before .before .if1 .left) in
-    let e : rec w (s .args .i) ≡ rec (s .args .t .now) (s .args .i) = text-kept (s .args .gone .now) (s .args .t .now) (rw (← q) (s .pre .1 .whole)) (s .args .i) k in
-    turn-misplaced w (s .args .mark .now) (s .args .i) k (rw (e, ← c .before .before .two-of .ensures .0, ← c .before .in-place .ensures) (not-true _ (c .if2 .taken)))
+    let k : isKind 3 (rec w (s .args .i)) ≡ true = sym (c4 .is-text .ensures) ∙ not-false _ (c3 .if1 .left) in
+    let e : rec w (s .args .i) ≡ rec (s .args .t .now) (s .args .i) = text-kept (s .args .gone .now) (s .args .t .now) (rw (← q) (s .pre .1 .whole))
+    (s .args .i) k in
+    turn-misplaced w (s .args .mark .now) (s .args .i) k
+    (rw (e, ← c .before .before .two-of .ensures .0, ← c .before .in-place .ensures) (not-true _ (c .if2 .taken)))
 
 mul-wide16 : tie.Need-mul-wide16
 mul-wide16 c = omega arith
 
 element-copy-out-wide16 : tie.Need-element-copy-out-wide16
 element-copy-out-wide16 c =
-    let s = c .before .before .before .before .before .before in
+    let c6 = c .before .before .before .before .before .before in
+    let s = c6 in
     let w = without (s .args .gone .now) (s .args .t .now) in
-    let e : inPlace (rec w (c .before .before .two-of .result)) (rec (s .args .t .now) (s .args .i)) ≡ true = rw (← c .before .in-place .ensures) (not-false _ (c .if2 .left)) in
+    let e : inPlace (rec w (c .before .before .two-of .result)) (rec (s .args .t .now) (s .args .i)) ≡ true = rw (← c .before .in-place .ensures)
+    (not-false _ (c .if2 .left)) in
     let l = place-below w (c .before .before .two-of .result) (rec (s .args .t .now) (s .args .i)) (s .pre .1 .whole) e in
     omega (arith, s .pre .1 .small)
 
@@ -79,38 +88,69 @@ add-s c = omega arith
 
 element-copy-out-if3 : tie.Need-element-copy-out-if3
 element-copy-out-if3 c =
-    let s = c .before .before .before .before .before .before .before .before .before in
-    let k = sym (c .before .before .before .before .before .before .before .is-text .ensures) ∙ not-false _ (c .before .before .before .before .before .before .if1 .left) in
-    let e = sym (c .before .before .before .before .in-place .ensures) ∙ not-false _ (c .before .before .before .if2 .left) in
-    slot (s .args .gone .now) (s .args .t .now) (s .args .start .now) (s .args .i) (c .before .before .before .before .before .two-of .result) _ _ (s .pre .1) k
-    (c .before .before .before .before .before .two-of .ensures .0) (c .two-of2 .ensures .0) e (c .before .wide16 .ensures .0) .1
+    let c3 = c .before .before .before in
+    let c4 = c3 .before in
+    let c5 = c4 .before in
+    let c6 = c5 .before in
+    let c7 = c6 .before in
+    let c9 = c7 .before .before in
+    let s = c9 in
+    let k = sym (c7 .is-text .ensures) ∙ not-false _ (c6 .if1 .left) in
+    let e = sym (c4 .in-place .ensures) ∙ not-false _ (c3 .if2 .left) in
+    slot (s .args .gone .now) (s .args .t .now) (s .args .start .now) (s .args .i) (c5 .two-of .result) _ _ (s .pre .1) k
+    (c5 .two-of .ensures .0) (c .two-of2 .ensures .0) e (c .before .wide16 .ensures .0) .1
 
 returns-3 : tie.Need-returns-3
 returns-3 c =
-    let s = c .before .before .before .before .before .before .before .before .before .before .before in
-    let k = sym (c .before .before .before .before .before .before .before .before .before .is-text .ensures) ∙ not-false _ (c .before .before .before .before .before .before .before .before .if1 .left) in
-    let e = sym (c .before .before .before .before .before .before .in-place .ensures) ∙ not-false _ (c .before .before .before .before .before .if2 .left) in
-    let z = slot (s .args .gone .now) (s .args .t .now) (s .args .start .now) (s .args .i) (c .before .before .before .before .before .before .before .two-of .result) (c .before .before .before .wide16 .result) (c .before .before .two-of2 .result) (s .pre .1) k
-    (c .before .before .before .before .before .before .before .two-of .ensures .0) (c .before .before .two-of2 .ensures .0) e (c .before .before .before .wide16 .ensures .0) in
+    let c3 = c .before .before .before in
+    let c5 = c3 .before .before in
+    let c6 = c5 .before in
+    let c7 = c6 .before in
+    let c8 = c7 .before in
+    let c9 = c8 .before in
+    let c11 = c9 .before .before in
+    let s = c11 in
+    let k = sym (c9 .is-text .ensures) ∙ not-false _ (c8 .if1 .left) in
+    let e = sym (c6 .in-place .ensures) ∙ not-false _ (c5 .if2 .left) in
+    let z = slot (s .args .gone .now) (s .args .t .now) (s .args .start .now) (s .args .i) (c7 .two-of .result) (c3 .wide16 .result)
+    (c .before .before .two-of2 .result) (s .pre .1) k
+    (c7 .two-of .ensures .0) (c .before .before .two-of2 .ensures .0) e (c3 .wide16 .ensures .0) in
     turn-twice (without (s .args .gone .now) (s .args .t .now)) (s .args .mark .now) (s .args .i) k (z .2) (rw (← (z .0)) (ne-eqb _ _ (c .if3 .taken)))
 
 element-write-mark : tie.Need-element-write-mark
 element-write-mark c =
-    let s = c .before .before .before .before .before .before .before .before .before .before .before in
-    let k = sym (c .before .before .before .before .before .before .before .before .before .is-text .ensures) ∙ not-false _ (c .before .before .before .before .before .before .before .before .if1 .left) in
-    let e = sym (c .before .before .before .before .before .before .in-place .ensures) ∙ not-false _ (c .before .before .before .before .before .if2 .left) in
-    let z = slot (s .args .gone .now) (s .args .t .now) (s .args .start .now) (s .args .i) (c .before .before .before .before .before .before .before .two-of .result) (c .before .before .before .wide16 .result) (c .before .before .two-of2 .result) (s .pre .1) k
-    (c .before .before .before .before .before .before .before .two-of .ensures .0) (c .before .before .two-of2 .ensures .0) e (c .before .before .before .wide16 .ensures .0) in
+    let c3 = c .before .before .before in
+    let c5 = c3 .before .before in
+    let c6 = c5 .before in
+    let c7 = c6 .before in
+    let c8 = c7 .before in
+    let c9 = c8 .before in
+    let c11 = c9 .before .before in
+    let s = c11 in
+    let k = sym (c9 .is-text .ensures) ∙ not-false _ (c8 .if1 .left) in
+    let e = sym (c6 .in-place .ensures) ∙ not-false _ (c5 .if2 .left) in
+    let z = slot (s .args .gone .now) (s .args .t .now) (s .args .start .now) (s .args .i) (c7 .two-of .result) (c3 .wide16 .result)
+    (c .before .before .two-of2 .result) (s .pre .1) k
+    (c7 .two-of .ensures .0) (c .before .before .two-of2 .ensures .0) e (c3 .wide16 .ensures .0) in
     z .1
 
 returns-4 : tie.Need-returns-4
 returns-4 c =
-    let s = c .before .before .before .before .before .before .before .before .before .before .before in
-    let k = sym (c .before .before .before .before .before .before .before .before .before .is-text .ensures) ∙ not-false _ (c .before .before .before .before .before .before .before .before .if1 .left) in
-    let e = sym (c .before .before .before .before .before .before .in-place .ensures) ∙ not-false _ (c .before .before .before .before .before .if2 .left) in
-    let z = slot (s .args .gone .now) (s .args .t .now) (s .args .start .now) (s .args .i) (c .before .before .before .before .before .before .before .two-of .result) (c .before .before .before .wide16 .result) (c .before .before .two-of2 .result) (s .pre .1) k
-    (c .before .before .before .before .before .before .before .two-of .ensures .0) (c .before .before .two-of2 .ensures .0) e (c .before .before .before .wide16 .ensures .0) in
-    let y = turn-marks (without (s .args .gone .now) (s .args .t .now)) (s .args .mark .now) (s .args .i) k (z .2) (rw (← (z .0)) (eq-eqb _ _ (c .if3 .left))) in
+    let c3 = c .before .before .before in
+    let c5 = c3 .before .before in
+    let c6 = c5 .before in
+    let c7 = c6 .before in
+    let c8 = c7 .before in
+    let c9 = c8 .before in
+    let c11 = c9 .before .before in
+    let s = c11 in
+    let k = sym (c9 .is-text .ensures) ∙ not-false _ (c8 .if1 .left) in
+    let e = sym (c6 .in-place .ensures) ∙ not-false _ (c5 .if2 .left) in
+    let z = slot (s .args .gone .now) (s .args .t .now) (s .args .start .now) (s .args .i) (c7 .two-of .result) (c3 .wide16 .result)
+    (c .before .before .two-of2 .result) (s .pre .1) k
+    (c7 .two-of .ensures .0) (c .before .before .two-of2 .ensures .0) e (c3 .wide16 .ensures .0) in
+    let y = turn-marks (without (s .args .gone .now) (s .args .t .now)) (s .args .mark .now) (s .args .i) k (z .2)
+    (rw (← (z .0)) (eq-eqb _ _ (c .if3 .left))) in
     (y .0, rw (z .0) (y .1))
 
 pub mark-turn-spec : {M : Type 1} → statement M

@@ -19,10 +19,14 @@ element-write-mark : tie.Need-element-write-mark
 element-write-mark c = omega arith
 
 returns : tie.Need-returns
-returns c = rw (← c .before .before .before .byte-of .ensures .0, c .before .before .if1 .taken, ← c .before .two-of .ensures .0, lt-ltb _ _ (c .if2 .taken))
+returns c =
+    let c3 = c .before .before .before in
+    rw (← c3 .byte-of .ensures .0, c .before .before .if1 .taken, ← c .before .two-of .ensures .0, lt-ltb _ _ (c .if2 .taken))
 
 returns-2 : tie.Need-returns-2
-returns-2 c = rw (← c .before .before .before .byte-of .ensures .0, c .before .before .if1 .taken, ← c .before .two-of .ensures .0, le-ltb _ _ (c .if2 .left))
+returns-2 c =
+    let c3 = c .before .before .before in
+    rw (← c3 .byte-of .ensures .0, c .before .before .if1 .taken, ← c .before .two-of .ensures .0, le-ltb _ _ (c .if2 .left))
 
 returns-3 : tie.Need-returns-3
 returns-3 c = rw (← c .before .byte-of .ensures .0, ne-eqb _ _ (c .if1 .left))

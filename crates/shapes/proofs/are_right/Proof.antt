@@ -28,8 +28,11 @@ is-right-requires c κs = (omega arith, omega arith, omega arith)
 
 returns : tie.Need-returns Inv-loop μ-loop
 returns c =
-    let a = c .before .before .before .before .before .args in
-    sym (shaped-not (without (a .gone .now) (a .t .now)) (c .before .before .before .loop .i) (rw (rooms-without (a .gone .now) (a .t .now)) (omega arith)) (sym (c .before .is-right .ensures) ∙ not-true _ (c .if1 .taken)))
+    let c3 = c .before .before .before in
+    let c5 = c3 .before .before in
+    let a = c5 .args in
+    sym (shaped-not (without (a .gone .now) (a .t .now)) (c3 .loop .i) (rw (rooms-without (a .gone .now) (a .t .now)) (omega arith))
+    (sym (c .before .is-right .ensures) ∙ not-true _ (c .if1 .taken)))
 
 add-i : tie.Need-add-i Inv-loop μ-loop
 add-i c = omega arith

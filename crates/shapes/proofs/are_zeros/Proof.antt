@@ -30,8 +30,10 @@ byte-of-requires c κs = omega arith
 
 returns : tie.Need-returns Inv-loop μ-loop
 returns c =
-    let a = c .before .before .before .before .before .before .args in
-    sym (zeros-not (a .j) (a .n) (rec (a .t .now) (a .i)) (c .before .before .before .loop .m) (omega arith) (λ q. c .if1 .taken (c .before .byte-of .ensures .0 ∙ q)))
+    let c3 = c .before .before .before in
+    let c6 = c3 .before .before .before in
+    let a = c6 .args in
+    sym (zeros-not (a .j) (a .n) (rec (a .t .now) (a .i)) (c3 .loop .m) (omega arith) (λ q. c .if1 .taken (c .before .byte-of .ensures .0 ∙ q)))
 
 add-m : tie.Need-add-m Inv-loop μ-loop
 add-m c = omega arith
@@ -41,8 +43,10 @@ loop-less c = omega arith
 
 loop-again : tie.Need-loop-again Inv-loop μ-loop
 loop-again c =
-    let a = c .before .before .before .before .before .before .args in
-    (zeros-next (a .j) (c .before .before .before .loop .m) (rec (a .t .now) (a .i)) (c .before .before .before .loop .inv .0) (sym (c .before .byte-of .ensures .0) ∙ c .if1 .left), omega arith)
+    let c3 = c .before .before .before in
+    let c6 = c3 .before .before .before in
+    let a = c6 .args in
+    (zeros-next (a .j) (c3 .loop .m) (rec (a .t .now) (a .i)) (c3 .loop .inv .0) (sym (c .before .byte-of .ensures .0) ∙ c .if1 .left), omega arith)
 
 returns-2 : tie.Need-returns-2 Inv-loop μ-loop
 returns-2 c =

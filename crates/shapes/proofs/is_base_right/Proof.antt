@@ -22,7 +22,8 @@ is-legal-base-requires c κs = search needs
 
 returns-2 : tie.Need-returns-2
 unfolding baseRight
-returns-2 c = rw (← c .before .before .three-of .ensures .0, le-leb (c .before .before .three-of .result) 999999 (omega arith)) (c .is-legal-base .ensures)
+returns-2 c =
+    rw (← c .before .before .three-of .ensures .0, le-leb (c .before .before .three-of .result) 999999 (omega arith)) (c .is-legal-base .ensures)
 
 pub is-base-right-spec : {M : Type 1} → statement M
 is-base-right-spec =

@@ -27,16 +27,23 @@ raw-of-requires-2 c κs = search needs
 
 returns-3 : tie.Need-returns-3
 returns-3 c =
-    let a = c .before .before .before .before .before .before .args in
-    sym (directory-without (a .gone .now) (a .t .now) (omega arith) (a .h) ∙ rw (← c .before .before .before .raw-of .ensures, c .before .before .if2 .left, ← c .before .raw-of2 .ensures, ne-eqb _ _ (c .if3 .taken)))
+    let c3 = c .before .before .before in
+    let c6 = c3 .before .before .before in
+    let a = c6 .args in
+    sym (directory-without (a .gone .now) (a .t .now) (omega arith) (a .h) ∙ rw
+    (← c3 .raw-of .ensures, c .before .before .if2 .left, ← c .before .raw-of2 .ensures, ne-eqb _ _ (c .if3 .taken)))
 
 element-copy-out-result : tie.Need-element-copy-out-result
 element-copy-out-result c = omega arith
 
 returns-4 : tie.Need-returns-4
 returns-4 c =
-    let a = c .before .before .before .before .before .before .before .args in
-    sym (directory-without (a .gone .now) (a .t .now) (omega arith) (a .h) ∙ rw (← c .before .before .before .before .raw-of .ensures, c .before .before .before .if2 .left, ← c .before .before .raw-of2 .ensures, c .before .if3 .left))
+    let c3 = c .before .before .before in
+    let c4 = c3 .before in
+    let c7 = c4 .before .before .before in
+    let a = c7 .args in
+    sym (directory-without (a .gone .now) (a .t .now) (omega arith) (a .h) ∙ rw
+    (← c4 .raw-of .ensures, c3 .if2 .left, ← c .before .before .raw-of2 .ensures, c .before .if3 .left))
 
 pub is-directory-spec : {M : Type 1} → statement M
 is-directory-spec =

@@ -52,10 +52,13 @@ are-zeros-requires-2 c κs = search needs
 
 returns-4 : tie.Need-returns-4
 returns-4 c =
-    let a = c .before .before .before .before .before .before .before .before .before .args in
+    let c5 = c .before .before .before .before .before in
+    let c9 = c5 .before .before .before .before in
+    let a = c9 .args in
     let t = without (a .gone .now) (a .t .now) in
     let r = rec (a .t .now) (a .i) in
-    let e : zeros (10 + nameLength r) (10 - nameLength r) r ≡ false = rw (← c .before .before .before .before .before .byte-of .ensures .0) (sym (c .before .are-zeros2 .ensures) ∙ not-true _ (c .if4 .taken)) in
+    let e : zeros (10 + nameLength r) (10 - nameLength r) r ≡ false = rw (← c5 .byte-of .ensures .0)
+    (sym (c .before .are-zeros2 .ensures) ∙ not-true _ (c .if4 .taken)) in
     sym (entry-not t r (λ (h : Entered t r). true≢false (sym (h .padded) ∙ e)))
 
 two-of-requires : tie.Need-two-of-requires
@@ -66,10 +69,13 @@ is-heading-requires c κs = search needs
 
 returns-5 : tie.Need-returns-5
 returns-5 c =
-    let a = c .before .before .before .before .before .before .before .before .before .before .before .before .args in
+    let c8 = c .before .before .before .before .before .before .before .before in
+    let c12 = c8 .before .before .before .before in
+    let a = c12 .args in
     let t = without (a .gone .now) (a .t .now) in
     let r = rec (a .t .now) (a .i) in
-    let e : isKind 1 (rec t (headingNamed r)) ≡ false = rw (← c .before .before .two-of .ensures .0) (sym (c .before .is-heading .ensures) ∙ not-true _ (c .if5 .taken)) in
+    let e : isKind 1 (rec t (headingNamed r)) ≡ false = rw (← c .before .before .two-of .ensures .0)
+    (sym (c .before .is-heading .ensures) ∙ not-true _ (c .if5 .taken)) in
     sym (entry-not t r (λ (h : Entered t r). true≢false (sym (h .named) ∙ e)))
 
 is-link-requires : tie.Need-is-link-requires
@@ -77,7 +83,9 @@ is-link-requires c κs = search needs
 
 returns-6 : tie.Need-returns-6
 returns-6 c =
-    let a = c .before .before .before .before .before .before .before .before .before .before .before .before .before .before .args in
+    let c8 = c .before .before .before .before .before .before .before .before in
+    let c14 = c8 .before .before .before .before .before .before in
+    let a = c14 .args in
     let t = without (a .gone .now) (a .t .now) in
     let r = rec (a .t .now) (a .i) in
     sym (entry-not t r (λ (h : Entered t r). true≢false (sym (h .link) ∙ sym (c .before .is-link .ensures) ∙ not-true _ (c .if6 .taken))))
@@ -90,25 +98,41 @@ is-base-right-requires c κs = search needs
 
 returns-7 : tie.Need-returns-7
 returns-7 c =
-    let a = c .before .before .before .before .before .before .before .before .before .before .before .before .before .before .before .before .before .args in
+    let c3 = c .before .before .before in
+    let c4 = c3 .before in
+    let c5 = c4 .before in
+    let c6 = c5 .before in
+    let c7 = c6 .before in
+    let c8 = c7 .before in
+    let c9 = c8 .before in
+    let c10 = c9 .before in
+    let c11 = c10 .before in
+    let c13 = c11 .before .before in
+    let c17 = c13 .before .before .before .before in
+    let a = c17 .args in
     let t = without (a .gone .now) (a .t .now) in
     let r = rec (a .t .now) (a .i) in
-    let p : zeros (10 + nameLength r) (10 - nameLength r) r ≡ true = rw (← c .before .before .before .before .before .before .before .before .before .before .before .before .before .byte-of .ensures .0) (sym (c .before .before .before .before .before .before .before .before .before .are-zeros2 .ensures) ∙ not-false _ (c .before .before .before .before .before .before .before .before .if4 .left)) in
-    let n : isKind 1 (rec t (headingNamed r)) ≡ true = rw (← c .before .before .before .before .before .before .before .two-of .ensures .0) (sym (c .before .before .before .before .before .before .is-heading .ensures) ∙ not-false _ (c .before .before .before .before .before .if5 .left)) in
+    let p : zeros (10 + nameLength r) (10 - nameLength r) r ≡ true = rw (← c13 .byte-of .ensures .0)
+    (sym (c9 .are-zeros2 .ensures) ∙ not-false _ (c8 .if4 .left)) in
+    let n : isKind 1 (rec t (headingNamed r)) ≡ true = rw (← c7 .two-of .ensures .0) (sym (c6 .is-heading .ensures) ∙ not-false _ (c5 .if5 .left)) in
     let b : isBase r ≡ true = eq-eqb _ _ (sym (c .before .before .two-of2 .ensures .0) ∙ c .before .if7 .taken) in
     c .is-base-right .ensures
-    ∙ sym (entry-left t r (omega arith) (omega arith) (sym (c .before .before .before .before .before .before .before .before .before .before .before .are-zeros .ensures) ∙ not-false _ (c .before .before .before .before .before .before .before .before .before .before .if3 .left)) p n (sym (c .before .before .before .before .is-link .ensures) ∙ not-false _ (c .before .before .before .if6 .left)) ∙ rw b)
+    ∙ sym (entry-left t r (omega arith) (omega arith) (sym (c11 .are-zeros .ensures) ∙ not-false _ (c10 .if3 .left)) p n
+    (sym (c4 .is-link .ensures) ∙ not-false _ (c3 .if6 .left)) ∙ rw b)
 
 is-directory-requires : tie.Need-is-directory-requires
 is-directory-requires c κs = search needs
 
 returns-8 : tie.Need-returns-8
 returns-8 c =
-    let a = c .before .before .before .before .before .before .before .before .before .before .before .before .before .before .before .before .before .before .args in
+    let c3 = c .before .before .before in
+    let c11 = c3 .before .before .before .before .before .before .before .before in
+    let c18 = c11 .before .before .before .before .before .before .before in
+    let a = c18 .args in
     let t = without (a .gone .now) (a .t .now) in
     let r = rec (a .t .now) (a .i) in
-    let b : isBase r ≡ false = ne-eqb _ _ (λ q. c .before .before .if7 .left (c .before .before .before .two-of2 .ensures .0 ∙ q)) in
-    let d : directory (rec t (holderOf r)) ≡ false = rw (← c .before .before .before .two-of2 .ensures .0) (sym (c .before .is-directory .ensures) ∙ not-true _ (c .if8 .taken)) in
+    let b : isBase r ≡ false = ne-eqb _ _ (λ q. c .before .before .if7 .left (c3 .two-of2 .ensures .0 ∙ q)) in
+    let d : directory (rec t (holderOf r)) ≡ false = rw (← c3 .two-of2 .ensures .0) (sym (c .before .is-directory .ensures) ∙ not-true _ (c .if8 .taken)) in
     sym (inside-not t r b d)
 
 three-of-requires : tie.Need-three-of-requires
@@ -116,14 +140,30 @@ three-of-requires c κs = search needs
 
 returns-9 : tie.Need-returns-9
 returns-9 c =
-    let a = c .before .before .before .before .before .before .before .before .before .before .before .before .before .before .before .before .before .before .before .args in
+    let c3 = c .before .before .before in
+    let c4 = c3 .before in
+    let c5 = c4 .before in
+    let c6 = c5 .before in
+    let c7 = c6 .before in
+    let c8 = c7 .before in
+    let c9 = c8 .before in
+    let c10 = c9 .before in
+    let c11 = c10 .before in
+    let c12 = c11 .before in
+    let c13 = c12 .before in
+    let c15 = c13 .before .before in
+    let c19 = c15 .before .before .before .before in
+    let a = c19 .args in
     let t = without (a .gone .now) (a .t .now) in
     let r = rec (a .t .now) (a .i) in
-    let p : zeros (10 + nameLength r) (10 - nameLength r) r ≡ true = rw (← c .before .before .before .before .before .before .before .before .before .before .before .before .before .before .before .byte-of .ensures .0) (sym (c .before .before .before .before .before .before .before .before .before .before .before .are-zeros2 .ensures) ∙ not-false _ (c .before .before .before .before .before .before .before .before .before .before .if4 .left)) in
-    let n : isKind 1 (rec t (headingNamed r)) ≡ true = rw (← c .before .before .before .before .before .before .before .before .before .two-of .ensures .0) (sym (c .before .before .before .before .before .before .before .before .is-heading .ensures) ∙ not-false _ (c .before .before .before .before .before .before .before .if5 .left)) in
-    let b : isBase r ≡ false = ne-eqb _ _ (λ q. c .before .before .before .if7 .left (c .before .before .before .before .two-of2 .ensures .0 ∙ q)) in
-    let d : directory (rec t (holderOf r)) ≡ true = rw (← c .before .before .before .before .two-of2 .ensures .0) (sym (c .before .before .is-directory .ensures) ∙ not-false _ (c .before .if8 .left)) in
-    sym (entry-left t r (omega arith) (omega arith) (sym (c .before .before .before .before .before .before .before .before .before .before .before .before .before .are-zeros .ensures) ∙ not-false _ (c .before .before .before .before .before .before .before .before .before .before .before .before .if3 .left)) p n (sym (c .before .before .before .before .before .before .is-link .ensures) ∙ not-false _ (c .before .before .before .before .before .if6 .left))
+    let p : zeros (10 + nameLength r) (10 - nameLength r) r ≡ true = rw (← c15 .byte-of .ensures .0)
+    (sym (c11 .are-zeros2 .ensures) ∙ not-false _ (c10 .if4 .left)) in
+    let n : isKind 1 (rec t (headingNamed r)) ≡ true = rw (← c9 .two-of .ensures .0) (sym (c8 .is-heading .ensures) ∙ not-false _ (c7 .if5 .left)) in
+    let b : isBase r ≡ false = ne-eqb _ _ (λ q. c3 .if7 .left (c4 .two-of2 .ensures .0 ∙ q)) in
+    let d : directory (rec t (holderOf r)) ≡ true = rw (← c4 .two-of2 .ensures .0)
+    (sym (c .before .before .is-directory .ensures) ∙ not-false _ (c .before .if8 .left)) in
+    sym (entry-left t r (omega arith) (omega arith) (sym (c13 .are-zeros .ensures) ∙ not-false _ (c12 .if3 .left)) p n
+    (sym (c6 .is-link .ensures) ∙ not-false _ (c5 .if6 .left))
     ∙ inside-left t r b d ∙ rw (← c .three-of .ensures .0))
 
 pub is-entry-right-spec : {M : Type 1} → statement M

@@ -31,7 +31,8 @@ raw-of-requires-3 c κs = search needs
 
 returns-3 : tie.Need-returns-3
 returns-3 c =
-    let r = rec (c .before .before .before .before .before .before .before .args .t .now) (c .before .before .before .before .before .before .before .args .i) in
+    let c7 = c .before .before .before .before .before .before .before in
+    let r = rec (c7 .args .t .now) (c7 .args .i) in
     sym (heading-not r (λ (h : Heading r). let z : ⊥ = omega arith in z))
 
 raw-of-requires-4 : tie.Need-raw-of-requires-4
@@ -39,12 +40,16 @@ raw-of-requires-4 c κs = search needs
 
 returns-4 : tie.Need-returns-4
 returns-4 c =
-    let r = rec (c .before .before .before .before .before .before .before .before .before .args .t .now) (c .before .before .before .before .before .before .before .before .before .args .i) in
+    let c8 = c .before .before .before .before .before .before .before .before in
+    let c9 = c8 .before in
+    let r = rec (c9 .args .t .now) (c9 .args .i) in
     sym (heading-not r (λ (h : Heading r). let z : ⊥ = omega arith in z))
 
 returns-5 : tie.Need-returns-5
 returns-5 c =
-    let r = rec (c .before .before .before .before .before .before .before .before .before .before .args .t .now) (c .before .before .before .before .before .before .before .before .before .before .args .i) in
+    let c8 = c .before .before .before .before .before .before .before .before in
+    let c10 = c8 .before .before in
+    let r = rec (c10 .args .t .now) (c10 .args .i) in
     sym (heading-not r (λ (h : Heading r). let z : ⊥ = omega arith in z))
 
 are-zeros-requires : tie.Need-are-zeros-requires
@@ -52,7 +57,9 @@ are-zeros-requires c κs = search needs
 
 returns-6 : tie.Need-returns-6
 returns-6 c =
-    let r = rec (c .before .before .before .before .before .before .before .before .before .before .before .before .args .t .now) (c .before .before .before .before .before .before .before .before .before .before .before .before .args .i) in
+    let c8 = c .before .before .before .before .before .before .before .before in
+    let c12 = c8 .before .before .before .before in
+    let r = rec (c12 .args .t .now) (c12 .args .i) in
     sym (heading-not r (λ (h : Heading r). true≢false (sym (h .gap) ∙ sym (c .before .are-zeros .ensures) ∙ not-true _ (c .if6 .taken))))
 
 are-zeros-requires-2 : tie.Need-are-zeros-requires-2
@@ -60,7 +67,9 @@ are-zeros-requires-2 c κs = search needs
 
 returns-7 : tie.Need-returns-7
 returns-7 c =
-    let r = rec (c .before .before .before .before .before .before .before .before .before .before .before .before .before .before .args .t .now) (c .before .before .before .before .before .before .before .before .before .before .before .before .before .before .args .i) in
+    let c8 = c .before .before .before .before .before .before .before .before in
+    let c14 = c8 .before .before .before .before .before .before in
+    let r = rec (c14 .args .t .now) (c14 .args .i) in
     sym (heading-not r (λ (h : Heading r). true≢false (sym (h .rest) ∙ sym (c .before .are-zeros2 .ensures) ∙ not-true _ (c .if7 .taken))))
 
 is-plain-requires : tie.Need-is-plain-requires
@@ -68,9 +77,13 @@ is-plain-requires c κs = search needs
 
 returns-8 : tie.Need-returns-8
 returns-8 c =
-    let r = rec (c .before .before .before .before .before .before .before .before .before .before .before .before .before .before .before .args .t .now) (c .before .before .before .before .before .before .before .before .before .before .before .before .before .before .before .args .i) in
+    let c8 = c .before .before .before .before .before .before .before .before in
+    let a = c8 .before .before .before .before .before .before .before .args in
+    let r = rec (a .t .now) (a .i) in
     c .is-plain .ensures
-    ∙ sym (heading-left r (omega arith) (omega arith) (omega arith) (omega arith) (omega arith) (sym (c .before .before .before .before .are-zeros .ensures) ∙ not-false _ (c .before .before .before .if6 .left)) (sym (c .before .before .are-zeros2 .ensures) ∙ not-false _ (c .before .if7 .left)))
+    ∙ sym (heading-left r (omega arith) (omega arith) (omega arith) (omega arith) (omega arith)
+    (sym (c .before .before .before .before .are-zeros .ensures) ∙ not-false _ (c .before .before .before .if6 .left))
+    (sym (c .before .before .are-zeros2 .ensures) ∙ not-false _ (c .before .if7 .left)))
 
 pub is-heading-right-spec : {M : Type 1} → statement M
 is-heading-right-spec =

@@ -20,9 +20,11 @@ raw-of-requires c κs = search needs
 
 returns-2 : tie.Need-returns-2
 returns-2 c =
-    let a = c .before .before .before .before in
+    let c4 = c .before .before .before .before in
+    let a = c4 in
     let t = a .args .t .now in
-    sym (base-plain (rec t (a .args .i)) (length-rec t (a .args .i) (a .pre .0)) (omega arith) (λ q. c .if2 .taken (c .before .raw-of .ensures ∙ q)) (omega arith))
+    sym (base-plain (rec t (a .args .i)) (length-rec t (a .args .i) (a .pre .0)) (omega arith) (λ q. c .if2 .taken (c .before .raw-of .ensures ∙ q))
+    (omega arith))
 
 add-raw-of : tie.Need-add-raw-of
 add-raw-of c = search needs
@@ -35,18 +37,25 @@ is-area-requires c κs = search needs
 
 returns-3 : tie.Need-returns-3
 returns-3 c =
-    let a = c .before .before .before .before .before .before .before in
+    let c3 = c .before .before .before in
+    let c4 = c3 .before in
+    let c7 = c4 .before .before .before in
+    let a = c7 in
     let t = a .args .t .now in
-    c .is-area .ensures ∙ rw (c .before .raw-of2 .ensures) (sym (base-two (rec t (a .args .i)) (length-rec t (a .args .i) (a .pre .0)) (omega arith) (omega arith) (sym (c .before .before .before .before .raw-of .ensures) ∙ c .before .before .before .if2 .left)))
+    c .is-area .ensures ∙ rw (c .before .raw-of2 .ensures)
+    (sym (base-two (rec t (a .args .i)) (length-rec t (a .args .i) (a .pre .0)) (omega arith) (omega arith) (sym (c4 .raw-of .ensures) ∙ c3 .if2 .left)))
 
 is-lettered-requires : tie.Need-is-lettered-requires
 is-lettered-requires c κs = search needs
 
 returns-4 : tie.Need-returns-4
 returns-4 c =
-    let a = c .before .before .before .before .before .before in
+    let c3 = c .before .before .before in
+    let c6 = c3 .before .before .before in
+    let a = c6 in
     let t = a .args .t .now in
-    c .is-lettered .ensures ∙ sym (base-long (rec t (a .args .i)) (length-rec t (a .args .i) (a .pre .0)) (omega arith) (omega arith) (sym (c .before .before .before .raw-of .ensures) ∙ c .before .before .if2 .left))
+    c .is-lettered .ensures ∙ sym (base-long (rec t (a .args .i)) (length-rec t (a .args .i) (a .pre .0)) (omega arith) (omega arith)
+    (sym (c3 .raw-of .ensures) ∙ c .before .before .if2 .left))
 
 pub is-legal-base-spec : {M : Type 1} → statement M
 is-legal-base-spec =

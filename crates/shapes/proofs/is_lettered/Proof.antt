@@ -34,10 +34,13 @@ is-in-base-requires c κs = omega arith
 
 returns : tie.Need-returns Inv-loop μ-loop
 returns c =
-    let a = c .before .before .before .before .before .before in
+    let c4 = c .before .before .before .before in
+    let c6 = c4 .before .before in
+    let a = c6 in
     let t = a .args .t .now in
     let r = rec t (a .args .i) in
-    sym (base-not r (length-rec t (a .args .i) (a .pre .0)) (omega arith) (c .before .before .before .before .loop .j) (omega arith) (rw (← c .before .before .raw-of .ensures) (sym (c .before .is-in-base .ensures) ∙ not-true _ (c .if1 .taken))))
+    sym (base-not r (length-rec t (a .args .i) (a .pre .0)) (omega arith) (c4 .loop .j) (omega arith)
+    (rw (← c .before .before .raw-of .ensures) (sym (c .before .is-in-base .ensures) ∙ not-true _ (c .if1 .taken))))
 
 add-j : tie.Need-add-j Inv-loop μ-loop
 add-j c = omega arith
@@ -47,8 +50,11 @@ loop-less c = omega arith
 
 loop-again : tie.Need-loop-again Inv-loop μ-loop
 loop-again c =
-    let l = c .before .before .before .before .loop in
-    let e : inBase (byte (rec (c .before .before .before .before .before .before .args .t .now) (c .before .before .before .before .before .before .args .i)) (10 + l .j)) ≡ true = rw (← c .before .before .raw-of .ensures) (sym (c .before .is-in-base .ensures) ∙ not-false _ (c .if1 .left)) in
+    let c4 = c .before .before .before .before in
+    let c6 = c4 .before .before in
+    let l = c4 .loop in
+    let e : inBase (byte (rec (c6 .args .t .now) (c6 .args .i)) (10 + l .j)) ≡ true = rw (← c .before .before .raw-of .ensures)
+    (sym (c .before .is-in-base .ensures) ∙ not-false _ (c .if1 .left)) in
     (below-more _ _ (l .inv .0) e, omega arith)
 
 returns-2 : tie.Need-returns-2 Inv-loop μ-loop

@@ -41,10 +41,13 @@ is-in-name-requires c κs = omega arith
 
 returns-2 : tie.Need-returns-2 Inv-loop μ-loop
 returns-2 c =
-    let a = c .before .before .before .before .before .before .before in
+    let c4 = c .before .before .before .before in
+    let c7 = c4 .before .before .before in
+    let a = c7 in
     let t = a .args .t .now in
     let r = rec t (a .args .i) in
-    sym (link-not r (length-rec t (a .args .i) (a .pre .0)) (omega arith) (c .before .before .before .before .loop .j) (omega arith) (rw (← c .before .before .raw-of .ensures) (sym (c .before .is-in-name .ensures) ∙ not-true _ (c .if2 .taken))))
+    sym (link-not r (length-rec t (a .args .i) (a .pre .0)) (omega arith) (c4 .loop .j) (omega arith)
+    (rw (← c .before .before .raw-of .ensures) (sym (c .before .is-in-name .ensures) ∙ not-true _ (c .if2 .taken))))
 
 add-j : tie.Need-add-j Inv-loop μ-loop
 add-j c = omega arith
@@ -54,16 +57,21 @@ loop-less c = omega arith
 
 loop-again : tie.Need-loop-again Inv-loop μ-loop
 loop-again c =
-    let l = c .before .before .before .before .loop in
-    let e : inName (byte (rec (c .before .before .before .before .before .before .before .args .t .now) (c .before .before .before .before .before .before .before .args .i)) (10 + l .j)) ≡ true = rw (← c .before .before .raw-of .ensures) (sym (c .before .is-in-name .ensures) ∙ not-false _ (c .if2 .left)) in
+    let c4 = c .before .before .before .before in
+    let c7 = c4 .before .before .before in
+    let l = c4 .loop in
+    let e : inName (byte (rec (c7 .args .t .now) (c7 .args .i)) (10 + l .j)) ≡ true = rw (← c .before .before .raw-of .ensures)
+    (sym (c .before .is-in-name .ensures) ∙ not-false _ (c .if2 .left)) in
     (below-more _ _ (l .inv .0) e, omega arith)
 
 returns-3 : tie.Need-returns-3 Inv-loop μ-loop
 returns-3 c =
-    let a = c .before .before .before .before in
+    let c4 = c .before .before .before .before in
+    let a = c4 in
     let t = a .args .t .now in
     let r = rec t (a .args .i) in
-    sym (link-made r (length-rec t (a .args .i) (a .pre .0)) (omega arith) (record { some = omega arith; bytes = λ j l. c .before .loop .inv .0 j (omega arith) }))
+    sym (link-made r (length-rec t (a .args .i) (a .pre .0)) (omega arith)
+    (record { some = omega arith; bytes = λ j l. c .before .loop .inv .0 j (omega arith) }))
 
 pub is-link-spec : {M : Type 1} → statement M
 is-link-spec =

@@ -32,8 +32,11 @@ element-copy-out-if2 c = omega arith
 
 returns-2 : tie.Need-returns-2
 returns-2 c =
-    let a = c .before .before .before .before .before .args in
-    sym (right-gone (a .gone .now) (a .t .now) (a .i) (omega arith) (ne-eqb _ _ (λ q. c .before .before .if1 .left (c .before .before .before .raw-of .ensures ∙ q))) (ne-eqb _ _ (c .if2 .taken)))
+    let c3 = c .before .before .before in
+    let c5 = c3 .before .before in
+    let a = c5 .args in
+    sym (right-gone (a .gone .now) (a .t .now) (a .i) (omega arith) (ne-eqb _ _ (λ q. c .before .before .if1 .left (c3 .raw-of .ensures ∙ q)))
+    (ne-eqb _ _ (c .if2 .taken)))
 
 is-text-right-requires : tie.Need-is-text-right-requires
 is-text-right-requires c κs = search needs
@@ -62,12 +65,17 @@ are-zeros-requires c κs = search needs
 
 returns-5 : tie.Need-returns-5
 returns-5 c =
-    let a = c .before .before .before .before .before .before .before .before .args in
-    let k = c .before .before .before .before .before .before .raw-of .ensures in
-    let e = rec-stays (a .gone .now) (a .t .now) (omega arith) (a .i) (eq-eqb _ _ (c .before .before .before .if2 .left)) in
+    let c3 = c .before .before .before in
+    let c5 = c3 .before .before in
+    let c6 = c5 .before in
+    let c8 = c6 .before .before in
+    let a = c8 .args in
+    let k = c6 .raw-of .ensures in
+    let e = rec-stays (a .gone .now) (a .t .now) (omega arith) (a .i) (eq-eqb _ _ (c3 .if2 .left)) in
     let w = without (a .gone .now) (a .t .now) in
     let b = k ∙ ap (λ r. byte r 0) (sym e) in
-    c .are-zeros .ensures ∙ ap (zeros 0 32) (sym e) ∙ sym (right-other w (a .i) (λ q. c .before .if4 .left (b ∙ q)) (λ q. c .before .before .before .before .before .if1 .left (b ∙ q)) (λ q. c .before .before .if3 .left (b ∙ q)))
+    c .are-zeros .ensures ∙ ap (zeros 0 32) (sym e) ∙ sym
+    (right-other w (a .i) (λ q. c .before .if4 .left (b ∙ q)) (λ q. c5 .if1 .left (b ∙ q)) (λ q. c .before .before .if3 .left (b ∙ q)))
 
 pub is-right-spec : {M : Type 1} → statement M
 is-right-spec =

@@ -39,8 +39,11 @@ are-zeros-requires-2 c κs = search needs
 
 returns-4 : tie.Need-returns-4
 returns-4 c =
-    let r = rec (c .before .before .before .before .before .before .before .args .t .now) (c .before .before .before .before .before .before .before .args .i) in
-    c .are-zeros2 .ensures ∙ rw (c .before .before .before .before .before .byte-of .ensures .0) (sym (text-left r (omega arith) (omega arith) (sym (c .before .before .are-zeros .ensures) ∙ not-false _ (c .before .if3 .left))))
+    let c5 = c .before .before .before .before .before in
+    let c7 = c5 .before .before in
+    let r = rec (c7 .args .t .now) (c7 .args .i) in
+    c .are-zeros2 .ensures ∙ rw (c5 .byte-of .ensures .0)
+    (sym (text-left r (omega arith) (omega arith) (sym (c .before .before .are-zeros .ensures) ∙ not-false _ (c .before .if3 .left))))
 
 pub is-text-right-spec : {M : Type 1} → statement M
 is-text-right-spec =

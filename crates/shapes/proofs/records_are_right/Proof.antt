@@ -16,13 +16,19 @@ is-sized-requires : tie.Need-is-sized-requires
 is-sized-requires c κs = search needs
 
 returns : tie.Need-returns
-returns c = sym (and-no-left (sized (c .before .before .before .args .t .now)) (shaped (without (c .before .before .before .args .gone .now) (c .before .before .before .args .t .now))) (sym (c .before .is-sized .ensures) ∙ not-true _ (c .if1 .taken)))
+returns c =
+    let c3 = c .before .before .before in
+    sym (and-no-left (sized (c3 .args .t .now)) (shaped (without (c3 .args .gone .now) (c3 .args .t .now)))
+    (sym (c .before .is-sized .ensures) ∙ not-true _ (c .if1 .taken)))
 
 are-right-requires : tie.Need-are-right-requires
 are-right-requires c κs = sized-whole (c .before .before .before .args .t .now) (sym (c .before .is-sized .ensures) ∙ not-false _ (c .if1 .left))
 
 returns-2 : tie.Need-returns-2
-returns-2 c = c .are-right .ensures ∙ sym (and-past (sized (c .before .before .before .before .args .t .now)) (shaped (without (c .before .before .before .before .args .gone .now) (c .before .before .before .before .args .t .now))) (sym (c .before .before .is-sized .ensures) ∙ not-false _ (c .before .if1 .left)))
+returns-2 c =
+    let c4 = c .before .before .before .before in
+    c .are-right .ensures ∙ sym (and-past (sized (c4 .args .t .now)) (shaped (without (c4 .args .gone .now) (c4 .args .t .now)))
+    (sym (c .before .before .is-sized .ensures) ∙ not-false _ (c .before .if1 .left)))
 
 pub records-are-right-spec : {M : Type 1} → statement M
 records-are-right-spec =

@@ -24,8 +24,10 @@ two-of-requires-2 c κs = omega arith
 
 returns : tie.Need-returns Inv-loop μ-loop
 returns c =
-    let a = c .before .before .before .before .args in
-    sym (twin-not-place (rec (a .t .now) (a .i)) (rec (a .t .now) (a .k)) (λ q. c .if1 .taken (c .before .before .two-of .ensures .0 ∙ q ∙ sym (c .before .two-of2 .ensures .0))))
+    let c4 = c .before .before .before .before in
+    let a = c4 .args in
+    sym (twin-not-place (rec (a .t .now) (a .i)) (rec (a .t .now) (a .k))
+    (λ q. c .if1 .taken (c .before .before .two-of .ensures .0 ∙ q ∙ sym (c .before .two-of2 .ensures .0))))
 
 three-of-requires : tie.Need-three-of-requires Inv-loop μ-loop
 three-of-requires c κs = omega arith
@@ -35,8 +37,10 @@ three-of-requires-2 c κs = omega arith
 
 returns-2 : tie.Need-returns-2 Inv-loop μ-loop
 returns-2 c =
-    let a = c .before .before .before .before .before .before .before .args in
-    sym (twin-not-user (rec (a .t .now) (a .i)) (rec (a .t .now) (a .k)) (λ q. c .if2 .taken (c .before .before .three-of .ensures .0 ∙ q ∙ sym (c .before .three-of2 .ensures .0))))
+    let c7 = c .before .before .before .before .before .before .before in
+    let a = c7 .args in
+    sym (twin-not-user (rec (a .t .now) (a .i)) (rec (a .t .now) (a .k))
+    (λ q. c .if2 .taken (c .before .before .three-of .ensures .0 ∙ q ∙ sym (c .before .three-of2 .ensures .0))))
 
 loop-holds : tie.Need-loop-holds Inv-loop μ-loop
 loop-holds c = (below-none _, omega arith)
@@ -55,8 +59,11 @@ byte-of-requires-2 c κs = omega arith
 
 returns-3 : tie.Need-returns-3 Inv-loop μ-loop
 returns-3 c =
-    let a = c .before .before .before .before .before .before .before .before .before .before .before .before .args in
-    sym (twin-not-byte (rec (a .t .now) (a .i)) (rec (a .t .now) (a .k)) (c .before .before .before .before .loop .j) (omega arith) (λ q. c .if3 .taken (c .before .before .byte-of .ensures .0 ∙ q ∙ sym (c .before .byte-of2 .ensures .0))))
+    let c4 = c .before .before .before .before in
+    let c12 = c4 .before .before .before .before .before .before .before .before in
+    let a = c12 .args in
+    sym (twin-not-byte (rec (a .t .now) (a .i)) (rec (a .t .now) (a .k)) (c4 .loop .j) (omega arith)
+    (λ q. c .if3 .taken (c .before .before .byte-of .ensures .0 ∙ q ∙ sym (c .before .byte-of2 .ensures .0))))
 
 add-j : tie.Need-add-j Inv-loop μ-loop
 add-j c = omega arith
@@ -72,11 +79,17 @@ loop-again c =
 
 returns-4 : tie.Need-returns-4 Inv-loop μ-loop
 returns-4 c =
-    let a = c .before .before .before .before .before .before .before .before .before .args in
+    let c3 = c .before .before .before in
+    let c4 = c3 .before in
+    let c5 = c4 .before in
+    let c6 = c5 .before in
+    let c7 = c6 .before in
+    let c9 = c7 .before .before in
+    let a = c9 .args in
     sym (alike-twin (rec (a .t .now) (a .i)) (rec (a .t .now) (a .k)) (record {
-      kind = c .before .before .before .before .before .before .before .before .before .pre .2;
-      place = sym (sym (c .before .before .before .before .before .before .before .two-of .ensures .0) ∙ c .before .before .before .before .before .if1 .left ∙ c .before .before .before .before .before .before .two-of2 .ensures .0);
-      user = sym (sym (c .before .before .before .before .three-of .ensures .0) ∙ c .before .before .if2 .left ∙ c .before .before .before .three-of2 .ensures .0);
+      kind = c9 .pre .2;
+      place = sym (sym (c7 .two-of .ensures .0) ∙ c5 .if1 .left ∙ c6 .two-of2 .ensures .0);
+      user = sym (sym (c4 .three-of .ensures .0) ∙ c .before .before .if2 .left ∙ c3 .three-of2 .ensures .0);
       bytes = λ m l. c .before .loop .inv .0 m (omega arith);
     }))
 

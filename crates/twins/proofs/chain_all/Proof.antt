@@ -27,8 +27,10 @@ chain-turn-requires c κs = (omega arith, omega arith, c .before .before .before
 
 returns : tie.Need-returns Inv-loop μ-loop
 returns c =
-    let l = c .before .before .before .before .before .loop in
-    sym (twin-one (c .before .before .before .before .before .before .before .args .t .now) (l .i) (omega arith) (sym (c .before .chain-turn .ensures .0) ∙ not-true _ (c .if1 .taken)))
+    let c5 = c .before .before .before .before .before in
+    let c7 = c5 .before .before in
+    let l = c5 .loop in
+    sym (twin-one (c7 .args .t .now) (l .i) (omega arith) (sym (c .before .chain-turn .ensures .0) ∙ not-true _ (c .if1 .taken)))
 
 add-i : tie.Need-add-i Inv-loop μ-loop
 add-i c = omega arith
@@ -38,9 +40,11 @@ loop-less c = omega arith
 
 loop-again : tie.Need-loop-again Inv-loop μ-loop
 loop-again c =
-    let l = c .before .before .before .before .before .loop in
+    let c5 = c .before .before .before .before .before in
+    let c7 = c5 .before .before in
+    let l = c5 .loop in
     let r : c .before .chain-turn .result ≡ true = not-false _ (c .if1 .left) in
-    let e : single (c .before .before .before .before .before .before .before .args .t .now) (l .i) ≡ true = sym (c .before .chain-turn .ensures .0) ∙ r in (
+    let e : single (c7 .args .t .now) (l .i) ≡ true = sym (c .before .chain-turn .ensures .0) ∙ r in (
       c .before .chain-turn .ensures .1 r,
       below-more _ _ (l .inv .1) e,
       omega arith,

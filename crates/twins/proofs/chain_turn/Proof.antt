@@ -42,19 +42,24 @@ wide16-requires c κs = search needs
 
 twin-before-requires : tie.Need-twin-before-requires
 twin-before-requires c κs =
-    let a = c .before .before .before .before .before .before .before in
+    let c3 = c .before .before .before in
+    let c7 = c3 .before .before .before .before in
+    let a = c7 in
     let t = a .args .t .now in (
       omega arith,
       omega arith,
-      c .wide16 .ensures .0 ∙ a .pre .2 .heads (c .before .before .before .hash-of .result) (omega arith) ∙ ap (λ b. lastIn hashOf t b (a .args .i)) (c .before .before .before .hash-of .ensures .0),
+      c .wide16 .ensures .0 ∙ a .pre .2 .heads (c3 .hash-of .result) (omega arith) ∙ ap (λ b. lastIn hashOf t b (a .args .i)) (c3 .hash-of .ensures .0),
       a .pre .2 .nexts,
     )
 
 returns-2 : tie.Need-returns-2
 returns-2 c =
-    let a = c .before .before .before .before .before .before .before .before .before in
+    let c6 = c .before .before .before .before .before .before in
+    let c7 = c6 .before in
+    let c9 = c7 .before .before in
+    let a = c9 in
     let t = a .args .t .now in
-    let k : isKind 2 (rec t (a .args .i)) ≡ true = rw (← c .before .before .before .before .before .before .before .byte-of .ensures .0) (eq-eqb _ _ (c .before .before .before .before .before .before .if1 .left)) in
+    let k : isKind 2 (rec t (a .args .i)) ≡ true = rw (← c7 .byte-of .ensures .0) (eq-eqb _ _ (c6 .if1 .left)) in
     let e : anyBelow (twinTo t (a .args .i)) (a .args .i) ≡ true = sym (c .before .twin-before .ensures) ∙ c .if2 .taken in
     (rw (k, e), λ f. absurd (true≢false (sym f)))
 
@@ -78,11 +83,18 @@ element-write-head c = search needs
 
 returns-3 : tie.Need-returns-3
 returns-3 c =
-    let a = c .before .before .before .before .before .before .before .before .before in
+    let c5 = c .before .before .before .before .before in
+    let c6 = c5 .before in
+    let c7 = c6 .before in
+    let c9 = c7 .before .before in
+    let a = c9 in
     let t = a .args .t .now in
-    let k : isKind 2 (rec t (a .args .i)) ≡ true = rw (← c .before .before .before .before .before .before .before .byte-of .ensures .0) (eq-eqb _ _ (c .before .before .before .before .before .before .if1 .left)) in
-    let e : anyBelow (twinTo t (a .args .i)) (a .args .i) ≡ false = sym (c .before .twin-before .ensures) ∙ c .if2 .left in
-    (rw (k, e), λ f. rw (c .before .before .before .before .before .hash-of .ensures .0) (chains-entry hashOf t (a .args .head .now) (a .args .next .now) (a .args .i) (a .pre .2) (hash-below (rec t (a .args .i))) (omega arith) k))
+    let k : isKind 2 (rec t (a .args .i)) ≡ true = rw (← c7 .byte-of .ensures .0) (eq-eqb _ _ (c6 .if1 .left)) in
+    let e : anyBelow (twinTo t (a .args .i)) (a .args .i) ≡ false = sym (c .before .twin-before .ensures) ∙ c .if2 .left in (
+      rw (k, e),
+      λ f. rw (c5 .hash-of .ensures .0)
+          (chains-entry hashOf t (a .args .head .now) (a .args .next .now) (a .args .i) (a .pre .2) (hash-below (rec t (a .args .i))) (omega arith) k),
+    )
 
 pub chain-turn-spec : {M : Type 1} → statement M
 chain-turn-spec =

@@ -17,15 +17,23 @@ is-sized-requires : tie.Need-is-sized-requires
 is-sized-requires c κs = search needs
 
 returns : tie.Need-returns
-returns c = sym (and-no-left (sized (c .before .before .before .args .t .now)) (noTwins (c .before .before .before .args .t .now)) (sym (c .before .is-sized .ensures) ∙ not-true _ (c .if1 .taken)))
+returns c =
+    let c3 = c .before .before .before in
+    sym (and-no-left (sized (c3 .args .t .now)) (noTwins (c3 .args .t .now)) (sym (c .before .is-sized .ensures) ∙ not-true _ (c .if1 .taken)))
 
 chain-all-requires : tie.Need-chain-all-requires
 chain-all-requires c κs =
-    let e = sym (c .before .before .before .is-sized .ensures) ∙ not-false _ (c .before .before .if1 .left) in
-    (sized-whole (c .before .before .before .before .before .args .t .now) e .1, chains-none hashOf _ _ _ refl refl (λ s l. getD-replicate 2048 s 0 0 l))
+    let c3 = c .before .before .before in
+    let c5 = c3 .before .before in
+    let e = sym (c3 .is-sized .ensures) ∙ not-false _ (c .before .before .if1 .left) in
+    (sized-whole (c5 .args .t .now) e .1, chains-none hashOf _ _ _ refl refl (λ s l. getD-replicate 2048 s 0 0 l))
 
 returns-2 : tie.Need-returns-2
-returns-2 c = c .chain-all .ensures ∙ sym (and-past (sized (c .before .before .before .before .before .before .args .t .now)) (noTwins (c .before .before .before .before .before .before .args .t .now)) (sym (c .before .before .before .before .is-sized .ensures) ∙ not-false _ (c .before .before .before .if1 .left)))
+returns-2 c =
+    let c3 = c .before .before .before in
+    let c4 = c3 .before in
+    let c6 = c4 .before .before in
+    c .chain-all .ensures ∙ sym (and-past (sized (c6 .args .t .now)) (noTwins (c6 .args .t .now)) (sym (c4 .is-sized .ensures) ∙ not-false _ (c3 .if1 .left)))
 
 pub none-are-twins-spec : {M : Type 1} → statement M
 none-are-twins-spec = tie.close (tie.spec is-sized-requires returns chain-all-requires returns-2)

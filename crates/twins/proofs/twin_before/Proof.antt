@@ -43,15 +43,23 @@ wide16-requires c κs = omega arith
 
 loop-less : tie.Need-loop-less Inv-loop μ-loop
 loop-less c =
-    let a = c .before .before .before .before .before .before .before in
-    let l = c .before .before .before .before .before .loop in
-    twin-on (a .args .t .now) (a .args .i) (l .c) (l .inv) (a .args .next .now) (c .wide16 .result) (omega arith) (sym (c .before .before .before .are-twins .ensures) ∙ c .before .before .if1 .left) (a .pre .3) (c .wide16 .ensures .0) .1
+    let c3 = c .before .before .before in
+    let c5 = c3 .before .before in
+    let c7 = c5 .before .before in
+    let a = c7 in
+    let l = c5 .loop in
+    twin-on (a .args .t .now) (a .args .i) (l .c) (l .inv) (a .args .next .now) (c .wide16 .result) (omega arith)
+    (sym (c3 .are-twins .ensures) ∙ c .before .before .if1 .left) (a .pre .3) (c .wide16 .ensures .0) .1
 
 loop-again : tie.Need-loop-again Inv-loop μ-loop
 loop-again c =
-    let a = c .before .before .before .before .before .before .before in
-    let l = c .before .before .before .before .before .loop in
-    twin-on (a .args .t .now) (a .args .i) (l .c) (l .inv) (a .args .next .now) (c .wide16 .result) (omega arith) (sym (c .before .before .before .are-twins .ensures) ∙ c .before .before .if1 .left) (a .pre .3) (c .wide16 .ensures .0) .0
+    let c3 = c .before .before .before in
+    let c5 = c3 .before .before in
+    let c7 = c5 .before .before in
+    let a = c7 in
+    let l = c5 .loop in
+    twin-on (a .args .t .now) (a .args .i) (l .c) (l .inv) (a .args .next .now) (c .wide16 .result) (omega arith)
+    (sym (c3 .are-twins .ensures) ∙ c .before .before .if1 .left) (a .pre .3) (c .wide16 .ensures .0) .0
 
 returns-2 : tie.Need-returns-2 Inv-loop μ-loop
 returns-2 c =
