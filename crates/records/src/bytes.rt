@@ -67,7 +67,7 @@ pub fn record_at(table: &[u8], room: Room) -> &[u8]
 }
 
 // The byte at a place; past the end, 0.
-fn byte_at(s: &[u8], place: usize) -> u8
+pub fn byte_at(s: &[u8], place: usize) -> u8
     ensures { λ r. ⌜ r ≡ byte (now (s .entry)) place ⌝ }
 {
     if place < s.len() { s[place] } else { 0 }
