@@ -9,11 +9,11 @@ ghost use Rattle.words.specs.Place.{cut, loneOf, namesFrom, nextWord};
 ghost use Rattle.words.specs.Shown.{nextAt};
 
 // A request line.
-pub struct Line;
+struct Line;
 
 impl Line {
     // The most bytes that a line has.
-    pub const MOST: usize = 256;
+    const MOST: usize = 256;
 }
 
 // Whether the line has at most 256 bytes, each 32..95.

@@ -15,11 +15,11 @@ ghost use Rattle.paper.specs.Request.{firstWrong, firstLink};
 ghost use Rattle.words.specs.Place.{namesFrom};
 
 // Names joined by colons.
-pub struct Chain;
+struct Chain;
 
 impl Chain {
     // The most names that a chain has.
-    pub const MOST: usize = 16;
+    const MOST: usize = 16;
 }
 
 // Whether a name is a link name: 1 to 10 characters.
