@@ -58,10 +58,10 @@ fn clear_both(table: &mut [u8], entry: Room, heading: Room, left: usize) -> usiz
 {
     let mut rooms = [0u16; Text::MOST];
     text_rooms(table, heading, &mut rooms);
-    let count = blocks(text_length(table, heading));
+    let count = blocks(text_length(table, heading)).0;
     let rest = put(table, entry, [0u8; Room::SIZE], left);
-    clear_file(table, heading, &rooms, count, rest);
-    count.0 + 2
+    clear_file(table, heading, &rooms, Room(count), rest);
+    count + 2
 }
 
 // The entry of f in d and, if no other entry names it, the file: 14 and 18, and as many of the stores as are left.
