@@ -1,0 +1,5 @@
+pub mod Sheet
+pub mod Refusal
+pub mod Filing
+pub mod Reading
+pub mod Lamp
