@@ -13,6 +13,8 @@ pub mod Mending
 pub mod PowerCut
 -- the listing: `directory-listing`, `base-listing`
 pub mod Listed
+-- lines and texts longer than any that is read: `requested-cut`
+pub mod Long
 -- ---- what several of them stand on
 -- soundness as a record of clauses
 pub mod Sound

@@ -1,5 +1,4 @@
 pub mod FirstWord
-pub mod Cut
 pub mod Keeping
 pub mod Steps
 pub mod Spelling

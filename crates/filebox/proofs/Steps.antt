@@ -23,7 +23,7 @@ use Rattle.filebox.specs.declared.held.Held.{Held}
 use Rattle.filebox.specs.declared.output.Answered.{Answered}
 use Rattle.filebox.specs.declared.first_word.Stage.the-variants.{Blanks}
 use Rattle.filebox.proofs.FirstWord.{first-word, stages-more}
-use Rattle.filebox.proofs.Cut.{requested-cut}
+use Rattle.demands.proofs.Long.{requested-cut}
 use Rattle.filebox.proofs.Keeping.{keeps, holds-none}
 
 module _ (t l m r : List ℕ) (h : Held) where

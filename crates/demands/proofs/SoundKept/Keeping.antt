@@ -42,7 +42,7 @@ stands-in : (r : List ℕ) (d : Holder) → byte r 0 ≡ 2 → holder r ≡ d �
 stands-in r d k e = record { kind = k; heading = ap (λ (x : Holder). x .heading) e; user = ap (λ (x : Holder). x .user) e }
 
 -- a simple file's heading
-simple-heading : (lev code life n : ℕ) → lev ≤ 3 → code ≤ 7 → (1 ≤ life) × (life ≤ 2) → n ≤ 24000 → NewHeading 1 lev code life n
+pub simple-heading : (lev code life n : ℕ) → lev ≤ 3 → code ≤ 7 → (1 ≤ life) × (life ≤ 2) → n ≤ 24000 → NewHeading 1 lev code life n
 simple-heading lev code life n l b f s =
     record {
       types = omega arith;
@@ -87,7 +87,7 @@ module _ (t : List ℕ) (c : Sound t) where
       head = headingRecord type lev code life (length text)
 
   -- where a walk ends, an entry may be laid under a name that was read
-  entered : (u : ℕ) (w : Word) (d : State) (code : ℕ) → u ≤ 999999 → Named w → code ≤ 7 → toDirectory t 1 (start u) (chainOf w) ≡ reached d
+  pub entered : (u : ℕ) (w : Word) (d : State) (code : ℕ) → u ≤ 999999 → Named w → code ≤ 7 → toDirectory t 1 (start u) (chainOf w) ≡ reached d
       → Entered t (d .holder) code (lastName (chainOf w))
   entered u w d code m n b q = go e
     where

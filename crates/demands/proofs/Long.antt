@@ -3,7 +3,7 @@
 use mathlib.Core.Bool.{true, false}
 use mathlib.Core.List.{List}
 use mathlib.Core.Logic.{_⊎_, inl, inr}
-use mathlib.Core.Path.{_≡_, refl}
+use mathlib.Core.Path.{_≡_, refl, _∙_}
 use Prim.Native.Nat.{ℕ, _≤_, _<_}
 use native.Mathlib.Omega.{arith}
 use lib.Dec.{ltb}
@@ -53,21 +53,27 @@ module _ (t reply : List ℕ) (u k : ℕ) (text : List ℕ) (l : 24000 < length 
   acted-long (request (lst name)) = refl
   acted-long (request lstBase) = refl
 
-acted-cut : (t line text reply : List ℕ) (u k : ℕ) → acted t (take 24001 text) reply u k (asked (take 257 line) (take 24001 text)) ≡ acted t text reply u k (asked line text)
-unfolding asked
-acted-cut t line text reply u k = rw (read-cut line) (go (fits 24001 text))
+-- a line cut after 257 bytes
+pub line-cut : (t line text reply : List ℕ) (u k : ℕ) → requested t (take 257 line) text reply u k ≡ requested t line text reply u k
+unfolding requested asked
+line-cut t line text reply u k = go (entrance t u)
   where
-    go : (length text ≤ 24001) ⊎ (24001 < length text)
-        → acted t (take 24001 text) reply u k (withText (take 24001 text) (read line)) ≡ acted t text reply u k (withText text (read line))
-    go (inl l) = rw (take-all 24001 text l)
-    go (inr l) =
+    go : (v : Verdict) → admitted t (take 257 line) text reply u k v ≡ admitted t line text reply u k v
+    go (refused r) = refl
+    go passed = rw (read-cut line)
+
+-- a text cut after 24,001 bytes
+text-cut : (t line text reply : List ℕ) (u k : ℕ) → requested t line (take 24001 text) reply u k ≡ requested t line text reply u k
+unfolding requested asked
+text-cut t line text reply u k = go (fits 24001 text) (entrance t u)
+  where
+    go : (length text ≤ 24001) ⊎ (24001 < length text) → (v : Verdict)
+        → admitted t line (take 24001 text) reply u k v ≡ admitted t line text reply u k v
+    go f (refused r) = refl
+    go (inl l) passed = rw (take-all 24001 text l)
+    go (inr l) passed =
         let n : length (take 24001 text) ≡ 24001 = length-take-le 24001 text (omega arith) in
         acted-long t reply u k text (omega arith) (omega arith) (read line)
 
 pub requested-cut : (t line text reply : List ℕ) (u k : ℕ) → requested t (take 257 line) (take 24001 text) reply u k ≡ requested t line text reply u k
-unfolding requested
-requested-cut t line text reply u k = go (entrance t u)
-  where
-    go : (v : Verdict) → admitted t (take 257 line) (take 24001 text) reply u k v ≡ admitted t line text reply u k v
-    go (refused f) = refl
-    go passed = acted-cut t line text reply u k
+requested-cut t line text reply u k = line-cut t line (take 24001 text) reply u k ∙ text-cut t line text reply u k
