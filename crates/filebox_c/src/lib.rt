@@ -1,8 +1,11 @@
 // The file box for C: include/filebox.h says what a caller owes and gets.
 use answers::Answer;
+use lamp::Light;
 ghost use mathlib.Core.List.{[]};
 ghost use Rattle.paper.specs.Answer.{requested, mending};
 ghost use Rattle.elephant.specs.Promised.{Promised};
+ghost use Rattle.job.specs.Lamp.{lit};
+ghost use Rattle.lamp.specs.Shown.{Lighted};
 
 // One request on a lent table.
 #[no_mangle]
@@ -25,4 +28,21 @@ pub extern "C" fn filebox_mend(table: &mut [u8], stop: u32) -> Answer
     ensures { λ r. ⌜ Promised (mending (now (table .entry)) stop) r (now (table .exit)) [] ⌝ }
 {
     elephant::mend(table, stop)
+}
+
+// The lamp: a job of sheets filed, read back and compared.
+#[no_mangle]
+pub extern "C" fn filebox_lamp(
+    table: &mut [u8],
+    sheets: &[u8],
+    texts: &[u8],
+    back: &mut [u8],
+    chain: &[u8],
+    user: u32,
+    stop: u32,
+) -> Light
+    ensures { λ r. ⌜ Lighted (lit (now (table .entry)) (now (sheets .entry)) (now (texts .entry)) (now (back .entry)) (now (chain .entry)) user stop)
+        r (now (table .exit)) (now (back .exit)) ⌝ }
+{
+    lamp::run_job(table, sheets, texts, back, chain, user, stop)
 }
