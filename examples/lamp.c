@@ -1,6 +1,7 @@
 /*
- * The lamp of a fixture: files a sheet of test limits, reads it back, is refused, loses its power and mends. It lights green where all of
- * it went as include/filebox.h says, and red at the first step that did not.
+ * The lamp of a fixture: it files the three sheets of a board and reads each back, and lights green. Then a job that is red, a job that is
+ * refused, and one that loses its power and is mended. Each is held to what include/filebox.h promises: it ends with status 1 at the first
+ * that is otherwise.
  *
  *     rt staticlib filebox_c
  *     gcc -std=c11 -Iinclude examples/lamp.c target/staticlib/libfilebox_c.a -o target/lamp && target/lamp
@@ -11,29 +12,88 @@
 #include "filebox.h"
 
 #define USER 7u
+#define MOST_SHEETS 8u
 
 static uint8_t table[64 * FILEBOX_RECORD];
 static uint8_t before[sizeof table];
-static uint8_t reply[256];
+static uint8_t after[sizeof table];
+static uint8_t back[64];
 
-static void red(const char *step)
+/* A sheet: the link under which it is filed, at most ten characters, and its text. */
+struct sheet {
+    const char *name, *text;
+};
+
+static int wrong(const char *what)
 {
-    printf("%s: not as promised\nlamp: red\n", step);
+    printf("%s: not as promised\n", what);
+    return 1;
 }
 
-static struct filebox_answer ask(const char *line, const char *text, uint32_t stop)
+/* A request of document 01 that takes no text. */
+static struct filebox_answer ask(const char *line)
 {
+    const uint8_t *bytes = (const uint8_t *)line;
+    return filebox_request(table, sizeof table, bytes, strlen(line), bytes, 0, back, sizeof back, USER, FILEBOX_NO_STOP);
+}
+
+/* A granted request: so many bytes written and stores made. */
+static int granted(struct filebox_answer a, uint32_t bytes, uint32_t stores)
+{
+    return a.number == FILEBOX_DONE && a.place == 0 && a.names == 1 && a.displaced == 0 && a.bytes == bytes && a.stores == stores;
+}
+
+/* A sheet's record: link name, zeros after it, the length of the text. */
+static void lay(uint8_t *record, struct sheet sheet)
+{
+    size_t length = strlen(sheet.text);
+    memset(record, 0, FILEBOX_SHEET);
+    memcpy(record, sheet.name, strlen(sheet.name));
+    record[FILEBOX_SHEET_LENGTH] = (uint8_t)(length % 256);
+    record[FILEBOX_SHEET_LENGTH + 1] = (uint8_t)(length / 256);
+}
+
+/* The job of these sheets in the directory .R, with a stop number. */
+static struct filebox_lamp light(const struct sheet *job, size_t count, uint32_t stop)
+{
+    uint8_t sheets[MOST_SHEETS * FILEBOX_SHEET], texts[256];
+    size_t length = 0;
+    for (size_t i = 0; i < count; i++) {
+        lay(sheets + i * FILEBOX_SHEET, job[i]);
+        memcpy(texts + length, job[i].text, strlen(job[i].text));
+        length += strlen(job[i].text);
+    }
     memcpy(before, table, sizeof table);
-    memset(reply, '?', sizeof reply);
-    struct filebox_answer a = filebox_request(table, sizeof table, (const uint8_t *)line, strlen(line), (const uint8_t *)text,
-                                              strlen(text), reply, sizeof reply, USER, stop);
-    printf("%s: %u %u %u %u %u %u\n", line, a.number, a.place, a.names, a.displaced, a.bytes, a.stores);
-    return a;
+    memset(back, '?', sizeof back);
+    return filebox_lamp(table, sizeof table, sheets, count * FILEBOX_SHEET, texts, length, back, sizeof back, (const uint8_t *)".R", 2, USER, stop);
 }
 
-static int answers(struct filebox_answer a, uint32_t number, uint32_t place, uint32_t names, uint32_t displaced, uint32_t bytes, uint32_t stores)
+static void tell(const char *job, struct filebox_lamp lamp)
 {
-    return a.number == number && a.place == place && a.names == names && a.displaced == displaced && a.bytes == bytes && a.stores == stores;
+    static const char *const phases[] = {"", "filing", "reading"};
+    if (lamp.light == FILEBOX_GREEN)
+        printf("%s: green, %u stores\n", job, lamp.stores);
+    else if (lamp.light == FILEBOX_RED)
+        printf("%s: red, sheet %u, %s, %u, %u stores\n", job, lamp.sheet, phases[lamp.phase], lamp.number, lamp.stores);
+    else
+        printf("%s: refused, sheet %u, %u\n", job, lamp.sheet, lamp.number);
+}
+
+static int shows(struct filebox_lamp lamp, uint32_t light, uint32_t sheet, uint32_t phase, uint32_t number, uint32_t stores)
+{
+    return lamp.light == light && lamp.sheet == sheet && lamp.phase == phase && lamp.number == number && lamp.stores == stores;
+}
+
+/* The buffer begins with this text, and the rest of it is as lent. */
+static int back_is(const char *text)
+{
+    size_t n = strlen(text);
+    if (memcmp(back, text, n) != 0)
+        return 0;
+    for (size_t i = n; i < sizeof back; i++)
+        if (back[i] != '?')
+            return 0;
+    return 1;
 }
 
 static int table_as_before(void)
@@ -41,62 +101,76 @@ static int table_as_before(void)
     return memcmp(table, before, sizeof table) == 0;
 }
 
-/* The reply is this text, and the rest of the buffer is as lent. */
-static int reply_is(const char *text)
+/* The sheet stands in .R with this text. */
+static int filed(struct sheet sheet)
 {
-    size_t n = strlen(text);
-    if (memcmp(reply, text, n) != 0)
+    char line[32];
+    snprintf(line, sizeof line, "RDS .R:%s", sheet.name);
+    memset(back, '?', sizeof back);
+    return granted(ask(line), (uint32_t)strlen(sheet.text), 0) && back_is(sheet.text);
+}
+
+static const struct sheet board[] = {{"LIMITS", "MIN 4.9 V MAX 5.1 V 10 MA"}, {"KEYS", "A7 3F"}, {"SETTINGS", "FAST"}};
+
+/* Heading, text and entry of each; the first text, of 25 bytes, has two records. */
+static int green(void)
+{
+    struct filebox_lamp lamp = light(board, 3, FILEBOX_NO_STOP);
+    tell("the board", lamp);
+    /* each text was read back over the front of what the last one left */
+    return shows(lamp, FILEBOX_GREEN, 0, 0, 0, 10) && back_is("FASTF.9 V MAX 5.1 V 10 MA") && filed(board[0]) && filed(board[1]) &&
+           filed(board[2]);
+}
+
+/* OLD is a directory with entries: the sheet before it is filed, and displaces the one of its name; the sheet after it is not filed. */
+static int red(void)
+{
+    const struct sheet job[] = {{"LIMITS", "MIN 4.8 V"}, {"OLD", "NONE"}, {"KEYS", "00"}};
+    struct filebox_lamp lamp = light(job, 3, FILEBOX_NO_STOP);
+    tell("a sheet over a directory", lamp);
+    return shows(lamp, FILEBOX_RED, 2, FILEBOX_FILING, FILEBOX_PEOPLED, 6) && back_is("") && filed(job[0]) && filed(board[1]);
+}
+
+static int refused(void)
+{
+    const struct sheet job[] = {{"KEYS", "1"}, {"LIMITS", "2"}, {"KEYS", "3"}};
+    struct filebox_lamp lamp = light(job, 3, FILEBOX_NO_STOP);
+    tell("a name twice", lamp);
+    return shows(lamp, FILEBOX_REFUSED, 3, 0, FILEBOX_SHEET_TWICE, 0) && back_is("") && table_as_before();
+}
+
+/* The power goes in the middle of the second sheet: mended, the first is filed and nothing of the second. Then the same job again. */
+static int cut(void)
+{
+    const struct sheet job[] = {{"LIMITS", "MIN 4.7 V"}, {"KEYS", "B8 40"}};
+    struct filebox_lamp first = light(job, 1, FILEBOX_NO_STOP);
+    memcpy(after, table, sizeof table);
+    memcpy(table, before, sizeof table);
+    struct filebox_lamp lamp = light(job, 2, first.stores + 2);
+    tell("the power cut", lamp);
+    if (!shows(lamp, FILEBOX_RED, 2, FILEBOX_FILING, FILEBOX_STOPPED, first.stores + 2) || !back_is("") || memcmp(table, after, sizeof table) == 0)
         return 0;
-    for (size_t i = n; i < sizeof reply; i++)
-        if (reply[i] != '?')
-            return 0;
-    return 1;
+    struct filebox_answer mended = filebox_mend(table, sizeof table, FILEBOX_NO_STOP);
+    printf("mended: %u, %u stores\n", mended.number, mended.stores);
+    if (mended.number != FILEBOX_DONE || memcmp(table, after, sizeof table) != 0 || !filed(job[0]) || !filed(board[1]))
+        return 0;
+    lamp = light(job, 2, FILEBOX_NO_STOP);
+    tell("the same job again", lamp);
+    return shows(lamp, FILEBOX_GREEN, 0, 0, 0, 10) && filed(job[0]) && filed(job[1]);
 }
 
 int main(void)
 {
-    const char *sheet = "BOARD7 MIN 4.9 V MAX 5.1 V";
-    const char *listing = "FM.U0    LIMITS\r\n";
-
-    if (!answers(ask("CRD .R", "", FILEBOX_NO_STOP), FILEBOX_DONE, 0, 1, 0, 0, 2) || !reply_is("")) {
-        red("a directory");
-        return 1;
-    }
-    /* a heading, two text records for 26 bytes, an entry */
-    if (!answers(ask("WRS M .R:LIMITS", sheet, FILEBOX_NO_STOP), FILEBOX_DONE, 0, 1, 0, 0, 4) || !reply_is("")) {
-        red("a sheet filed");
-        return 1;
-    }
-    if (!answers(ask("RDS .R:LIMITS", "", FILEBOX_NO_STOP), FILEBOX_DONE, 0, 1, 0, (uint32_t)strlen(sheet), 0) || !reply_is(sheet) || !table_as_before()) {
-        red("the sheet read back");
-        return 1;
-    }
-    if (!answers(ask("LST .R", "", FILEBOX_NO_STOP), FILEBOX_DONE, 0, 1, 0, (uint32_t)strlen(listing), 0) || !reply_is(listing) || !table_as_before()) {
-        red("the directory listed");
-        return 1;
-    }
-    if (!answers(ask("RDS .R:KEYS", "", FILEBOX_NO_STOP), FILEBOX_NOT_THERE, 1, 0, 0, 0, 0) || !reply_is("") || !table_as_before()) {
-        red("a refusal");
-        return 1;
-    }
-
-    /* the power goes after the second store of a new sheet: mending gives the table before it */
-    if (!answers(ask("WRS M .R:LIMITS", "none", 2), FILEBOX_STOPPED, 0, 0, 0, 0, 2) || !reply_is("") || table_as_before()) {
-        red("a request cut");
-        return 1;
-    }
-    struct filebox_answer a = filebox_mend(table, sizeof table, FILEBOX_NO_STOP);
-    printf("mended: %u %u %u %u %u %u\n", a.number, a.place, a.names, a.displaced, a.bytes, a.stores);
-    if (!answers(a, FILEBOX_DONE, 0, 0, 0, 0, 2) || !table_as_before()) {
-        red("the table mended");
-        return 1;
-    }
-    /* a length that no table has */
-    a = filebox_mend(table, 33, FILEBOX_NO_STOP);
-    if (!answers(a, FILEBOX_TABLE_LENGTH, 0, 0, 0, 0, 0) || !table_as_before()) {
-        red("a table of 33 bytes");
-        return 1;
-    }
+    if (!granted(ask("CRD .R"), 0, 2) || !granted(ask("CRD .R:OLD"), 0, 2) || !granted(ask("CRD .R:OLD:BOARD6"), 0, 2))
+        return wrong("three directories");
+    if (!green())
+        return wrong("green");
+    if (!red())
+        return wrong("red");
+    if (!refused())
+        return wrong("refused");
+    if (!cut())
+        return wrong("a cut and a mend");
     printf("lamp: green\n");
     return 0;
 }

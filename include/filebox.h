@@ -1,14 +1,17 @@
 /*
  * The file box: nine functions and mending over a table that the caller lends (document 01, "Records, requests and replies of the file
- * box"). Link with libfilebox_c.a, which `rt staticlib filebox_c` writes for x86-64; it keeps nothing between calls, allocates
- * nothing, and needs of the C library at most memcpy, memmove and memset.
+ * box"), and the lamp, which files the sheets of a job and reads each back (document 02, request m). Link with libfilebox_c.a, which
+ * `rt staticlib filebox_c` writes for x86-64; it keeps nothing between calls, allocates nothing, and needs of the C library at most
+ * memcpy, memmove and memset.
  *
- * The functions are proved for every table, line, text, reply buffer, user and stop number: whatever the bytes are, a call returns, with
- * one of the numbers below. The proof begins where C hands its arguments over, so these the caller owes:
+ * The functions are proved for every table, line, text, reply buffer, sheets, texts, read-back buffer, chain, user and stop number:
+ * whatever the bytes are, a call returns, with one of the numbers below. The proof begins where C hands its arguments over, so these the
+ * caller owes:
  *
  *  - each pointer is not null, also where its length is 0 (any address will do there), and leads to as many bytes as its length says;
- *  - table and reply may be written; they overlap neither each other nor line nor text (line and text are only read, and may be the same);
- *  - no other thread writes any of the four, or reads table or reply, before the call returns.
+ *  - table, reply and back may be written; they overlap neither each other nor anything else lent to the call (line and text, and sheets,
+ *    texts and chain, are only read, and may overlap each other);
+ *  - no other thread writes anything lent, or reads table, reply or back, before the call returns.
  */
 #ifndef FILEBOX_H
 #define FILEBOX_H
@@ -28,7 +31,7 @@ extern "C" {
 #define FILEBOX_MOST_TEXT 24000u
 /* The largest user number. */
 #define FILEBOX_MOST_USER 999999u
-/* A stop number that no request and no mend reaches. */
+/* A stop number that no request, no mend and no job reaches. */
 #define FILEBOX_NO_STOP 65535u
 
 /* The reply numbers. */
@@ -89,6 +92,68 @@ struct filebox_answer filebox_request(uint8_t *table, size_t table_length, const
  * again ends as an uncut one. place, names, displaced and bytes are 0.
  */
 struct filebox_answer filebox_mend(uint8_t *table, size_t table_length, uint32_t stop);
+
+/*
+ * A job sheet: a record of 32 bytes for each sheet, in order. Its first 10 bytes are the link name under which the sheet is filed, zeros
+ * after it; bytes 10 and 11 are the length of its text, the low byte first; the rest is zero. The texts stand one after the other in a
+ * buffer of their own. So a record of a sheet named A of 300 bytes is 'A', nine zeros, 44, 1, twenty zeros.
+ */
+#define FILEBOX_SHEET 32u        /* bytes of a sheet's record */
+#define FILEBOX_SHEET_NAME 10u   /* bytes for its link name, from byte 0 */
+#define FILEBOX_SHEET_LENGTH 10u /* where the two bytes of its text's length stand */
+
+/* The lights. */
+enum filebox_light {
+    FILEBOX_GREEN = 0,  /* every sheet is filed, was read back with reply 0, and each text read back is the text sent */
+    FILEBOX_RED = 1,    /* a sheet was not filed, or not read back */
+    FILEBOX_REFUSED = 2 /* the job itself is refused, and nothing was stored */
+};
+
+/* What was done with the sheet that failed. */
+enum filebox_phase {
+    FILEBOX_FILING = 1, /* WRS M chain:link */
+    FILEBOX_READING = 2 /* RDS chain:link */
+};
+
+/* The lamp's own refusals. Each is tried over all sheets before the next; sheet is the first of which it is true. */
+enum filebox_refusal {
+    FILEBOX_SHEET_MALFORMED = 1, /* a last part of 1 to 31 bytes, no legal link name, or the rest not zero */
+    FILEBOX_SHEET_TWICE = 2,     /* a name that a sheet before it bears */
+    FILEBOX_TEXTS_SHORT = 3,     /* its text is not wholly there: texts are shorter than the lengths' sum */
+    FILEBOX_BACK_SHORT = 4       /* its text is longer than the read-back buffer */
+};
+
+/* The answer of the lamp. */
+struct filebox_lamp {
+    uint32_t light;  /* green, red or refused */
+    uint32_t sheet;  /* green: 0. Else the sheet that failed or is refused, from 1 (4,294,967,295 for every sheet from that one on) */
+    uint32_t phase;  /* red: filing or reading. Else 0 */
+    uint32_t number; /* red: the reply number of that filing or reading. Refused: the lamp's own. Green: 0 */
+    uint32_t stores; /* stores made in table, a record each, by all filings together; at most the stop number */
+};
+
+/*
+ * The lamp: a job for a user, with one stop number. Every sheet is filed in order, as WRS M chain:link, in the directory that chain names;
+ * then each is read back, as RDS chain:link, into back. It needs no more of back than the longest text, and texts may be longer than
+ * all lengths together. chain stands in both lines as it is, so a blank in it counts, or not, as in any request line.
+ *
+ * Green: the whole job is done: table is what the filings, asked one by one, leave; each text was read to the front of back, over what the
+ *   last one left there. A job without sheets is green on any table, and stores nothing.
+ * Red in filing: sheet got number (one of 1 to 14, 17 to 19 and 22), and no sheet after it was filed. The sheets before it are filed,
+ *   and back is as lent. What is wrong with table, user, chain or directory shows here, at sheet 1; a line that only its link makes too
+ *   long (4), at the sheet with that link.
+ * Red in reading: every sheet is filed; it is sheet 1, with 12, and back is as lent: the last sheet displaced a link of the chain itself,
+ *   so that the chain no longer leads to the directory.
+ * Refused: table and back are as lent, byte for byte.
+ * Stopped (red in filing, 22): exactly the first stop stores of the job were made. filebox_mend then gives, byte for byte, the table after
+ *   the sheets before sheet, or after sheet too: the first sheets filed, and no half of any.
+ *
+ * After a red light the sheets filed so far stay. To try again, mend if it was stopped, and give the same job: a sheet displaces the file
+ * of its name, and needs its room beside that file's.
+ */
+struct filebox_lamp filebox_lamp(uint8_t *table, size_t table_length, const uint8_t *sheets, size_t sheets_length, const uint8_t *texts,
+                                 size_t texts_length, uint8_t *back, size_t back_length, const uint8_t *chain, size_t chain_length,
+                                 uint32_t user, uint32_t stop);
 
 #ifdef __cplusplus
 }

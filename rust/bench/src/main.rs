@@ -1,11 +1,13 @@
 //! The proved library's calls as ratios to one byte-by-byte pass over the same table in the same run, over tables of 256 to
 //! 2,048 records. The table is warm: it was just copied or read.
 //!
-//! `bench [TURNS]` prints a Markdown table; it ends with status 1 if a ratio at 2,048 records is above its bar. `bench count
-//! OPERATION RECORDS TIMES` runs one operation so many times (`pass`: the pass), to count its instructions with
+//! `bench [TURNS]` prints a Markdown table, and the time of the lamp beside its requests made one by one; it ends with status
+//! 1 if a ratio at 2,048 records is above its bar. `bench count OPERATION RECORDS TIMES` runs one operation so many times
+//! (`pass`: the pass), to count its instructions with
 //! `valgrind --tool=callgrind --toggle-collect='*counted*' target/release/bench count rds 2048 10`: what is collected is
 //! the calls alone, without setting the table right.
 
+mod lamp;
 mod operations;
 mod tables;
 
@@ -53,13 +55,16 @@ fn line(operation: &Operation, turns: usize) -> bool {
 fn bench(turns: usize) -> ExitCode {
     println!("| Passes over the table, of records | 256 | 512 | 1,024 | 2,048 | bar | at 2,048 | growth |");
     println!("|---|---|---|---|---|---|---|---|");
-    let missing: Vec<&str> = OPERATIONS
+    let mut missing: Vec<&str> = OPERATIONS
         .iter()
         .filter(|operation| !line(operation, turns))
         .map(|operation| operation.title)
         .collect();
     println!("\nGrowth: the ratio at 2,048 records over that at 256; 1.0 is in step with the table. At n records the long");
     println!("text has 12(n - 48) bytes.");
+    if !lamp::bench(turns) {
+        missing.push("the lamp");
+    }
     if missing.is_empty() {
         println!("Each is within its bar.");
         return ExitCode::SUCCESS;

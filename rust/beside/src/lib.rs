@@ -8,6 +8,7 @@ mod answer;
 mod declarations;
 mod effects;
 mod entries;
+mod lamp;
 mod line;
 mod listing;
 mod mend;
@@ -21,6 +22,7 @@ mod walk;
 
 pub use answer::{mend, request, Answer};
 pub use declarations::{Declared, DeclaredLifetime, Guard};
+pub use lamp::{light, Light};
 pub use line::{words, Word};
 pub use names::{is_base_name, is_link_name, Chain};
 pub use program::{run, takes_text};

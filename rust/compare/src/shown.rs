@@ -9,7 +9,7 @@ fn hex(bytes: &[u8]) -> String {
 }
 
 /// The bytes as records in hex, a line each; runs of free records on one line.
-fn records(f: &mut fmt::Formatter, bytes: &[u8]) -> fmt::Result {
+pub fn records(f: &mut fmt::Formatter, bytes: &[u8]) -> fmt::Result {
     let mut rest = bytes;
     let mut number = 0;
     while !rest.is_empty() {
@@ -54,7 +54,7 @@ fn outcome(f: &mut fmt::Formatter, program: &str, case: &Case, outcome: &Outcome
 }
 
 /// Where two slices first differ, and what stands there, as records.
-fn first_unlike(f: &mut fmt::Formatter, what: &str, one: &[u8], other: &[u8]) -> fmt::Result {
+pub fn first_unlike(f: &mut fmt::Formatter, what: &str, one: &[u8], other: &[u8]) -> fmt::Result {
     let mut pairs = one.chunks(32).zip(other.chunks(32)).enumerate();
     match pairs.find(|(_, (one, other))| one != other) {
         None => Ok(()),

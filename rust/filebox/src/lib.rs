@@ -1,8 +1,10 @@
-//! The file box for a fixture's programmer: document 01's requests and mending, from the proved static library.
+//! The file box for a fixture's programmer: document 01's requests and mending and document 02's lamp, from
+//! the proved static library.
 //!
-//! [`request`] and [`mend`] are the library's two calls as they are: slices and numbers in, an [`Answer`] out. [`Table`]
-//! holds the bytes of a table, owned or lent, and has a method for each thing that a fixture asks. Every call ends and
-//! answers, for every table, line, text, user and stop number. A box keeps nothing between calls but the table's bytes.
+//! [`request`], [`mend`] and [`light`] are the library's three calls as they are: slices and numbers in, an [`Answer`] or a
+//! [`Light`] out. [`Table`] holds the bytes of a table, owned or lent, and has a method for each thing that a fixture asks.
+//! Every call ends and answers, for every table, line, text, user and stop number. A box keeps nothing between calls but
+//! the table's bytes.
 //!
 //! The build script links `libfilebox_c.a` from the folder that FILEBOX_LIB names (a full path), or from the repository's
 //! own `target/staticlib`.
@@ -20,6 +22,22 @@
 //!     assert_eq!(table.list(1, ".R")?, b"FM.P0    LIMITS\r\n");
 //!     Ok(())
 //! }
+//! ```
+//!
+//! The lamp: file the sheets of a job and read each back. Green, or which sheet failed and why:
+//!
+//! ```
+//! use filebox::{Sheet, Table};
+//!
+//! let mut table = Table::free(16);
+//! let job = [
+//!     Sheet { name: "LIMITS", text: b"5.0 V" },
+//!     Sheet { name: "BOARD7", text: b"4.9 V" },
+//! ];
+//! let red = table.light(1, ".R", &job).unwrap_err();
+//! assert_eq!(red.to_string(), "red: sheet 1 was not filed: 11 name not there");
+//! table.ask(1, "CRD .R").unwrap();
+//! table.light(1, ".R", &job).expect("green");
 //! ```
 //!
 //! A refusal says the number, the argument and why, and leaves the table as it was:
@@ -52,11 +70,13 @@
 #![deny(unsafe_code)]
 
 mod answer;
+mod lamp;
 mod library;
 mod number;
 mod table;
 
 pub use answer::{Answer, Refused};
-pub use library::{mend, request};
+pub use lamp::{Light, NoRecord, NotGreen, Phase, Red, Sheet, Unfit};
+pub use library::{light, mend, request};
 pub use number::{NoSuchNumber, Number};
 pub use table::{Table, LONGEST_TEXT, MOST_RECORDS, NO_STOP, RECORD_BYTES};

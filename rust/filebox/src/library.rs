@@ -1,10 +1,11 @@
-//! The two functions of the static library, and the only unsafe code.
+//! The three functions of the static library, and the only unsafe code.
 //!
 //! The declarations are those of the library's C interface: a lent slice is a pointer and a length, the answer comes by
 //! value. Nothing but reading checks them against the library.
 #![allow(unsafe_code)]
 
 use crate::answer::{Answer, SixNumbers};
+use crate::lamp::Light;
 
 extern "C" {
     fn filebox_request(
@@ -20,6 +21,20 @@ extern "C" {
         stop: u32,
     ) -> SixNumbers;
     fn filebox_mend(table: *mut u8, table_len: usize, stop: u32) -> SixNumbers;
+    fn filebox_lamp(
+        table: *mut u8,
+        table_len: usize,
+        sheets: *const u8,
+        sheets_len: usize,
+        texts: *const u8,
+        texts_len: usize,
+        back: *mut u8,
+        back_len: usize,
+        chain: *const u8,
+        chain_len: usize,
+        user: u32,
+        stop: u32,
+    ) -> Light;
 }
 
 /// Do the request of a line for a user: the table is changed, the text is read, the reply buffer is written. Exactly the
@@ -80,4 +95,49 @@ pub fn mend(table: &mut [u8], stop: u32) -> Answer {
     // Sound: as above; the one slice is lent `mut`.
     let six = unsafe { filebox_mend(table.as_mut_ptr(), table.len(), stop) };
     Answer::from(six)
+}
+
+/// Light the lamp of a job for a user: file each sheet's text in the directory of the chain, then read each back into the
+/// buffer. The table is changed, sheets, texts and chain are read, the buffer is written. Exactly the first `stop` stores of
+/// the whole job are made. [`Table::light`](crate::Table::light) takes names and texts and needs no buffer.
+///
+/// ```
+/// use filebox::{light, request, NO_STOP};
+///
+/// let mut table = [0; 5 * 32];
+/// assert_eq!(request(&mut table, b"CRD .R", b"", &mut [], 1, NO_STOP).stores, 2);
+/// let mut sheet = [0; 32];
+/// sheet[..6].copy_from_slice(b"LIMITS");
+/// sheet[10] = 5;
+/// let mut back = [0; 5];
+/// let green = light(&mut table, &sheet, b"5.0 V", &mut back, b".R", 1, NO_STOP);
+/// assert_eq!(green.numbers(), [0, 0, 0, 0, 3]);
+/// assert_eq!(&back, b"5.0 V");
+/// ```
+pub fn light(
+    table: &mut [u8],
+    sheets: &[u8],
+    texts: &[u8],
+    back: &mut [u8],
+    chain: &[u8],
+    user: u32,
+    stop: u32,
+) -> Light {
+    // Sound: as above; two of the five slices are lent `mut`, the others are only read.
+    unsafe {
+        filebox_lamp(
+            table.as_mut_ptr(),
+            table.len(),
+            sheets.as_ptr(),
+            sheets.len(),
+            texts.as_ptr(),
+            texts.len(),
+            back.as_mut_ptr(),
+            back.len(),
+            chain.as_ptr(),
+            chain.len(),
+            user,
+            stop,
+        )
+    }
 }
