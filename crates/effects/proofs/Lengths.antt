@@ -1,23 +1,23 @@
 -- In a sound table a simple file's text is as long as its heading says: each position is there, and its record holds its share.
 -- The shares add up to the length, since every block but the last is whole and the last holds the rest.
-use mathlib.Core.Bool.{true, _&&_}
+use mathlib.Core.Bool.{Bool, true, _&&_}
 use mathlib.Core.List.{List}
 use mathlib.Core.Logic.{by-cases}
 use mathlib.Core.Path.{_≡_, refl, ap, _∙_}
-use Prim.Native.Nat.{ℕ, zero, suc, _+_, _*_, _≤_, _<_}
+use Prim.Native.Nat.{ℕ, zero, suc, _+_, _*_, _%_, _≤_, _<_}
 use native.Mathlib.Omega.{arith}
 use native.Mathlib.Decide.{decLt}
 use lib.Dec.{eqb, leb, ltb}
 use lib.ListN.{length, length-append, length-take, length-drop}
 use borrow.Author.Tests.{eqb-true, eq-eqb, leb-true, lt-ltb}
 use Rattle.paper.specs.Scan.{anyBelow, countBelow, allBelow, joinBelow}
-use Rattle.paper.specs.Record.{isKind, headingType, textLength, simple, bytesHeld, headingOf, position, held, textAt}
-use Rattle.paper.specs.Table.{rooms, rec, place, textRoom}
+use Rattle.paper.specs.Record.{byte, isKind, headingType, textLength, simple, bytesHeld, headingOf, position, held, textAt}
+use Rattle.paper.specs.Table.{sized, rooms, rec, place, textRoom}
 use Rattle.paper.specs.Block.{blocks, share, blocksOf, fileText}
-use Rattle.paper.specs.Sound.{once, textsWhole, inPlace, noOtherText}
-use Rattle.laws.proofs.Tests.{and-left, and-right, implies-use}
+use Rattle.paper.specs.Sound.{asAbove, holdersThere, headingsThere, usersRight, namesPadded, noneTwice, allNamed, noneCrowded, directoriesPlain, once, textsWhole, inPlace, noOtherText, namesLegal, sound}
+use Rattle.laws.proofs.Tests.{and-left, and-right, and-parts, implies-use}
 use Rattle.laws.proofs.Scans.{all-true, least, first-least, First}
-use Rattle.laws.proofs.Lay.{length-rec}
+use Rattle.laws.proofs.Lay.{length-rec, within}
 use Rattle.laws.proofs.Entries.{text-true, TextAt}
 use Rattle.records.proofs.Shares.{share-full, share-rest}
 use Rattle.scans.proofs.Turns.{any-count}
@@ -59,12 +59,32 @@ in-place-share t r h p w e =
     eqb-true _ _ (and-right (ltb (position r) (blocks (textLength (rec t (headingOf r))))) _ f)
     ∙ rw (w .heading, w .position)
 
-module _ (t : List ℕ) (h : ℕ) (whole : textsWhole t ≡ true) (placed : noOtherText t ≡ true) (l : h < rooms t) (s : simple (rec t h) ≡ true) where
+-- what soundness says of text
+record Texts (t : List ℕ) : Type 0 where
+  pub whole : textsWhole t ≡ true
+  pub other : noOtherText t ≡ true
+
+texts : (t : List ℕ) → sound t ≡ true → Texts t
+unfolding sound
+texts t z =
+    let first : Bool =
+    asAbove t && holdersThere t && headingsThere t && usersRight t && namesPadded t && noneTwice t && allNamed t && noneCrowded t && directoriesPlain t in
+    let l = and-left (first && textsWhole t && noOtherText t) (namesLegal t) z in
+    let k = and-parts (first && textsWhole t) (noOtherText t) l in
+    record { whole = and-right first (textsWhole t) (k .0); other = k .1 }
+
+module _ (t : List ℕ) (h : ℕ) (fit : sized t ≡ true) (right : sound t ≡ true) (s : simple (rec t h) ≡ true) where
+  -- a record that is a heading is in the table
+  there : h < rooms t
+  there =
+      let k : byte (rec t h) 0 ≡ 1 = eqb-true _ _ (and-left (isKind 1 (rec t h)) _ s) in
+      within t h (eqb-true _ _ (and-left (eqb (length t % 32) 0) _ fit)) (omega arith)
+
   length-and-positions : (leb (textLength (rec t h)) 24000 && allBelow (once t h) (blocksOf t h)) ≡ true
   unfolding textsWhole
   length-and-positions =
       implies-use (eqb (headingType (rec t h)) 1) _
-      (implies-use (isKind 1 (rec t h)) _ (all-true _ (rooms t) h l whole) (and-left _ _ s))
+      (implies-use (isKind 1 (rec t h)) _ (all-true _ (rooms t) h there (texts t right .whole)) (and-left _ _ s))
       (and-right (isKind 1 (rec t h)) _ s)
 
   pub length-few : textLength (rec t h) ≤ 24000
@@ -86,7 +106,7 @@ module _ (t : List ℕ) (h : ℕ) (whole : textsWhole t ≡ true) (placed : noOt
       let w = text-true h p (rec t i) (g .passes) in
       held-length (rec t i) _ (length-rec t i (g .below))
       (in-place-share t (rec t i) h p w
-      (implies-use (isKind 3 (rec t i)) _ (all-true _ (rooms t) i (g .below) placed) (eq-eqb _ _ (w .kind))))
+      (implies-use (isKind 3 (rec t i)) _ (all-true _ (rooms t) i (g .below) (texts t right .other)) (eq-eqb _ _ (w .kind))))
       (share-most (textLength (rec t h)) p m)
 
   pub text-length : length (fileText t h) ≡ textLength (rec t h)

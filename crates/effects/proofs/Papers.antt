@@ -19,7 +19,7 @@ use Rattle.effects.specs.Listed.{freeRooms, textRooms, gathered}
 use Rattle.effects.specs.Stage.{textStore, textStores, clearStores}
 use Rattle.effects.proofs.Places.{room-most, text-most}
 
-sized-most : (t : List ℕ) → sized t ≡ true → rooms t ≤ 2048
+pub sized-most : (t : List ℕ) → sized t ≡ true → rooms t ≤ 2048
 sized-most t e = let l : length t ≤ 65536 = leb-true (length t) 65536 (and-right (eqb (length t % 32) 0) (leb (length t) 65536) e) in omega arith
 
 -- ---- the numbers listed

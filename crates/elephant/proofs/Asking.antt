@@ -8,11 +8,10 @@ use denote.Enum.Declared.{tagOf}
 use lib.Dec.{ltb}
 use lib.ListN.{length}
 use types.Run.{OneOf, miss}
-use Rattle.paper.specs.Declaration.{Part, given, notGiven}
 use Rattle.paper.specs.Request as asked
 use Rattle.paper.specs.Request.{crd, wrs, rds, cpy, dup, chn, del, dpr, lst, lstBase, request, unread, read, textTooLong}
 use Rattle.laws.proofs.Tests.{clash}
-use Rattle.declarations.specs.Given.{shownLifetime, shownLevel, shownDigit, lifetimePart, levelPart, digitPart}
+use Rattle.declarations.proofs.Parts.{lifetime-back, level-back, digit-back}
 use Rattle.reader.specs.Asked.{shownRequest, shownRead}
 use Rattle.reader.specs.Tied.{Tied, TiedRead}
 use Rattle.declarations.specs.declared.part.Level.{Level}
@@ -24,18 +23,6 @@ use Rattle.reader.specs.declared.request.Read.the-variants as answers
 use Rattle.reader.proofs.Ties.{tied}
 use Rattle.elephant.specs.Meant.{requestMeant}
 use Rattle.elephant.proofs.Grants.{word-there}
-
-lifetime-back : (p : Part) → lifetimePart (shownLifetime p) ≡ p
-lifetime-back (given n) = refl
-lifetime-back notGiven = refl
-
-level-back : (p : Part) → levelPart (shownLevel p) ≡ p
-level-back (given n) = refl
-level-back notGiven = refl
-
-digit-back : (p : Part) → digitPart (shownDigit p) ≡ p
-digit-back (given n) = refl
-digit-back notGiven = refl
 
 pub request-back : (line : List ℕ) (q : asked.Request) → Tied line q → requestMeant line (shownRequest q) ≡ q
 request-back line (crd w v d) t = rw (word-there line 1 w t, level-back v, digit-back d)

@@ -15,6 +15,7 @@ use Rattle.paper.specs.Check.{check}
 use Rattle.paper.specs.Walk.{file}
 use Rattle.paper.specs.Answer.{plain, granting}
 use Rattle.paper.specs.Effect.{readInhibited, writing}
+use Rattle.effects.proofs.Lengths.{text-length}
 use Rattle.listing.proofs.Promised.{sets-front}
 use Rattle.walk.specs.Shown.{meant}
 use Rattle.walk.specs.declared.state.State.{State}
@@ -24,7 +25,6 @@ use Rattle.elephant.specs.Done.{Fit, Wrote}
 use Rattle.elephant.specs.Reading.{isRight, written, readingAt}
 use Rattle.elephant.specs.declared.reply.Sheet.{Sheet}
 use Rattle.elephant.proofs.Verdicts.{first-holds, second-holds, wrote-refused, wrote-short, wrote-out, wrote-after}
-use Rattle.elephant.proofs.Written.{text-size}
 
 module _ (s : Sheet) (t reply : List ℕ) (f : State) where
   pub reading-shut : noRead (f .code .0) ≡ true → Wrote t reply (readingAt s t reply (meant f)) (shown (plain 13 1 0 0)) reply
@@ -45,7 +45,7 @@ module _ (s : Sheet) (t reply : List ℕ) (f : State) where
 -- the text of a simple file, by its heading's length
 module _ (t reply : List ℕ) (h n : ℕ) (f : Fit t) (s : simple (rec t h) ≡ true) (q : n ≡ textLength (rec t h)) where
   size : length (fileText t h) ≡ n
-  size = text-size t h f s ∙ sym q
+  size = text-length t h (f .sized) (f .sound) s ∙ sym q
 
   pub text-short : length reply < n → Wrote t reply (writing [] (fileText t h) reply) (shown (plain 20 0 0 0)) reply
   text-short m = wrote-short t reply (fileText t h) (omega (arith, size))

@@ -1,23 +1,18 @@
 -- What RDS and LST write is the text and the lines of document 01: on a sound table a simple file has at most 1,000 blocks, which the
 -- list of rooms holds, its text is as long as its heading says; and 2,048 lines of at most 21 bytes each are few.
-use mathlib.Core.Bool.{Bool, true, false, _&&_, cond}
+use mathlib.Core.Bool.{Bool, true, false, cond}
 use mathlib.Core.List.{List}
 use mathlib.Core.Path.{_≡_, sym}
-use Prim.Native.Nat.{ℕ, zero, suc, _+_, _*_, _%_, _≤_, _<_}
+use Prim.Native.Nat.{ℕ, zero, suc, _+_, _*_, _≤_, _<_}
 use native.Mathlib.Omega.{arith}
-use lib.Dec.{eqb, leb}
 use lib.ListN.{length, take, drop}
 use lib.Seq.{sets}
-use borrow.Author.Tests.{eqb-true, leb-true}
-use Rattle.paper.specs.Record.{byte, isKind, nameOf, textLength, simple}
-use Rattle.paper.specs.Table.{sized, rooms, rec}
+use Rattle.paper.specs.Record.{nameOf, textLength, simple}
+use Rattle.paper.specs.Table.{rooms, rec}
 use Rattle.paper.specs.Block.{blocks, fileText}
 use Rattle.paper.specs.Listing.{listed, lines}
-use Rattle.paper.specs.Sound.{asAbove, holdersThere, headingsThere, usersRight, namesPadded, noneTwice, allNamed, noneCrowded, directoriesPlain, textsWhole, noOtherText, namesLegal, sound}
-use Rattle.laws.proofs.Tests.{and-left, and-right, and-parts}
-use Rattle.laws.proofs.Lay.{within}
 use Rattle.effects.specs.Listed.{textRooms, gathered}
-use Rattle.effects.proofs.Papers.{file-text, taken-front}
+use Rattle.effects.proofs.Papers.{sized-most, file-text, taken-front}
 use Rattle.effects.proofs.Lengths.{length-few, blocks-few, text-length}
 use Rattle.listing.specs.Picked.{sizeAt, sizeBelow}
 use Rattle.listing.proofs.Sizes.{name-short, size-listed}
@@ -25,41 +20,18 @@ use Rattle.elephant.specs.Done.{Fit}
 
 -- ---- a file's text
 
-record Texts (t : List ℕ) : Type 0 where
-  pub whole : textsWhole t ≡ true
-  pub other : noOtherText t ≡ true
-
-texts : (t : List ℕ) → sound t ≡ true → Texts t
-unfolding sound
-texts t z =
-    let first : Bool =
-    asAbove t && holdersThere t && headingsThere t && usersRight t && namesPadded t && noneTwice t && allNamed t && noneCrowded t && directoriesPlain t in
-    let l = and-left (first && textsWhole t && noOtherText t) (namesLegal t) z in
-    let k = and-parts (first && textsWhole t) (noOtherText t) l in
-    record { whole = and-right first (textsWhole t) (k .0); other = k .1 }
-
 module _ (t : List ℕ) (h : ℕ) (f : Fit t) (s : simple (rec t h) ≡ true) where
-  -- a record that is a heading is in the table
-  there : h < rooms t
-  there =
-      let k : byte (rec t h) 0 ≡ 1 = eqb-true _ _ (and-left (isKind 1 (rec t h)) _ s) in
-      within t h (eqb-true _ _ (and-left (eqb (length t % 32) 0) _ (f .sized))) (omega arith)
-
-  pub text-size : length (fileText t h) ≡ textLength (rec t h)
-  text-size = let x = texts t (f .sound) in text-length t h (x .whole) (x .other) there s
-
   pub text-few : length (fileText t h) ≤ 24000
-  text-few = let x = texts t (f .sound) in rw text-size (length-few t h (x .whole) (x .other) there s)
+  text-few = rw (text-length t h (f .sized) (f .sound) s) (length-few t h (f .sized) (f .sound) s)
 
   -- the text gathered from its rooms
   pub text-there : (r : List ℕ) (b n : ℕ) → r ≡ textRooms t h → b ≡ blocks n → n ≡ textLength (rec t h) → gathered t r b ≡ fileText t h
   text-there r b n p q o =
-      let x = texts t (f .sound) in
-      rw (p, q, o) (sym (file-text t h (f .sized) (blocks-few t h (x .whole) (x .other) there s)))
+      rw (p, q, o) (sym (file-text t h (f .sized) (blocks-few t h (f .sized) (f .sound) s)))
 
   -- .. and copied to the front of z, from where it is taken again
   pub text-copied : (z l : List ℕ) (n : ℕ) → 24000 ≤ length z → l ≡ sets z 0 (fileText t h) → n ≡ textLength (rec t h) → take n (drop 0 l) ≡ fileText t h
-  text-copied z l n m p q = rw (p, q, ← text-size) (taken-front z (fileText t h) (omega (arith, text-few)))
+  text-copied z l n m p q = rw (p, q, ← text-length t h (f .sized) (f .sound) s) (taken-front z (fileText t h) (omega (arith, text-few)))
 
 -- ---- the lines
 
@@ -75,8 +47,5 @@ unfolding sizeBelow
 size-most t test zero = omega arith
 size-most t test (suc n) = omega (arith, size-most t test n, size-at-most t test n)
 
-pub rooms-few : (t : List ℕ) → Fit t → rooms t ≤ 2048
-rooms-few t f = omega (arith, leb-true (length t) 65536 (and-right (eqb (length t % 32) 0) (leb (length t) 65536) (f .sized)))
-
 pub lines-few : (t : List ℕ) (test : List ℕ → Bool) → Fit t → length (lines t (listed t test)) < 65536
-lines-few t test f = rw (size-listed t test) (omega (arith, rooms-few t f, size-most t test (rooms t)))
+lines-few t test f = rw (size-listed t test) (omega (arith, sized-most t (f .sized), size-most t test (rooms t)))

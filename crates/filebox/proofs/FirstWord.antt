@@ -61,7 +61,8 @@ some-names (b ∷ w) e = go (colonSpot b) (split colonSpot w) e
     go false (v ∷ ws) f = nil≢cons (sym f)
 
 -- a letter before some names
-letter-names : (a : ℕ) (q : List ℕ) (b : Spot) (w : List Spot) → colonSpot b ≡ false → alone (a ∷ q) (namesIn (b ∷ w)) ≡ (eqb (b .byte) a && alone q (namesIn w))
+letter-names : (a : ℕ) (q : List ℕ) (b : Spot) (w : List Spot) → colonSpot b ≡ false
+    → alone (a ∷ q) (namesIn (b ∷ w)) ≡ (eqb (b .byte) a && alone q (namesIn w))
 unfolding split grow same
 letter-names a q b w e = rw e (go (split colonSpot w) (some-names w))
   where
@@ -132,15 +133,18 @@ here-colon : (q : List ℕ) (p : ℕ) (s : List ℕ) → alone q (here p (58 ∷
 unfolding here atColon
 here-colon q p s = rw (shut-colon p s) (head-colon q (record { at = p; byte = 58 } ∷ skipped (shut (suc p) s)) refl)
 
-here-letter : (a : ℕ) (q : List ℕ) (p b : ℕ) (s : List ℕ) → eqb b 32 ≡ false → eqb b 58 ≡ false → alone (a ∷ q) (here p (b ∷ s)) ≡ (eqb b a && alone q (here (suc p) s))
+here-letter : (a : ℕ) (q : List ℕ) (p b : ℕ) (s : List ℕ) → eqb b 32 ≡ false → eqb b 58 ≡ false
+    → alone (a ∷ q) (here p (b ∷ s)) ≡ (eqb b a && alone q (here (suc p) s))
 unfolding here
 here-letter a q p b s e f =
-    rw (shut-plain p b s e f, head-more (record { at = p; byte = b }) (shut (suc p) s) e) (letter-names a q (record { at = p; byte = b }) (head (split blankSpot (shut (suc p) s))) f)
+    rw (shut-plain p b s e f, head-more (record { at = p; byte = b }) (shut (suc p) s) e)
+    (letter-names a q (record { at = p; byte = b }) (head (split blankSpot (shut (suc p) s))) f)
 
 here-over : (p b : ℕ) (s : List ℕ) → eqb b 32 ≡ false → eqb b 58 ≡ false → alone [] (here p (b ∷ s)) ≡ false
 unfolding here
 here-over p b s e f =
-    rw (shut-plain p b s e f, head-more (record { at = p; byte = b }) (shut (suc p) s) e) (no-names (record { at = p; byte = b }) (head (split blankSpot (shut (suc p) s))) f)
+    rw (shut-plain p b s e f, head-more (record { at = p; byte = b }) (shut (suc p) s) e)
+    (no-names (record { at = p; byte = b }) (head (split blankSpot (shut (suc p) s))) f)
 
 -- after WRS and blanks: it is the word unless a colon follows
 shut-none : (p : ℕ) → shut p [] ≡ []

@@ -32,7 +32,8 @@ module _ (t l m r : List ℕ) (h : Held) where
   unfolding outcome
   made x s = rw (s .line .bytes, s .text .bytes, s .table, s .reply) (requested-cut (x .table) (x .line) (x .text) (x .reply) 1 65535)
 
-  pub request-tells : {a b : List ℕ} → a ≡ take (h .line) l → b ≡ take (h .text) m → {v : Answer} {t' r' : List ℕ} → Promised (requested t a b r 1 65535) v t' r'
+  pub request-tells : {a b : List ℕ} → a ≡ take (h .line) l → b ≡ take (h .text) m → {v : Answer} {t' r' : List ℕ}
+      → Promised (requested t a b r 1 65535) v t' r'
       → {o : List ℕ} {w : Answered} → Line v (take (w .line) o) → w .reply ≡ v .bytes → Asks t l m r h t' r' o w
   request-tells {a} {b} e f {v} p n k =
       record {
@@ -52,7 +53,8 @@ module _ (t l m r : List ℕ) (h : Held) where
       is : (x : Box) → Shows x t l m r h → v ≡ shown (outcome x .answer)
       is x s = p .answer ∙ ap (λ (o : Outcome). shown (o .answer)) (same x s)
 
-  pub answer-shows : {t' r' o : List ℕ} {w : Answered} → Asks t l m r h t' r' o w → (heard : Bool) {h' : Held} → h' ≡ fresh heard → Follows answered t l m r h t' l m r' h'
+  pub answer-shows : {t' r' o : List ℕ} {w : Answered} → Asks t l m r h t' r' o w → (heard : Bool) {h' : Held} → h' ≡ fresh heard
+      → Follows answered t l m r h t' l m r' h'
   unfolding answered between stages
   answer-shows q heard g =
       record {
@@ -87,8 +89,8 @@ module _ (t l m r : List ℕ) (h : Held) where
       }
 
   -- a byte of a line
-  line-follows : (b : ℕ) → h .asked ≡ false → (h' : Held) → h' .line ≡ cond (ltb (h .line) (length l)) (h .line + 1) (h .line) → h' .stage ≡ after (h .stage) b
-      → h' .asked ≡ false → h' .text ≡ h .text → Follows (λ x. grown x b) t l m r h t (set l (h .line) b) m r h'
+  line-follows : (b : ℕ) → h .asked ≡ false → (h' : Held) → h' .line ≡ cond (ltb (h .line) (length l)) (h .line + 1) (h .line)
+      → h' .stage ≡ after (h .stage) b → h' .asked ≡ false → h' .text ≡ h .text → Follows (λ x. grown x b) t l m r h t (set l (h .line) b) m r h'
   unfolding grown
   line-follows b e h' p q g n =
       record {
@@ -105,7 +107,8 @@ module _ (t l m r : List ℕ) (h : Held) where
       }
 
   -- a text ends, or a line that takes none
-  pub answer-ends : (t' r' : List ℕ) (h' : Held) → (h .asked ≡ true) ⊎ (isWrs (h .stage) ≡ false) → Follows answered t l m r h t' l m r' h' → Follows ended t l m r h t' l m r' h'
+  pub answer-ends : (t' r' : List ℕ) (h' : Held) → (h .asked ≡ true) ⊎ (isWrs (h .stage) ≡ false)
+      → Follows answered t l m r h t' l m r' h' → Follows ended t l m r h t' l m r' h'
   unfolding ended
   answer-ends t' r' h' e f = record { shows = λ x s. rw (test x s e) (f .shows x s) }
     where
@@ -114,20 +117,34 @@ module _ (t l m r : List ℕ) (h : Held) where
       test x s (inr w) = and-no-right (not (x .asked)) (takesText (x .line)) (sym (first-word (x .line)) ∙ rw (← s .stage) w)
 
   -- a line that takes a text ends
-  pub text-asked : (h' : Held) → h .asked ≡ false → isWrs (h .stage) ≡ true → h' .line ≡ h .line → h' .stage ≡ h .stage → h' .asked ≡ true → h' .text ≡ h .text
-      → Follows ended t l m r h t l m r h'
+  pub text-asked : (h' : Held) → h .asked ≡ false → isWrs (h .stage) ≡ true → h' .line ≡ h .line → h' .stage ≡ h .stage
+      → h' .asked ≡ true → h' .text ≡ h .text → Follows ended t l m r h t l m r h'
   unfolding ended
-  text-asked h' a w p q g n = record { shows = λ x s. rw (test x s) (record { table = s .table; reply = s .reply; line = rw p (s .line); stage = q ∙ s .stage; asked = g; text = rw n (s .text) }) }
+  text-asked h' a w p q g n =
+      record {
+        shows =
+            λ x s.
+            rw (test x s) (record {
+              table = s .table;
+              reply = s .reply;
+              line = rw p (s .line);
+              stage = q ∙ s .stage;
+              asked = g;
+              text = rw n (s .text);
+            });
+      }
     where
       test : (x : Box) → Shows x t l m r h → (not (x .asked) && takesText (x .line)) ≡ true
       test x s = rw (sym (s .asked) ∙ a, ← first-word (x .line), ← s .stage) w
 
   -- a byte of the input
-  pub end-steps : (b : ℕ) (t' r' : List ℕ) (h' : Held) → eqb b 10 ≡ true → Follows ended t l m r h t' l m r' h' → Follows (λ x. stepped x b) t l m r h t' l m r' h'
+  pub end-steps : (b : ℕ) (t' r' : List ℕ) (h' : Held) → eqb b 10 ≡ true → Follows ended t l m r h t' l m r' h'
+      → Follows (λ x. stepped x b) t l m r h t' l m r' h'
   unfolding stepped
   end-steps b t' r' h' e f = record { shows = λ x s. rw e (f .shows x s) }
 
-  pub grow-steps : (b : ℕ) (l' m' : List ℕ) (h' : Held) → eqb b 10 ≡ false → Grows b l m h l' m' h' → Follows (λ x. stepped x b) t l m r h t l' m' r h'
+  pub grow-steps : (b : ℕ) (l' m' : List ℕ) (h' : Held) → eqb b 10 ≡ false → Grows b l m h l' m' h'
+      → Follows (λ x. stepped x b) t l m r h t l' m' r h'
   unfolding stepped
   grow-steps b l' m' h' e f = record { shows = λ x s. rw e (f .shows t r .shows x s) }
 
@@ -135,7 +152,8 @@ module _ (t l m r : List ℕ) (h : Held) where
   begun : (x : Box) → Shows x t l m r h → 0 < h .line → 0 < length (x .line)
   begun x s p = omega (arith, s .line .count ∙ length-take 257 (x .line))
 
-  pub answer-finishes : (t' r' : List ℕ) (h' : Held) → (h .asked ≡ true) ⊎ (0 < h .line) → Follows answered t l m r h t' l m r' h' → Follows finished t l m r h t' l m r' h'
+  pub answer-finishes : (t' r' : List ℕ) (h' : Held) → (h .asked ≡ true) ⊎ (0 < h .line) → Follows answered t l m r h t' l m r' h'
+      → Follows finished t l m r h t' l m r' h'
   unfolding finished
   answer-finishes t' r' h' e f = record { shows = λ x s. rw (test x s e) (f .shows x s) }
     where
@@ -156,8 +174,8 @@ module _ (l m : List ℕ) (h : Held) (b : ℕ) {h' : Held} where
       → h' .text ≡ cond (ltb (h .text) (length m)) (h .text + 1) (h .text) → m' ≡ set m (h .text) b → Grows b l m h l m' h'
   text-grows e p q g n k = rw k (record { shows = λ t r. text-follows t l m r h b e h' p q g n })
 
-  pub line-grows : {l' : List ℕ} → h .asked ≡ false → h' .line ≡ cond (ltb (h .line) (length l)) (h .line + 1) (h .line) → h' .stage ≡ after (h .stage) b
-      → h' .asked ≡ false → h' .text ≡ h .text → l' ≡ set l (h .line) b → Grows b l m h l' m h'
+  pub line-grows : {l' : List ℕ} → h .asked ≡ false → h' .line ≡ cond (ltb (h .line) (length l)) (h .line + 1) (h .line)
+      → h' .stage ≡ after (h .stage) b → h' .asked ≡ false → h' .text ≡ h .text → l' ≡ set l (h .line) b → Grows b l m h l' m h'
   line-grows e p q g n k = rw k (record { shows = λ t r. line-follows t l m r h b e h' p q g n })
 
 -- one byte of the input more
@@ -166,11 +184,16 @@ unfolding fed
 fed-more x [] b = refl
 fed-more x (a ∷ s) b = fed-more (stepped x a) s b
 
-pub feed-more : (input : List ℕ) (i : ℕ) (t l m r : List ℕ) (h : Held) (t₁ l₁ m₁ r₁ : List ℕ) (h₁ : Held) (t₂ l₂ m₂ r₂ : List ℕ) (h₂ : Held) → i < length input
-    → Follows (λ x. fed x (take i input)) t l m r h t₁ l₁ m₁ r₁ h₁ → Follows (λ x. stepped x (getD input i 0)) t₁ l₁ m₁ r₁ h₁ t₂ l₂ m₂ r₂ h₂
+pub feed-more : (input : List ℕ) (i : ℕ) (t l m r : List ℕ) (h : Held) (t₁ l₁ m₁ r₁ : List ℕ) (h₁ : Held) (t₂ l₂ m₂ r₂ : List ℕ) (h₂ : Held)
+    → i < length input → Follows (λ x. fed x (take i input)) t l m r h t₁ l₁ m₁ r₁ h₁
+    → Follows (λ x. stepped x (getD input i 0)) t₁ l₁ m₁ r₁ h₁ t₂ l₂ m₂ r₂ h₂
     → Follows (λ x. fed x (take (i + 1) input)) t l m r h t₂ l₂ m₂ r₂ h₂
 feed-more input i t l m r h t₁ l₁ m₁ r₁ h₁ t₂ l₂ m₂ r₂ h₂ n f g =
-    record { shows = λ x s. rw (add-one, take-suc input i 0 n, fed-more x (take i input) (getD input i 0)) (g .shows (fed x (take i input)) (f .shows x s)) }
+    record {
+      shows =
+          λ x s.
+          rw (add-one, take-suc input i 0 n, fed-more x (take i input) (getD input i 0)) (g .shows (fed x (take i input)) (f .shows x s));
+    }
 
 pub feed-none : (input t l m r : List ℕ) (h : Held) → Follows (λ x. fed x (take 0 input)) t l m r h t l m r h
 unfolding fed
@@ -190,8 +213,8 @@ came-none t l m r h heard p q e =
       shows = record { table = refl; reply = refl; line = holds-none 257 l p; stage = refl; asked = refl; text = holds-none 24001 m q };
     })
 
-pub came-further : (input : List ℕ) (t l m r : List ℕ) (h : Held) (t' l' m' r' : List ℕ) (h' : Held) → Follows (λ y. fed y input) t l m r h t' l' m' r' h'
-    → Further t l m r h t' l' m' r' h'
+pub came-further : (input : List ℕ) (t l m r : List ℕ) (h : Held) (t' l' m' r' : List ℕ) (h' : Held)
+    → Follows (λ y. fed y input) t l m r h t' l' m' r' h' → Further t l m r h t' l' m' r' h'
 came-further input t l m r h t' l' m' r' h' f =
     record {
       came =
@@ -205,7 +228,8 @@ came-further input t l m r h t' l' m' r' h' f =
 pub came-still : (t l m r : List ℕ) (h : Held) → Further t l m r h t l m r h
 came-still t l m r h = record { came = λ t₀ r₀ c. c }
 
-pub came-over : (t₀ r₀ t l m r : List ℕ) (h : Held) (t' r' : List ℕ) (h' : Held) → Came t₀ r₀ t l m r h → Follows finished t l m r h t' l m r' h' → Over t₀ r₀ t' r'
+pub came-over : (t₀ r₀ t l m r : List ℕ) (h : Held) (t' r' : List ℕ) (h' : Held) → Came t₀ r₀ t l m r h
+    → Follows finished t l m r h t' l m r' h' → Over t₀ r₀ t' r'
 came-over t₀ r₀ t l m r h t' r' h' c f =
     let s = f .shows (fed (between t₀ r₀) (c .input)) (c .shows) in
     record { input = c .input; table = s .table; reply = s .reply }

@@ -31,7 +31,8 @@ fn read_some(
     reads: u64,
 ) -> Turn
     requires { ⌜ 0 < reads ⌝ }
-    ensures { λ r. ⌜ Further (now (table .entry)) (now (line .entry)) (now (text .entry)) (now (reply .entry)) held (now (table .exit)) (now (line .exit)) (now (text .exit)) (now (reply .exit)) (r .held) × (r .reads < reads) ⌝ }
+    ensures { λ r. ⌜ Further (now (table .entry)) (now (line .entry)) (now (text .entry)) (now (reply .entry))
+        held (now (table .exit)) (now (line .exit)) (now (text .exit)) (now (reply .exit)) (r .held) × (r .reads < reads) ⌝ }
 {
     let mut chunk = io::buffer();
     let got = libc::read(STDIN_FILENO, &mut chunk);

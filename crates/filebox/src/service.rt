@@ -26,7 +26,8 @@ fn ask(
     out: &mut [u8],
 ) -> Answered
     requires { ⌜ length (now out) ≡ 66 ⌝ }
-    ensures { λ r. ⌜ Asks (now (table .entry)) (now (line .entry)) (now (text .entry)) (now (reply .entry)) held (now (table .exit)) (now (reply .exit)) (now (out .exit)) r ⌝ }
+    ensures { λ r. ⌜ Asks (now (table .entry)) (now (line .entry)) (now (text .entry)) (now (reply .entry))
+        held (now (table .exit)) (now (reply .exit)) (now (out .exit)) r ⌝ }
 {
     let n = held.line;
     let m = held.text;
@@ -39,7 +40,8 @@ fn ask(
 
 // .. and written, unless an earlier one could not be.
 fn answer(table: &mut [u8], line: &[u8], text: &[u8], reply: &mut [u8], held: Held) -> Held
-    ensures { λ r. ⌜ Follows answered (now (table .entry)) (now (line .entry)) (now (text .entry)) (now (reply .entry)) held (now (table .exit)) (now (line .entry)) (now (text .entry)) (now (reply .exit)) r ⌝ }
+    ensures { λ r. ⌜ Follows answered (now (table .entry)) (now (line .entry)) (now (text .entry)) (now (reply .entry))
+        held (now (table .exit)) (now (line .entry)) (now (text .entry)) (now (reply .exit)) r ⌝ }
 {
     let mut out = [0u8; 66];
     let told = ask(table, line, text, reply, held, &mut out);
@@ -78,7 +80,8 @@ fn grow(line: &mut [u8], text: &mut [u8], held: Held, b: u8) -> Held
 
 // "takes the line after a WRS, refused or not, as its text"
 fn end(table: &mut [u8], line: &[u8], text: &[u8], reply: &mut [u8], held: Held) -> Held
-    ensures { λ r. ⌜ Follows ended (now (table .entry)) (now (line .entry)) (now (text .entry)) (now (reply .entry)) held (now (table .exit)) (now (line .entry)) (now (text .entry)) (now (reply .exit)) r ⌝ }
+    ensures { λ r. ⌜ Follows ended (now (table .entry)) (now (line .entry)) (now (text .entry)) (now (reply .entry))
+        held (now (table .exit)) (now (line .entry)) (now (text .entry)) (now (reply .exit)) r ⌝ }
 {
     let stage = held.stage;
     if held.asked {
@@ -105,7 +108,8 @@ fn step(
     held: Held,
     b: u8,
 ) -> Held
-    ensures { λ r. ⌜ Follows (λ x. stepped x b) (now (table .entry)) (now (line .entry)) (now (text .entry)) (now (reply .entry)) held (now (table .exit)) (now (line .exit)) (now (text .exit)) (now (reply .exit)) r ⌝ }
+    ensures { λ r. ⌜ Follows (λ x. stepped x b) (now (table .entry)) (now (line .entry)) (now (text .entry)) (now (reply .entry))
+        held (now (table .exit)) (now (line .exit)) (now (text .exit)) (now (reply .exit)) r ⌝ }
 {
     if b == b'\n' {
         return end(table, line, text, reply, held);
@@ -122,7 +126,8 @@ pub(crate) fn feed(
     held: Held,
     input: &[u8],
 ) -> Held
-    ensures { λ r. ⌜ Follows (λ x. fed x (now (input .entry))) (now (table .entry)) (now (line .entry)) (now (text .entry)) (now (reply .entry)) held (now (table .exit)) (now (line .exit)) (now (text .exit)) (now (reply .exit)) r ⌝ }
+    ensures { λ r. ⌜ Follows (λ x. fed x (now (input .entry))) (now (table .entry)) (now (line .entry)) (now (text .entry)) (now (reply .entry))
+        held (now (table .exit)) (now (line .exit)) (now (text .exit)) (now (reply .exit)) r ⌝ }
 {
     let mut now = held;
     let mut i = 0;
@@ -141,7 +146,8 @@ pub(crate) fn finish(
     reply: &mut [u8],
     held: Held,
 ) -> Held
-    ensures { λ r. ⌜ Follows finished (now (table .entry)) (now (line .entry)) (now (text .entry)) (now (reply .entry)) held (now (table .exit)) (now (line .entry)) (now (text .entry)) (now (reply .exit)) r ⌝ }
+    ensures { λ r. ⌜ Follows finished (now (table .entry)) (now (line .entry)) (now (text .entry)) (now (reply .entry))
+        held (now (table .exit)) (now (line .entry)) (now (text .entry)) (now (reply .exit)) r ⌝ }
 {
     if held.asked {
         return answer(table, line, text, reply, held);

@@ -17,7 +17,8 @@ pub extern "C" fn filebox_request(
     user: u32,
     stop: u32,
 ) -> Answer
-    ensures { λ r. ⌜ Promised (requested (now (table .entry)) (now (line .entry)) (now (text .entry)) (now (reply .entry)) user stop) r (now (table .exit)) (now (reply .exit)) ⌝ }
+    ensures { λ r. ⌜ Promised (requested (now (table .entry)) (now (line .entry)) (now (text .entry)) (now (reply .entry)) user stop)
+        r (now (table .exit)) (now (reply .exit)) ⌝ }
 {
     elephant::request(table, line, text, reply, user, stop)
 }

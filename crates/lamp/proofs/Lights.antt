@@ -6,7 +6,6 @@ use Prim.Native.Nat.{ℕ}
 use Rattle.job.specs.Refusal.{admission}
 use Rattle.job.specs.Filing as F
 use Rattle.job.specs.Reading as R
-use Rattle.job.specs.Lamp as job
 use Rattle.job.specs.Lamp.{green, red, refusal, afterReading, afterFiling, ran, lit}
 use Rattle.lamp.specs.Shown.{shown, Lighted}
 use Rattle.lamp.specs.Refused.{admissionShown}

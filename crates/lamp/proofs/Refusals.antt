@@ -21,7 +21,6 @@ use Rattle.job.specs.Lamp.{refusal, ran, admitted, lit}
 use Rattle.job_demands.proofs.Admitting.{each-none, each-first, Admitted, admits, refuses}
 use Rattle.job_demands.proofs.Admitting as admitting
 use Rattle.lamp.specs.Refused.{numbered, firstSheet, admissionShown}
-use Rattle.lamp.specs.declared.refusal.Admission.{Admission}
 use Rattle.lamp.specs.declared.refusal.Admission.the-variants.{Passed, Refused}
 
 module _ (p : ℕ → Bool) where

@@ -2,14 +2,13 @@
 -- Each turn takes one sheet off the front, and one request's answer is that of its definition.
 use mathlib.Core.Bool.{Bool, true, false}
 use mathlib.Core.List.{List, []}
-use mathlib.Core.Path.{_≡_, refl, sym, ap, _∙_}
-use Prim.Native.Nat.{ℕ, suc, _+_, _-_, _≤_, _<_}
+use mathlib.Core.Path.{_≡_, sym, ap, _∙_}
+use Prim.Native.Nat.{ℕ, _+_, _-_, _≤_, _<_}
 use native.Mathlib.Omega.{arith}
 use native.Mathlib.Numerals.{add-one}
-use lib.Dec.{eqb}
 use lib.ListN.{take, drop}
-use borrow.Author.Tests.{eq-eqb, ne-eqb}
-use Rattle.paper.specs.Answer.{Outcome, requested}
+use borrow.Author.Tests.{ne-eqb}
+use Rattle.paper.specs.Answer.{requested}
 use Rattle.paper.specs.Table.{rec}
 use Rattle.demands.proofs.Answered.{answered}
 use Rattle.demands.proofs.Long.{line-cut}

@@ -1,4 +1,5 @@
 // The sheets filed in order, one stop number for all of them.
+use crate::line::Line;
 use crate::line::compose;
 use crate::sheet::count_sheets;
 use crate::sheet::length_of;
@@ -37,7 +38,7 @@ fn file_one(
     ensures { λ r. ⌜ Asked (filed (now (table .entry)) (now (chain .entry)) user left (sheetOf (now (link .entry)) (now (text .entry))))
         left r (now (table .exit)) ⌝ }
 {
-    let mut line = [0u8; 257];
+    let mut line = [0u8; Line::HELD];
     let n = compose(&mut line, b"WRS M ", chain, link);
     let mut none = [0u8; 0];
     elephant::request(table, &line[..n], text, &mut none, user, left)

@@ -6,6 +6,14 @@ ghost use lib.ListN.{length};
 ghost use Rattle.job.specs.Filing.{below};
 ghost use Rattle.lamp.specs.Runs.{Grown, Holds};
 
+// A line under way.
+pub struct Line;
+
+impl Line {
+    // One byte more than the longest line that the box reads.
+    pub const HELD: usize = 257;
+}
+
 // Bytes put after the first `at` of a line, as many as there is room for: how long it is then.
 fn put(line: &mut [u8], at: usize, s: &[u8]) -> usize
     requires { ⌜ at ≤ length (now line) ⌝ }

@@ -1,4 +1,5 @@
 // The sheets read back in order, each compared with the text sent.
+use crate::line::Line;
 use crate::line::compose;
 use crate::sheet::count_sheets;
 use crate::sheet::length_of;
@@ -27,7 +28,7 @@ fn read_one(table: &mut [u8], back: &mut [u8], chain: &[u8], link: &[u8], user: 
     ensures { λ r. ⌜ Promised (readBack (now (table .entry)) (now (chain .entry)) (now (back .entry)) user (sheetOf (now (link .entry)) []))
         r (now (table .exit)) (now (back .exit)) ⌝ }
 {
-    let mut line = [0u8; 257];
+    let mut line = [0u8; Line::HELD];
     let n = compose(&mut line, b"RDS ", chain, link);
     elephant::request(table, &line[..n], &link[..0], back, user, 0)
 }

@@ -5,10 +5,8 @@ use crate::sheet::length_of;
 use crate::sheet::link_of;
 use records::name::are_same;
 ghost use mathlib.Core.Path.{_≡_};
-ghost use mathlib.Core.Bool.{not};
 ghost use lib.ListN.{length};
-ghost use Rattle.paper.specs.Table.{rec};
-ghost use Rattle.job.specs.Sheet.{count, formed};
+ghost use Rattle.job.specs.Sheet.{count};
 ghost use Rattle.job.specs.Refusal.{twice, missing, admission};
 ghost use Rattle.lamp.specs.Refused.{wrong, firstSheet, admissionShown};
 

@@ -12,12 +12,11 @@ ghost use Rattle.paper.specs.Record.{zeros};
 ghost use Rattle.paper.specs.Table.{rec};
 ghost use Rattle.job.specs.Sheet.{count, unpadded, linkOf, lengthOf, formed};
 
-// A sheet in a lent job.
-pub struct Sheet(pub usize);
+// A job sheet's layout: its bytes, those of its name, and where its text's length and the rest stand.
+struct Sheet;
 
 impl Sheet {
-    // The bytes of a sheet, its name's, and where its text's length and the rest stand.
-    pub const SIZE: usize = 32;
+    const SIZE: usize = 32;
 
     const MOST_NAME: usize = 10;
 
@@ -31,7 +30,7 @@ pub fn count_sheets(sheets: &[u8]) -> usize
     ensures { λ r. ⌜ r ≡ count (now (sheets .entry)) ⌝ }
 {
     let n = sheets.len();
-    n / Sheet::SIZE + (n % Sheet::SIZE + 31) / Sheet::SIZE
+    n / Sheet::SIZE + (n % Sheet::SIZE + (Sheet::SIZE - 1)) / Sheet::SIZE
 }
 
 // The bytes before the first zero.

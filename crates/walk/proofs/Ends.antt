@@ -1,7 +1,7 @@
 -- Where a walk of the code ends the paper's ends: its answer is the paper's shown, and showing loses nothing.
 -- So the paper's walk is the case that the code's answer chooses.
 use mathlib.Core.List.{List}
-use mathlib.Core.Path.{_≡_, refl, sym, ap, _∙_}
+use mathlib.Core.Path.{_≡_, sym, ap, _∙_}
 use Prim.Native.Nat.{ℕ}
 use Rattle.paper.specs.Walk as W
 use Rattle.paper.specs.Walk.{reached, stopped, toDirectory, toLast, arrived, astray, lastFrom, endFrom, ended}

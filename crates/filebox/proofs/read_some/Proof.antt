@@ -50,8 +50,11 @@ same-length-4 c = search needs
 
 returns-2 : tie.Need-returns-2
 returns-2 c =
-    let a = c .before .before .before .before .before .before .before .before .before .before .before .before .before .before .before .before .before .before .before .before .before .before .before .before .before .before .args in
-    (came-further _ (a .table .now) (a .line .now) (a .text .now) (a .reply .now) (a .held) _ _ _ _ _ (c .before .before .before .before .before .before .before .before .before .feed .ensures), omega arith)
+    let at-table = c .before .before .before .before .before .before .before .before in
+    let at-count = at-table .before .before .before .before .before .before .before .before in
+    let at-buffer = at-count .before .before .before .before .before in
+    let a = at-buffer .before .before .before .before .before .args in
+    (came-further _ (a .table .now) (a .line .now) (a .text .now) (a .reply .now) (a .held) _ _ _ _ _ (at-table .before .feed .ensures), omega arith)
 
 same-length-5 : tie.Need-same-length-5
 same-length-5 c = search needs
@@ -67,8 +70,11 @@ same-length-8 c = search needs
 
 returns-3 : tie.Need-returns-3
 returns-3 c =
-    let a = c .before .before .before .before .before .before .before .before .before .before .before .before .before .before .before .before .before .before .before .before .before .before .before .before .before .before .args in
-    (came-further _ (a .table .now) (a .line .now) (a .text .now) (a .reply .now) (a .held) _ _ _ _ _ (c .before .before .before .before .before .before .before .before .before .feed .ensures), omega arith)
+    let at-table = c .before .before .before .before .before .before .before .before in
+    let at-count = at-table .before .before .before .before .before .before .before .before in
+    let at-buffer = at-count .before .before .before .before .before in
+    let a = at-buffer .before .before .before .before .before .args in
+    (came-further _ (a .table .now) (a .line .now) (a .text .now) (a .reply .now) (a .held) _ _ _ _ _ (at-table .before .feed .ensures), omega arith)
 
 pub read-some-spec : {M : Type 1} → statement M
 read-some-spec =

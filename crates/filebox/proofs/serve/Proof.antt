@@ -25,19 +25,34 @@ new-requires c κs = tt
 
 loop-holds : tie.Need-loop-holds Inv-loop μ-loop
 loop-holds c =
-    let a = c .before .before .before .before .before .args in
-    (came-none (a .table .now) (a .line .now) (a .text .now) (a .reply .now) (c .new .result) true (c .before .before .before .before .before .pre .0) (c .before .before .before .before .before .pre .1) (c .new .ensures), refl, refl, refl, refl)
+    let start = c .before .before .before .before .before in
+    let a = start .args in (
+      came-none (a .table .now) (a .line .now) (a .text .now) (a .reply .now) (c .new .result) true (start .pre .0) (start .pre .1) (c .new .ensures),
+      refl,
+      refl,
+      refl,
+      refl,
+    )
 
 read-some-requires : tie.Need-read-some-requires Inv-loop μ-loop
 read-some-requires c κs = omega arith
 
 loop-less : tie.Need-loop-less Inv-loop μ-loop
-loop-less c = c .before .before .before .before .before .before .before .before .before .read-some .ensures .1
+loop-less c =
+    let at-table = c .before .before .before .before .before .before .before .before in
+    at-table .before .read-some .ensures .1
 
 loop-again : tie.Need-loop-again Inv-loop μ-loop
 loop-again c =
-    let a = c .before .before .before .before .before .before .before .before .before .before .before .before .before .before .before .before .before .before .before .before .before .args in
-    (c .before .before .before .before .before .before .before .before .before .read-some .ensures .0 .came (a .table .now) (a .reply .now) (c .before .before .before .before .before .before .before .before .before .before .before .before .before .before .before .loop .inv .0), omega arith, omega arith, omega arith, omega arith)
+    let at-table = c .before .before .before .before .before .before .before .before in
+    let at-loop = at-table .before .before .before .before .before .before .before in
+    let a = at-loop .before .before .before .before .before .before .args in (
+      at-table .before .read-some .ensures .0 .came (a .table .now) (a .reply .now) (at-loop .loop .inv .0),
+      omega arith,
+      omega arith,
+      omega arith,
+      omega arith,
+    )
 
 finish-requires : tie.Need-finish-requires Inv-loop μ-loop
 finish-requires c κs = tt
@@ -56,9 +71,12 @@ same-length-4 c = omega arith
 
 returns : tie.Need-returns Inv-loop μ-loop
 returns c =
-    let a = c .before .before .before .before .before .before .before .before .before .before .before .before .before .before .before .before .args in
-    let l = c .before .before .before .before .before .before .before .before .before .before .loop in
-    came-over (a .table .now) (a .reply .now) (l .table) (l .line) (l .text) (l .reply) (l .held) _ _ _ (l .inv .0) (c .before .before .before .before .finish .ensures)
+    let at-finish = c .before .before .before .before in
+    let at-loop = at-finish .before .before .before .before .before .before in
+    let a = at-loop .before .before .before .before .before .before .args in
+    let l = at-loop .loop in
+    came-over (a .table .now) (a .reply .now) (l .table) (l .line) (l .text) (l .reply) (l .held) _ _ _ (l .inv .0)
+    (at-finish .finish .ensures)
 
 pub serve-spec : {M : Type 1} → statement M
 serve-spec =

@@ -1,6 +1,5 @@
 -- Below the last number that is shown the sheet's own is;
 -- from there on the last.
-use mathlib.Core.Path.{_≡_, refl, sym, ap, _∙_}
 use native.Mathlib.Omega.{arith}
 use borrow.Author.Needs.{needs}
 use borrow.Author.Tests.{lt-ltb, le-ltb}

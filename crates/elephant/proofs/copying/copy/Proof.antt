@@ -5,7 +5,8 @@ use Prim.Native.Nat.{ℕ}
 use native.Mathlib.Omega.{arith}
 use lib.ListN.{length-replicate}
 use Rattle.elephant.specs.Done.{Fit}
-use Rattle.elephant.proofs.Written.{text-size, text-few, text-copied}
+use Rattle.effects.proofs.Lengths.{text-length}
+use Rattle.elephant.proofs.Written.{text-few, text-copied}
 use borrow.Author.Needs.{needs}
 use Rattle.elephant.proofs.copying.copy.Statement.{statement}
 use Rattle.elephant.proofs.copying.copy.Tie as tie
@@ -92,7 +93,7 @@ returns c =
       at-or-else2 .or-else2 .ensures,
       at-level-of .level-of .ensures,
       at-or-else .or-else .ensures,
-      n .ensures .0 ∙ sym (text-size (a .table .now) (a .source .0) f (p .1)),
+      n .ensures .0 ∙ sym (text-length (a .table .now) (a .source .0) (f .sized) (f .sound) (p .1)),
     ) at (c .before .before .file .ensures)
 
 pub copy-spec : {M : Type 1} → statement M

@@ -8,7 +8,8 @@ use Rattle.paper.specs.Listing.{listed, lines}
 use Rattle.listing.specs.Shown.{isListed}
 use Rattle.listing.proofs.Promised.{reply-after}
 use Rattle.elephant.proofs.Verdicts.{wrote-short, wrote-out}
-use Rattle.elephant.proofs.Written.{rooms-few, lines-few}
+use Rattle.effects.proofs.Papers.{sized-most}
+use Rattle.elephant.proofs.Written.{lines-few}
 use borrow.Author.Needs.{needs}
 use Rattle.elephant.proofs.reply.list.Statement.{statement}
 use Rattle.elephant.proofs.reply.list.Tie as tie
@@ -50,7 +51,7 @@ returns-2 c =
     let t = a .table .now in
     let n = at-listed-length .listed-length .ensures in
     let l : length (lines t (listed t (isListed (a .which)))) ≤ length (a .reply .now) = omega (arith, n) in
-    let w = c .before .before .before .write-lines .ensures ∙ reply-after (a .which) t (a .reply .now) (rooms-few t (start .pre))
+    let w = c .before .before .before .write-lines .ensures ∙ reply-after (a .which) t (a .reply .now) (sized-most t (start .pre .sized))
     (start .pre .sound) l in
     rw (c .granted .ensures, n) (wrote-out t (a .reply .now) (lines t (listed t (isListed (a .which)))) _ l w)
 

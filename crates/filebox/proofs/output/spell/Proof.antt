@@ -20,22 +20,35 @@ copy-in-requires : tie.Need-copy-in-requires
 copy-in-requires c κs = search needs
 
 add-e : tie.Need-add-e
-add-e c = omega (arith, few-digits (c .before .before .before .before .before .before .before .before .args .n) (c .before .before .before .before .before .decimal .result) (omega arith) (c .before .before .before .before .before .decimal .ensures .1 .0))
+add-e c =
+    let at-decimal = c .before .before .before .before .before in
+    let start = at-decimal .before .before .before in
+    omega (arith, few-digits (start .args .n) (at-decimal .decimal .result) (omega arith) (at-decimal .decimal .ensures .1 .0))
 
 slice-write-out : tie.Need-slice-write-out
-slice-write-out c = omega (arith, few-digits (c .before .before .before .before .before .before .before .before .args .n) (c .before .before .before .before .before .decimal .result) (omega arith) (c .before .before .before .before .before .decimal .ensures .1 .0))
+slice-write-out c =
+    let at-decimal = c .before .before .before .before .before in
+    let start = at-decimal .before .before .before in
+    omega (arith, few-digits (start .args .n) (at-decimal .decimal .result) (omega arith) (at-decimal .decimal .ensures .1 .0))
 
 add-result : tie.Need-add-result
-add-result c = omega (arith, few-digits (c .before .before .before .before .before .before .before .before .args .n) (c .before .before .before .before .before .decimal .result) (omega arith) (c .before .before .before .before .before .decimal .ensures .1 .0))
+add-result c =
+    let at-decimal = c .before .before .before .before .before in
+    let start = at-decimal .before .before .before in
+    omega (arith, few-digits (start .args .n) (at-decimal .decimal .result) (omega arith) (at-decimal .decimal .ensures .1 .0))
 
 same-length : tie.Need-same-length
 same-length c = search needs
 
 returns : tie.Need-returns
 returns c =
-    let a = c .before .before .before .before .before .before .before .before .args in
-    let d = c .before .before .before .before .before .decimal .ensures in
-    spelled (a .out .now) _ _ _ (a .at) (a .n) (a .after) (c .before .before .before .before .before .decimal .result) (c .before .before .before .before .before .before .before .before .pre) (few-digits (c .before .before .before .before .before .before .before .before .args .n) (c .before .before .before .before .before .decimal .result) (omega arith) (c .before .before .before .before .before .decimal .ensures .1 .0)) (d .0 .1) (d .1 .0) (d .1 .1) (c .before .before .copy-in .ensures) refl
+    let at-decimal = c .before .before .before .before .before in
+    let start = at-decimal .before .before .before in
+    let a = start .args in
+    let d = at-decimal .decimal in
+    spelled (a .out .now) _ _ _ (a .at) (a .n) (a .after) (d .result) (start .pre)
+    (few-digits (a .n) (d .result) (omega arith) (d .ensures .1 .0))
+    (d .ensures .0 .1) (d .ensures .1 .0) (d .ensures .1 .1) (c .before .before .copy-in .ensures) refl
 
 pub spell-spec : {M : Type 1} → statement M
 spell-spec =

@@ -27,7 +27,15 @@ same-length : tie.Need-same-length
 same-length c = search needs
 
 returns : tie.Need-returns
-returns c = lined (c .before .before .before .before .before .before .before .before .before .before .before .before .before .before .before .before .before .before .before .before .before .before .before .before .before .args .a) (c .before .before .before .before .before .before .before .before .before .before .before .before .before .before .before .before .before .before .before .before .before .before .spell .ensures) (c .before .before .before .before .before .before .before .before .before .before .before .before .before .before .before .before .before .before .spell2 .ensures) (c .before .before .before .before .before .before .before .before .before .before .before .before .before .before .spell3 .ensures) (c .before .before .before .before .before .before .before .before .before .before .spell4 .ensures) (c .before .before .before .before .before .before .spell5 .ensures) (c .before .before .spell6 .ensures)
+returns c =
+    let at-spell6 = c .before .before in
+    let at-spell5 = at-spell6 .before .before .before .before in
+    let at-spell4 = at-spell5 .before .before .before .before in
+    let at-spell3 = at-spell4 .before .before .before .before in
+    let at-spell2 = at-spell3 .before .before .before .before in
+    let at-spell = at-spell2 .before .before .before .before in
+    lined (at-spell .before .before .before .args .a) (at-spell .spell .ensures) (at-spell2 .spell2 .ensures)
+    (at-spell3 .spell3 .ensures) (at-spell4 .spell4 .ensures) (at-spell5 .spell5 .ensures) (at-spell6 .spell6 .ensures)
 
 pub spell-answer-spec : {M : Type 1} → statement M
 spell-answer-spec =

@@ -34,7 +34,12 @@ same-length-2 : tie.Need-same-length-2
 same-length-2 c = search needs
 
 returns : tie.Need-returns
-returns c = let a = c .before .before .before .before .before .before .before .before .before .before .before .before .before .before .before .before .before .before .before .before .args in answer-shows (a .table .now) (a .line .now) (a .text .now) (a .reply .now) (a .held) (c .before .before .before .before .before .before .before .before .before .before .before .before .ask .ensures) (c .before .put .result) (c .new .ensures)
+returns c =
+    let at-if1 = c .before .before .before .before .before .before in
+    let at-ask = at-if1 .before .before .before .before .before .before in
+    let a = at-ask .before .before .before .before .before .before .before .before .args in
+    answer-shows (a .table .now) (a .line .now) (a .text .now) (a .reply .now) (a .held)
+    (at-ask .ask .ensures) (c .before .put .result) (c .new .ensures)
 
 new-requires-2 : tie.Need-new-requires-2
 new-requires-2 c κs = search needs
@@ -46,7 +51,10 @@ same-length-4 : tie.Need-same-length-4
 same-length-4 c = search needs
 
 returns-2 : tie.Need-returns-2
-returns-2 c = let a = c .before .before .before .before .before .before .before .before .before .before .before .before .before .before .before .args in answer-shows (a .table .now) (a .line .now) (a .text .now) (a .reply .now) (a .held) (c .before .before .before .before .before .before .before .ask .ensures) false (c .new2 .ensures)
+returns-2 c =
+    let at-ask = c .before .before .before .before .before .before .before in
+    let a = at-ask .before .before .before .before .before .before .before .before .args in
+    answer-shows (a .table .now) (a .line .now) (a .text .now) (a .reply .now) (a .held) (at-ask .ask .ensures) false (c .new2 .ensures)
 
 pub answer-spec : {M : Type 1} → statement M
 answer-spec =

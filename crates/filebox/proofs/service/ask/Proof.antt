@@ -31,7 +31,14 @@ same-length-3 : tie.Need-same-length-3
 same-length-3 c = search needs
 
 returns : tie.Need-returns
-returns c = let a = c .before .before .before .before .before .before .before .before .before .before .before .before .before .before .before .before .before .before .before .args in request-tells (a .table .now) (a .line .now) (a .text .now) (a .reply .now) (a .held) (c .before .before .before .before .before .before .before .before .before .before .before .before .first .ensures) (c .before .before .before .before .before .before .before .before .before .before .before .first2 .ensures) (c .before .before .before .before .before .before .before .before .before .request .ensures) (c .before .before .before .spell-answer .ensures) refl
+returns c =
+    let at-spell-answer = c .before .before .before in
+    let at-request = at-spell-answer .before .before .before .before .before .before in
+    let at-first2 = at-request .before .before in
+    let at-first = at-first2 .before in
+    let a = at-first .before .before .before .before .before .before .before .args in
+    request-tells (a .table .now) (a .line .now) (a .text .now) (a .reply .now) (a .held)
+    (at-first .first .ensures) (at-first2 .first2 .ensures) (at-request .request .ensures) (at-spell-answer .spell-answer .ensures) refl
 
 pub ask-spec : {M : Type 1} → statement M
 ask-spec =

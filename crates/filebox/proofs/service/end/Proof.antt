@@ -17,13 +17,21 @@ same-length-2 : tie.Need-same-length-2
 same-length-2 c = search needs
 
 returns : tie.Need-returns
-returns c = let a = c .before .before .before .before .before .before .before .before .before .before .before .before .args in answer-ends (a .table .now) (a .line .now) (a .text .now) (a .reply .now) (a .held) _ _ _ (inl (c .before .before .before .before .before .before .before .if1 .taken)) (c .before .before .before .before .answer .ensures)
+returns c =
+    let at-answer = c .before .before .before .before in
+    let at-if1 = at-answer .before .before .before in
+    let a = at-if1 .before .before .before .before .before .args in
+    answer-ends (a .table .now) (a .line .now) (a .text .now) (a .reply .now) (a .held) _ _ _
+    (inl (at-if1 .if1 .taken)) (at-answer .answer .ensures)
 
 is-wrs-requires : tie.Need-is-wrs-requires
 is-wrs-requires c κs = tt
 
 returns-2 : tie.Need-returns-2
-returns-2 c = let a = c .before .before .before .before .before .before .before .args in text-asked (a .table .now) (a .line .now) (a .text .now) (a .reply .now) (a .held) _ (c .before .before .if1 .left) (sym (c .before .is-wrs .ensures) ∙ c .if2 .taken) refl refl refl refl
+returns-2 c =
+    let a = c .before .before .before .before .before .before .before .args in
+    text-asked (a .table .now) (a .line .now) (a .text .now) (a .reply .now) (a .held) _
+    (c .before .before .if1 .left) (sym (c .before .is-wrs .ensures) ∙ c .if2 .taken) refl refl refl refl
 
 answer-requires-2 : tie.Need-answer-requires-2
 answer-requires-2 c κs = tt
@@ -35,7 +43,12 @@ same-length-4 : tie.Need-same-length-4
 same-length-4 c = search needs
 
 returns-3 : tie.Need-returns-3
-returns-3 c = let a = c .before .before .before .before .before .before .before .before .before .before .before .before .before .before .args in answer-ends (a .table .now) (a .line .now) (a .text .now) (a .reply .now) (a .held) _ _ _ (inr (sym (c .before .before .before .before .before .before .before .before .is-wrs .ensures) ∙ c .before .before .before .before .before .before .before .if2 .left)) (c .before .before .before .before .answer2 .ensures)
+returns-3 c =
+    let at-answer2 = c .before .before .before .before in
+    let at-if2 = at-answer2 .before .before .before in
+    let a = at-if2 .before .before .before .before .before .before .before .args in
+    answer-ends (a .table .now) (a .line .now) (a .text .now) (a .reply .now) (a .held) _ _ _
+    (inr (sym (at-if2 .before .is-wrs .ensures) ∙ at-if2 .if2 .left)) (at-answer2 .answer2 .ensures)
 
 pub end-spec : {M : Type 1} → statement M
 end-spec =

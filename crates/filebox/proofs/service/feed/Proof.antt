@@ -24,7 +24,15 @@ abbrev μ-loop : tie.MeasureT-loop
 μ-loop table₀ line₀ text₀ reply₀ input now₀ i₀ table line text reply now i = length input - i
 
 loop-holds : tie.Need-loop-holds Inv-loop μ-loop
-loop-holds c = let a = c .before .before .before .before .before .args in (feed-none (a .input .now) (a .table .now) (a .line .now) (a .text .now) (a .reply .now) (a .held), omega arith, refl, refl, refl, refl)
+loop-holds c =
+    let a = c .before .before .before .before .before .args in (
+      feed-none (a .input .now) (a .table .now) (a .line .now) (a .text .now) (a .reply .now) (a .held),
+      omega arith,
+      refl,
+      refl,
+      refl,
+      refl,
+    )
 
 shared-slice-read-step : tie.Need-shared-slice-read-step Inv-loop μ-loop
 shared-slice-read-step c = omega arith
@@ -40,9 +48,18 @@ loop-less c = omega arith
 
 loop-again : tie.Need-loop-again Inv-loop μ-loop
 loop-again c =
-    let a = c .before .before .before .before .before .before .before .before .before .before .before .before .before .before .before .before .before .before .before .before .before .args in
-    let l = c .before .before .before .before .before .before .before .before .before .before .before .before .before .before .before .loop in
-    (feed-more (a .input .now) (l .i) (a .table .now) (a .line .now) (a .text .now) (a .reply .now) (a .held) (l .table) (l .line) (l .text) (l .reply) (l .now) _ _ _ _ _ (omega arith) (l .inv .0) (c .before .before .before .before .before .before .before .before .step .ensures), omega arith, omega arith, omega arith, omega arith, omega arith)
+    let at-step = c .before .before .before .before .before .before .before .before in
+    let at-loop = at-step .before .before .before .before .before .before .before in
+    let a = at-loop .before .before .before .before .before .before .args in
+    let l = at-loop .loop in (
+      feed-more (a .input .now) (l .i) (a .table .now) (a .line .now) (a .text .now) (a .reply .now) (a .held)
+          (l .table) (l .line) (l .text) (l .reply) (l .now) _ _ _ _ _ (omega arith) (l .inv .0) (at-step .step .ensures),
+      omega arith,
+      omega arith,
+      omega arith,
+      omega arith,
+      omega arith,
+    )
 
 same-length : tie.Need-same-length Inv-loop μ-loop
 same-length c = omega arith
@@ -57,7 +74,9 @@ same-length-4 : tie.Need-same-length-4 Inv-loop μ-loop
 same-length-4 c = omega arith
 
 returns : tie.Need-returns Inv-loop μ-loop
-returns c = rw (← take-all (c .before .loop .i) (c .before .before .before .before .before .before .before .args .input .now) (omega arith)) (c .before .loop .inv .0)
+returns c =
+    let a = c .before .before .before .before .before .before .before .args in
+    rw (← take-all (c .before .loop .i) (a .input .now) (omega arith)) (c .before .loop .inv .0)
 
 pub feed-spec : {M : Type 1} → statement M
 feed-spec =

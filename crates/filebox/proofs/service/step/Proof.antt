@@ -22,7 +22,12 @@ same-length-4 : tie.Need-same-length-4
 same-length-4 c = search needs
 
 returns : tie.Need-returns
-returns c = let a = c .before .before .before .before .before .before .before .before .before .before .before .before .before .before .args in end-steps (a .table .now) (a .line .now) (a .text .now) (a .reply .now) (a .held) (a .b) _ _ _ (eq-eqb (a .b) 10 (c .before .before .before .before .before .before .before .before .before .if1 .taken)) (c .before .before .before .before .end .ensures)
+returns c =
+    let at-end = c .before .before .before .before in
+    let at-if1 = at-end .before .before .before .before .before in
+    let a = at-if1 .before .before .before .before .before .args in
+    end-steps (a .table .now) (a .line .now) (a .text .now) (a .reply .now) (a .held) (a .b) _ _ _
+    (eq-eqb (a .b) 10 (at-if1 .if1 .taken)) (at-end .end .ensures)
 
 grow-requires : tie.Need-grow-requires
 grow-requires c κs = tt
@@ -34,7 +39,12 @@ same-length-6 : tie.Need-same-length-6
 same-length-6 c = search needs
 
 returns-2 : tie.Need-returns-2
-returns-2 c = let a = c .before .before .before .before .before .before .before .before .before .before .before .before .args in grow-steps (a .table .now) (a .line .now) (a .text .now) (a .reply .now) (a .held) (a .b) _ _ _ (ne-eqb (a .b) 10 (c .before .before .before .before .before .before .before .if1 .left)) (c .before .before .before .before .grow .ensures)
+returns-2 c =
+    let at-grow = c .before .before .before .before in
+    let at-if1 = at-grow .before .before .before in
+    let a = at-if1 .before .before .before .before .before .args in
+    grow-steps (a .table .now) (a .line .now) (a .text .now) (a .reply .now) (a .held) (a .b) _ _ _
+    (ne-eqb (a .b) 10 (at-if1 .if1 .left)) (at-grow .grow .ensures)
 
 pub step-spec : {M : Type 1} → statement M
 step-spec =

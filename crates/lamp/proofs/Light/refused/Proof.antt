@@ -1,6 +1,5 @@
 -- The five numbers are those of the definition,
 -- the sheet's as `sheet_shown` shows it.
-use mathlib.Core.Path.{_≡_, refl, sym, ap, _∙_}
 use borrow.Author.Needs.{needs}
 use Rattle.lamp.proofs.Light.refused.Statement.{statement}
 use Rattle.lamp.proofs.Light.refused.Tie as tie

@@ -1,7 +1,5 @@
 -- Four parts, each put after the ones before it, as far as the array goes.
 -- So it has as much of the whole line as it holds.
-use mathlib.Core.Path.{_≡_, refl, sym, ap, _∙_}
-use native.Mathlib.Omega.{arith}
 use borrow.Author.Needs.{needs}
 use Rattle.lamp.proofs.Lines.{holds-first, holds-more, holds-line}
 use Rattle.lamp.proofs.line.compose.Statement.{statement}

@@ -1,6 +1,5 @@
 -- What fits is put after the line so far, and then the line is as long as both together, or full.
 -- What was copied is as much as fits.
-use mathlib.Core.Path.{_≡_, refl, sym, ap, _∙_}
 use native.Mathlib.Omega.{arith}
 use borrow.Author.Needs.{needs}
 use lib.Seq.{length-sets}

@@ -1,9 +1,8 @@
 -- Any number but 0 brings nothing; with 0 the bytes at the front of the buffer are compared with the text.
 -- That is the definition, by its two parts.
-use mathlib.Core.Path.{_≡_, refl, sym, ap, _∙_}
-use native.Mathlib.Omega.{arith}
+use mathlib.Core.Path.{_≡_, _∙_}
 use borrow.Author.Needs.{needs}
-use borrow.Author.Tests.{eq-eqb, ne-eqb}
+use borrow.Author.Tests.{ne-eqb}
 use Rattle.lamp.proofs.reading.is_brought.Statement.{statement}
 use Rattle.lamp.proofs.reading.is_brought.Tie as tie
 

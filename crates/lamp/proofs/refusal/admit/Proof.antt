@@ -1,7 +1,5 @@
 -- Each refusal is tried over all sheets; the first that some sheet has is given, with that sheet,
 -- and where none has any the job passes.
-use mathlib.Core.Path.{_≡_, refl, sym, ap, _∙_}
-use native.Mathlib.Omega.{arith}
 use borrow.Author.Needs.{needs}
 use Rattle.lamp.proofs.Refusals.{refuses-one, refuses-two, refuses-three, refuses-four, refuses-none}
 use Rattle.lamp.proofs.refusal.admit.Statement.{statement}

@@ -1,6 +1,6 @@
 -- What is left of the texts after those of the first sheets: a sheet whose text is longer is the first that misses some.
 -- Where every text was there, none is missing.
-use mathlib.Core.Path.{_≡_, refl, sym, ap, _∙_}
+use mathlib.Core.Path.{_≡_}
 use Prim.Native.Nat.{_≤_, _-_}
 use native.Mathlib.Omega.{arith}
 use borrow.Author.Needs.{needs}

@@ -1,7 +1,7 @@
 -- Each fault is one test, and its definition goes by the same cases.
 -- A text is too long where the buffer is shorter.
 use mathlib.Core.Bool.{not}
-use mathlib.Core.Path.{_≡_, refl, sym, ap, _∙_}
+use mathlib.Core.Path.{ap, _∙_}
 use borrow.Author.Needs.{needs}
 use Rattle.lamp.proofs.refusal.is_wrong.Statement.{statement}
 use Rattle.lamp.proofs.refusal.is_wrong.Tie as tie

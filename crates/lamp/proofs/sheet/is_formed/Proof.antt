@@ -1,6 +1,6 @@
 -- Each part of the definition is one test, in its order; a test that fails decides.
 -- A link name has at most ten bytes, so the zeros after it stay within the sheet.
-use mathlib.Core.Path.{_≡_, refl, sym, ap, _∙_}
+use mathlib.Core.Path.{sym, _∙_}
 use native.Mathlib.Omega.{arith}
 use borrow.Author.Needs.{needs}
 use borrow.Author.Tests.{not-true, not-false}

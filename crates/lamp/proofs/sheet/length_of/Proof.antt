@@ -1,6 +1,5 @@
 -- The two bytes at the length's place are the number, and two bytes say no more than 65,535.
 -- So it fits.
-use mathlib.Core.Path.{_≡_, refl, sym, ap, _∙_}
 use native.Mathlib.Omega.{arith}
 use borrow.Author.Needs.{needs}
 use Rattle.lamp.proofs.sheet.length_of.Statement.{statement}

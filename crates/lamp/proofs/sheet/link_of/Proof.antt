@@ -1,6 +1,6 @@
 -- The first ten bytes of the record, up to the first zero:
 -- that is the definition, by its parts.
-use mathlib.Core.Path.{_≡_, refl, sym, ap, _∙_}
+use mathlib.Core.Path.{_∙_}
 use borrow.Author.Needs.{needs}
 use Rattle.job.specs.Sheet.{linkOf}
 use Rattle.lamp.proofs.sheet.link_of.Statement.{statement}

@@ -1,6 +1,6 @@
 -- The bytes passed are no zeros, so the name is those bytes and the name of the rest;
 -- the first zero ends it, or the end.
-use mathlib.Core.Path.{_≡_, refl, sym, ap, _∙_}
+use mathlib.Core.Path.{sym}
 use Prim.Native.Nat.{_≤_, _-_}
 use native.Mathlib.Omega.{arith}
 use lib.ListN.{length}

@@ -39,7 +39,8 @@ returns-2 c =
     let h = c .before .last .given in
     let g = l .before .before .first2 .given in
     let w = l .before .before .before .before in
-    ended-last _ _ _ (g .0 .0) (sym (rw (w .before .start .ensures) at (w .to-directory .ensures)) ∙ g .1) (h .0 .0) (h .0 .1 .0) (sym (l .to-last .ensures) ∙ h .1)
+    ended-last _ _ _ (g .0 .0) (sym (rw (w .before .start .ensures) at (w .to-directory .ensures)) ∙ g .1)
+    (h .0 .0) (h .0 .1 .0) (sym (l .to-last .ensures) ∙ h .1)
 
 returns-3 : tie.Need-returns-3
 returns-3 c =

@@ -33,7 +33,12 @@ returns-2 : tie.Need-returns-2
 returns-2 c = rw (c .before .enum-told .given .1, c .match2 .keys2)
 
 returns-3 : tie.Need-returns-3
-returns-3 c = rw (c .before .enum-told .given .1, ne-eqb (c .before .before .before .args .b) 32 (c .match2 .rest .0 .1), ne-eqb (c .before .before .before .args .b) 87 (c .match2 .rest .1))
+returns-3 c =
+    rw (
+      c .before .enum-told .given .1,
+      ne-eqb (c .before .before .before .args .b) 32 (c .match2 .rest .0 .1),
+      ne-eqb (c .before .before .before .args .b) 87 (c .match2 .rest .1),
+    )
 
 returns-4 : tie.Need-returns-4
 returns-4 c = rw (c .before .enum-told2 .given .1, c .match3 .keys1)
@@ -60,7 +65,12 @@ returns-11 : tie.Need-returns-11
 returns-11 c = rw (c .before .enum-told5 .given .1, c .match6 .keys2)
 
 returns-12 : tie.Need-returns-12
-returns-12 c = rw (c .before .enum-told5 .given .1, ne-eqb (c .before .before .before .args .b) 32 (c .match6 .rest .0 .1), ne-eqb (c .before .before .before .args .b) 58 (c .match6 .rest .1))
+returns-12 c =
+    rw (
+      c .before .enum-told5 .given .1,
+      ne-eqb (c .before .before .before .args .b) 32 (c .match6 .rest .0 .1),
+      ne-eqb (c .before .before .before .args .b) 58 (c .match6 .rest .1),
+    )
 
 returns-13 : tie.Need-returns-13
 returns-13 c = search needs
