@@ -1,0 +1,62 @@
+-- From a sound table every table of a history mends to a sound one: a request on such a table that is not sound changes nothing, on a
+-- sound one it is demand 3, and a mend cut anywhere has the end of the table that it began with.
+use mathlib.Core.Bool.{true}
+use mathlib.Core.List.{List, [], _∷_}
+use mathlib.Core.Path.{_≡_}
+use Prim.Native.Nat.{ℕ}
+use native.Mathlib.Omega.{arith}
+use lib.ListN.{length}
+use Rattle.paper.specs.Table.{sized}
+use Rattle.paper.specs.Sound.{sound}
+use Rattle.paper.specs.Mend.{mendStores, mended}
+use Rattle.paper.specs.Answer.{requested, mending}
+use Rattle.laws.proofs.Lay.{Whole}
+use Rattle.laws.proofs.Runs.{length-run}
+use Rattle.demands.proofs.Sound.Clauses.{Sound, sound-clauses}
+use Rattle.demands.proofs.Request.Course.{Course, untried, tried, course}
+use Rattle.demands.proofs.Mending.{mendedWhole, mend-sound, mended-again}
+use Rattle.demands.proofs.Mending.Debris.{mended-sound}
+use Rattle.demands.proofs.PowerCut.{demand-three}
+use Rattle.histories.specs.History.{Call, asks, mends, called, after}
+
+abbrev pub Mendable : List ℕ → Type 0
+Mendable t = Sound (mended t)
+
+pub mendable-whole : (t : List ℕ) → Mendable t → Whole t
+mendable-whole t c = let w : length (mended t) ≡ length t = unfold mended in length-run t (mendStores t) in rw w at (c .whole)
+
+pub sound-mendable : (t : List ℕ) → Sound t → Mendable t
+sound-mendable t c = rw (mended-sound t c) c
+
+-- a request is refused and changes nothing, or the table is sound
+pub data Asked (t line text reply : List ℕ) (u k : ℕ) : Type 0 where
+  refused : requested t line text reply u k .table ≡ t → Asked t line text reply u k
+  entered : Sound t → Asked t line text reply u k
+
+pub how-asked : (t line text reply : List ℕ) (u k : ℕ) → Asked t line text reply u k
+how-asked t line text reply u k = go (course t line text reply u)
+  where
+    go : Course t line text reply u → Asked t line text reply u k
+    go (untried f h e) = refused (rw (e k))
+    go (tried r h e) = entered (sound-clauses t (h .sized) (h .sound))
+
+pub called-mendable : (t : List ℕ) (c : Call) → Mendable t → Mendable (called t c .table)
+called-mendable t (mends k) m = rw (mended-again t k) m
+called-mendable t (asks line text reply u k) m = go (course t line text reply u)
+  where
+    -- the end of a mend that is sound
+    ends : (s : List ℕ) → mending s (length (mendStores s)) ≡ mendedWhole s → Mendable s
+    ends s a =
+        let b = mend-sound s (length (mendStores s)) (rw a) in
+        let d : (sized (mended s) ≡ true) × (sound (mended s) ≡ true) = rw a at b in
+        sound-clauses (mended s) (d .0) (d .1)
+
+    go : Course t line text reply u → Mendable (requested t line text reply u k .table)
+    go (untried f h e) = rw (e k) m
+    go (tried r h e) =
+        ends (requested t line text reply u k .table) (demand-three t line text reply u k (h .sized) (h .sound) .answers _ (omega arith))
+
+pub after-mendable : (t : List ℕ) (cs : List Call) → Mendable t → Mendable (after t cs)
+unfolding after
+after-mendable t [] m = m
+after-mendable t (c ∷ cs) m = after-mendable (called t c .table) cs (called-mendable t c m)

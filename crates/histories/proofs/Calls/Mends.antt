@@ -1,0 +1,157 @@
+-- A mend, cut anywhere: it clears headings that no entry names, and then text whose heading is no simple file by then, and nothing else.
+-- So a heading that it clears is named by no entry, and text stays whose heading is a simple file that stays.
+use mathlib.Core.Bool.{true, false}
+use mathlib.Core.List.{List}
+use mathlib.Core.Logic.{_⊎_, inl, inr, _≢_, by-cases}
+use mathlib.Core.Path.{_≡_, refl, _∙_}
+use Prim.Native.Nat.{ℕ, _-_, _≤_, _<_}
+use native.Mathlib.Omega.{arith}
+use native.Mathlib.Decide.{decLe}
+use lib.ListN.{length, take}
+use lib.Seq.{take-append-le, take-length}
+use borrow.Author.Tests.{eqb-true, not-true}
+use Rattle.paper.specs.Record.{byte, isKind, headingOf, simple, blank}
+use Rattle.paper.specs.Table.{rooms, rec}
+use Rattle.paper.specs.Entry.{named}
+use Rattle.paper.specs.Store.{run}
+use Rattle.paper.specs.Mend.{orphan, stray, mendFirst, mendSecond, mendStores, mended}
+use Rattle.paper.specs.Answer.{mending}
+use Rattle.laws.proofs.Tests.{not-both, and-left, and-right}
+use Rattle.laws.proofs.Lists.{take-past}
+use Rattle.laws.proofs.Entries.{typed-kind}
+use Rattle.laws.proofs.Lay.{Whole, within}
+use Rattle.laws.proofs.Runs.{run-append, length-run}
+use Rattle.demands.proofs.Mending.Wipe.{Blanks, cut-wipe}
+use Rattle.demands.proofs.MendAnswered.{MendCame, unsized, unsound, whole, cutOff, mend-came}
+use Rattle.demands.proofs.SoundKept.Freed.{textOf}
+use Rattle.histories.proofs.Calls.Stores.{kind-blank, Lessened}
+use Rattle.histories.proofs.Calls.Moved.{text-of}
+
+-- from t to s, by a mend
+pub record Tidied (t s : List ℕ) : Type 0 where
+  pub less : Lessened t s
+  -- a heading that is none any more was named by no entry
+  pub last : (h : ℕ) → byte (rec t h) 0 ≡ 1 → byte (rec s h) 0 ≢ 1 → named t h ≡ false
+  -- the text of a simple file that stays
+  pub texts : (h i : ℕ) → simple (rec t h) ≡ true → byte (rec s h) 0 ≡ 1 → textOf h (rec t i) ≡ true → rec s i ≡ rec t i
+
+pub tidied-none : (t : List ℕ) → Tidied t t
+tidied-none t = record { less = record { long = refl; each = λ _ _. inl refl }; last = λ h k n. absurd (n k); texts = λ _ _ _ _ _. refl }
+
+module _ (t : List ℕ) (w : Whole t) where
+  orphan-parts : (i : ℕ) → orphan t i ≡ true → (byte (rec t i) 0 ≡ 1) × (named t i ≡ false)
+  orphan-parts i e = (eqb-true _ _ (and-left _ _ e), not-true _ (and-right (isKind 1 (rec t i)) _ e))
+
+  -- in the first step: headings
+  first : (s : List ℕ) → length s ≡ length t → ((i : ℕ) → i < rooms t → (rec s i ≡ rec t i) ⊎ Blanks (orphan t) i (rec s i)) → Tidied t s
+  first s e each = record { less = record { long = e; each = λ i l. less i (each i l) }; last = last; texts = texts }
+    where
+      less : (i : ℕ) → (rec s i ≡ rec t i) ⊎ Blanks (orphan t) i (rec s i) → (rec s i ≡ rec t i) ⊎ (rec s i ≡ blank)
+      less i (inl q) = inl q
+      less i (inr q) = inr (q .0)
+
+      last : (h : ℕ) → byte (rec t h) 0 ≡ 1 → byte (rec s h) 0 ≢ 1 → named t h ≡ false
+      last h k n = go (each h (within t h w (omega arith)))
+        where
+          go : (rec s h ≡ rec t h) ⊎ Blanks (orphan t) h (rec s h) → named t h ≡ false
+          go (inl q) = absurd (n (rw q k))
+          go (inr q) = orphan-parts h (q .1) .1
+
+      texts : (h i : ℕ) → simple (rec t h) ≡ true → byte (rec s h) 0 ≡ 1 → textOf h (rec t i) ≡ true → rec s i ≡ rec t i
+      texts h i m z x = go (each i (within t i w (omega (arith, text-of h (rec t i) x .0))))
+        where
+          go : (rec s i ≡ rec t i) ⊎ Blanks (orphan t) i (rec s i) → rec s i ≡ rec t i
+          go (inl q) = q
+          go (inr q) = let y : ⊥ = omega (arith, text-of h (rec t i) x .0, orphan-parts i (q .1) .0) in absurd y
+
+  t₁ : List ℕ
+  t₁ = run t (mendFirst t)
+
+  done : Tidied t t₁
+  unfolding t₁
+  done =
+      first (run t (mendFirst t)) (length-run t (mendFirst t))
+      (λ i l. rw (take-length (mendFirst t)) at (cut-wipe t (orphan t) (length (mendFirst t)) i l))
+
+  -- in the second step: text
+  second : (s : List ℕ) → length s ≡ length t₁ → ((i : ℕ) → i < rooms t₁ → (rec s i ≡ rec t₁ i) ⊎ Blanks (stray t₁) i (rec s i)) → Tidied t s
+  second s e each = record { less = record { long = e ∙ done .less .long; each = less }; last = last; texts = texts }
+    where
+      rooms₁ : rooms t₁ ≡ rooms t
+      rooms₁ = rw (done .less .long)
+
+      at-t : (i : ℕ) → i < rooms t → (rec s i ≡ rec t₁ i) ⊎ Blanks (stray t₁) i (rec s i)
+      at-t i l = each i (rw rooms₁ l)
+
+      less : (i : ℕ) → i < rooms t → (rec s i ≡ rec t i) ⊎ (rec s i ≡ blank)
+      less i l = go (at-t i l) (done .less .each i l)
+        where
+          go : (rec s i ≡ rec t₁ i) ⊎ Blanks (stray t₁) i (rec s i) → (rec t₁ i ≡ rec t i) ⊎ (rec t₁ i ≡ blank) → (rec s i ≡ rec t i) ⊎ (rec s i ≡ blank)
+          go (inr q) p = inr (q .0)
+          go (inl q) (inl p) = inl (q ∙ p)
+          go (inl q) (inr p) = inr (q ∙ p)
+
+      last : (h : ℕ) → byte (rec t h) 0 ≡ 1 → byte (rec s h) 0 ≢ 1 → named t h ≡ false
+      last h k n = go (at-t h (within t h w (omega arith))) (done .less .each h (within t h w (omega arith)))
+        where
+          go : (rec s h ≡ rec t₁ h) ⊎ Blanks (stray t₁) h (rec s h) → (rec t₁ h ≡ rec t h) ⊎ (rec t₁ h ≡ blank) → named t h ≡ false
+          go x (inr p) = done .last h k (λ (z : byte (rec t₁ h) 0 ≡ 1). omega (arith, kind-blank (rec t₁ h) p))
+          go (inl q) (inl p) = absurd (n (rw (q, p) k))
+          go (inr q) (inl p) =
+              let y : byte (rec t₁ h) 0 ≡ 3 = eqb-true _ _ (and-left _ _ (q .1)) in
+              let z : byte (rec t h) 0 ≡ 3 = rw p at y in
+              let v : ⊥ = omega arith in absurd v
+
+      -- a heading at the end was one all the way
+      heads : (h : ℕ) → byte (rec s h) 0 ≡ 1 → h < rooms t → rec t₁ h ≡ rec t h
+      heads h z l = go (at-t h l) (done .less .each h l)
+        where
+          go : (rec s h ≡ rec t₁ h) ⊎ Blanks (stray t₁) h (rec s h) → (rec t₁ h ≡ rec t h) ⊎ (rec t₁ h ≡ blank) → rec t₁ h ≡ rec t h
+          go x (inl p) = p
+          go (inl q) (inr p) = let v : ⊥ = omega (arith, kind-blank (rec s h) (q ∙ p)) in absurd v
+          go (inr q) (inr p) = let v : ⊥ = omega (arith, kind-blank (rec s h) (q .0)) in absurd v
+
+      texts : (h i : ℕ) → simple (rec t h) ≡ true → byte (rec s h) 0 ≡ 1 → textOf h (rec t i) ≡ true → rec s i ≡ rec t i
+      texts h i m z x = go (at-t i (within t i w (omega (arith, y .0))))
+        where
+          y : (byte (rec t i) 0 ≡ 3) × (headingOf (rec t i) ≡ h)
+          y = text-of h (rec t i) x
+
+          head : byte (rec t h) 0 ≡ 1
+          head = typed-kind 1 (rec t h) m
+
+          in-h : h < rooms t
+          in-h = within t h w (omega (arith, head))
+
+          same : rec t₁ h ≡ rec t h
+          same = heads h z in-h
+
+          kept : rec t₁ i ≡ rec t i
+          kept = done .texts h i m (rw same head) x
+
+          go : (rec s i ≡ rec t₁ i) ⊎ Blanks (stray t₁) i (rec s i) → rec s i ≡ rec t i
+          go (inl q) = q ∙ kept
+          go (inr q) =
+              let v : simple (rec t₁ (headingOf (rec t₁ i))) ≡ false = not-true _ (and-right (isKind 3 (rec t₁ i)) _ (q .1)) in
+              let a : simple (rec t h) ≡ false = rw (kept, y .1, same) at v in
+              absurd (not-both m a)
+
+  -- cut after k stores
+  stores-tidied : (k : ℕ) → Tidied t (run t (take k (mendStores t)))
+  unfolding mendStores t₁
+  stores-tidied k =
+      by-cases (decLe k (length (mendFirst t)))
+      (λ (l : k ≤ length (mendFirst t)). rw (take-append-le k (mendFirst t)) (first _ (length-run t _) (cut-wipe t (orphan t) k)))
+      (λ (l : ¬ (k ≤ length (mendFirst t))).
+      rw (take-past k (mendFirst t) (mendSecond t₁) (omega arith), run-append)
+      (second _ (length-run t₁ _) (cut-wipe t₁ (stray t₁) (k - length (mendFirst t)))))
+
+  pub mend-tidied : (k : ℕ) → Tidied t (mending t k .table)
+  unfolding mended
+  mend-tidied k = go (mend-came t k)
+    where
+      go : MendCame t k (mending t k) → Tidied t (mending t k .table)
+      go (unsized a e) = rw e (tidied-none t)
+      go (unsound a b e) = rw e (tidied-none t)
+      go (whole a b m e) = rw e (rw (take-length (mendStores t)) at (stores-tidied (length (mendStores t))))
+      go (cutOff a b m e) = rw e (stores-tidied k)

@@ -1,0 +1,208 @@
+-- One call: what it may do to a heading and its text. A request goes by its plan, cut anywhere; DEL by a plan for each name, all of them
+-- clearings; a mend clears headings that no entry names, and text whose heading is no simple file.
+use mathlib.Core.Bool.{true, false}
+use mathlib.Core.List.{List}
+use mathlib.Core.Logic.{_⊎_, inl, inr, _≢_, ⊎-elim}
+use mathlib.Core.Path.{_≡_, refl, sym, _∙_}
+use Prim.Native.Nat.{ℕ, _<_}
+use native.Mathlib.Omega.{arith}
+use lib.ListN.{length}
+use lib.Seq.{getD-set-other}
+use borrow.Author.Tests.{eqb-true}
+use Rattle.paper.specs.Record.{byte, isKind, headingCode, headingOf, blank}
+use Rattle.paper.specs.Table.{rooms, rec}
+use Rattle.paper.specs.Code.{noWrite}
+use Rattle.paper.specs.Entry.{named}
+use Rattle.paper.specs.Effect.{recoded}
+use Rattle.laws.proofs.Tests.{not-both, and-left, and-right}
+use Rattle.laws.proofs.Lay.{within}
+use Rattle.demands.proofs.Sound.Clauses.{Sound}
+use Rattle.demands.proofs.Sound.Points.{text-points}
+use Rattle.demands.proofs.SoundKept.Freed.{textOf}
+use Rattle.histories.proofs.Calls.Stores.{kind-blank, Put, heading, text, entry, cleared, recodes, Kept, Of, Left, stored, rid}
+use Rattle.histories.proofs.Calls.Held.{Held}
+
+-- a text record of h, in numbers
+pub text-of : (h : ℕ) (r : List ℕ) → textOf h r ≡ true → (byte r 0 ≡ 3) × (headingOf r ≡ h)
+text-of h r e = (eqb-true _ _ (and-left _ _ e), eqb-true _ _ (and-right (isKind 3 r) _ e))
+
+-- from t to s, by a request on the sound table t
+pub record Moved (t s : List ℕ) : Type 0 where
+  pub long : length s ≡ length t
+  -- a capped heading that is still one is held, with its text
+  pub held : (h : ℕ) → byte (rec t h) 0 ≡ 1 → noWrite (headingCode (rec t h)) ≡ true → byte (rec s h) 0 ≡ 1 → Held h t s
+  -- a heading that is none any more is named by no entry
+  pub last : (h : ℕ) → byte (rec t h) 0 ≡ 1 → byte (rec s h) 0 ≢ 1 → named s h ≡ false
+  -- a heading that was none lies where nothing was, and so does its text
+  pub new : (h : ℕ) → byte (rec t h) 0 ≢ 1 → byte (rec s h) 0 ≡ 1 → byte (rec t h) 0 ≡ 0
+  pub fresh : (h i : ℕ) → byte (rec t h) 0 ≢ 1 → textOf h (rec s i) ≡ true → byte (rec t i) 0 ≡ 0
+
+pub moved-none : (t : List ℕ) → Sound t → Moved t t
+moved-none t c =
+    record {
+      long = refl;
+      held = λ h _ _ _. record { long = refl; front = refl; back = refl; texts = λ _ _. refl };
+      last = λ h k n. absurd (n k);
+      new = λ h n k. absurd (n k);
+      fresh = λ h i n e.
+          let x = text-of h (rec t i) e in
+          let l = within t i (c .whole) (omega (arith, x .0)) in
+          absurd (n (rw (x .1) at (text-points 65535 t c i l (x .0))));
+    }
+
+-- ---- a plan's stores, cut anywhere
+
+kind-recoded : (r : List ℕ) (code : ℕ) → byte (recoded r code) 0 ≡ byte r 0
+unfolding recoded
+kind-recoded r code = getD-set-other r 3 0 code 0 (omega arith)
+
+-- a heading laid over stays one
+pub put-over : (t : List ℕ) (h : ℕ) (r : List ℕ) → byte (rec t h) 0 ≡ 1 → Put t h r → byte r 0 ≡ 1
+put-over t h r k (heading a b) = b
+put-over t h r k (text a b d) = let z : ⊥ = omega arith in absurd z
+put-over t h r k (entry (inl a) b) = let z : ⊥ = omega arith in absurd z
+put-over t h r k (entry (inr a) b) = let z : ⊥ = omega arith in absurd z
+put-over t h r k (cleared a b) = let z : ⊥ = omega arith in absurd z
+put-over t h r k (recodes code b a w x q) = rw q (kind-recoded (rec t h) code ∙ k)
+
+module _ (t s : List ℕ) (c : Sound t) (e : length s ≡ length t) where
+  -- what is laid over a capped heading, or over text
+  no-put : (h : ℕ) → byte (rec t h) 0 ≡ 1 → noWrite (headingCode (rec t h)) ≡ true → Put t h (rec s h) → ⊥
+  no-put h k n (heading a b) = omega arith
+  no-put h k n (text a b d) = omega arith
+  no-put h k n (entry (inl a) b) = omega arith
+  no-put h k n (entry (inr a) b) = omega arith
+  no-put h k n (cleared a b) = omega arith
+  no-put h k n (recodes code b a w x q) = not-both n w
+
+  no-put-text : (i : ℕ) → byte (rec t i) 0 ≡ 3 → Put t i (rec s i) → ⊥
+  no-put-text i k (heading a b) = omega arith
+  no-put-text i k (text a b d) = omega arith
+  no-put-text i k (entry (inl a) b) = omega arith
+  no-put-text i k (entry (inr a) b) = omega arith
+  no-put-text i k (cleared a b) = omega arith
+  no-put-text i k (recodes code b a w x q) = omega arith
+
+  -- text of h that is laid lies in a free record, and so does its heading
+  put-text : (h i : ℕ) → textOf h (rec s i) ≡ true → Put t i (rec s i) → (byte (rec t i) 0 ≡ 0) × (byte (rec t h) 0 ≡ 0)
+  put-text h i x p = go (text-of h (rec s i) x) p
+    where
+      go : (byte (rec s i) 0 ≡ 3) × (headingOf (rec s i) ≡ h) → Put t i (rec s i) → (byte (rec t i) 0 ≡ 0) × (byte (rec t h) 0 ≡ 0)
+      go y (heading a b) = let z : ⊥ = omega (arith, y .0) in absurd z
+      go y (text a b d) = (a, rw (y .1) at d)
+      go y (entry a b) = let z : ⊥ = omega (arith, y .0) in absurd z
+      go y (cleared a b) = let z : ⊥ = omega (arith, y .0, kind-blank (rec s i) b) in absurd z
+      go y (recodes code b a w v q) =
+          let g : byte (rec s i) 0 ≡ byte (rec t i) 0 = rw q (kind-recoded (rec t i) code) in
+          let z : ⊥ = omega (arith, y .0) in absurd z
+
+  -- a heading laid where none was lies on a free record
+  put-heading : (h : ℕ) → byte (rec t h) 0 ≢ 1 → byte (rec s h) 0 ≡ 1 → Put t h (rec s h) → byte (rec t h) 0 ≡ 0
+  put-heading h n k (heading a b) = a
+  put-heading h n k (text a b d) = a
+  put-heading h n k (entry a b) = let z : ⊥ = omega arith in absurd z
+  put-heading h n k (cleared a b) = let z : ⊥ = omega (arith, kind-blank (rec s h) b) in absurd z
+  put-heading h n k (recodes code b a w x q) = absurd (n a)
+
+  in-t : (i : ℕ) → byte (rec t i) 0 ≢ 0 → i < rooms t
+  in-t i n = within t i (c .whole) n
+
+  in-s : (i : ℕ) → byte (rec s i) 0 ≢ 0 → i < rooms t
+  in-s i n = rw e at (within s i (rw e (c .whole)) n)
+
+  -- record i is blank, and was of a file whose heading is cleared and that no entry names
+  record Gone (i : ℕ) : Type 0 where
+    empty : rec s i ≡ blank
+    file : ℕ
+    of : Of t file i
+    heading : byte (rec t file) 0 ≡ 1
+    cleared : rec s file ≡ blank
+    unnamed : named s file ≡ false
+
+  module _ (each : (i : ℕ) → i < rooms t → Kept t s i ⊎ Gone i) where
+    same-heading : (h : ℕ) → byte (rec t h) 0 ≡ 1 → noWrite (headingCode (rec t h)) ≡ true → byte (rec s h) 0 ≡ 1 → rec s h ≡ rec t h
+    same-heading h k n z = go (each h (in-t h (omega arith)))
+      where
+        go : Kept t s h ⊎ Gone h → rec s h ≡ rec t h
+        go (inl (inl q)) = q
+        go (inl (inr p)) = absurd (no-put h k n p)
+        go (inr g) = let y : ⊥ = omega (arith, kind-blank (rec s h) (g .empty)) in absurd y
+
+    -- text of h is not gone while h is a heading
+    not-of : (h i : ℕ) → byte (rec s h) 0 ≡ 1 → (byte (rec t i) 0 ≡ 3) × (headingOf (rec t i) ≡ h) → Gone i → ⊥
+    not-of h i z x g = go (g .of)
+      where
+        go : Of t (g .file) i → ⊥
+        go (inl q) = let y : byte (rec t i) 0 ≡ 1 = rw q (g .heading) in omega (arith, x .0)
+        go (inr q) = let y : h ≡ g .file = sym (x .1) ∙ q .1 in omega (arith, rw y at z, kind-blank (rec s (g .file)) (g .cleared))
+
+    same-text : (h i : ℕ) → byte (rec t h) 0 ≡ 1 → byte (rec s h) 0 ≡ 1 → (textOf h (rec t i) ≡ true) ⊎ (textOf h (rec s i) ≡ true)
+        → rec s i ≡ rec t i
+    same-text h i k z (inl x) = go (each i (in-t i (omega (arith, y .0))))
+      where
+        y : (byte (rec t i) 0 ≡ 3) × (headingOf (rec t i) ≡ h)
+        y = text-of h (rec t i) x
+
+        go : Kept t s i ⊎ Gone i → rec s i ≡ rec t i
+        go (inl (inl q)) = q
+        go (inl (inr p)) = absurd (no-put-text i (y .0) p)
+        go (inr g) = absurd (not-of h i z y g)
+    same-text h i k z (inr x) = go (each i (in-s i (omega (arith, y .0))))
+      where
+        y : (byte (rec s i) 0 ≡ 3) × (headingOf (rec s i) ≡ h)
+        y = text-of h (rec s i) x
+
+        go : Kept t s i ⊎ Gone i → rec s i ≡ rec t i
+        go (inl (inl q)) = q
+        go (inl (inr p)) = let v : ⊥ = omega (arith, put-text h i x p .1) in absurd v
+        go (inr g) = let v : ⊥ = omega (arith, y .0, kind-blank (rec s i) (g .empty)) in absurd v
+
+    lost-name : (h : ℕ) → byte (rec t h) 0 ≡ 1 → byte (rec s h) 0 ≢ 1 → named s h ≡ false
+    lost-name h k n = go (each h (in-t h (omega arith)))
+      where
+        own : (g : Gone h) → Of t (g .file) h → named s h ≡ false
+        own g (inl q) = rw q (g .unnamed)
+        own g (inr q) = let z : ⊥ = omega (arith, q .0) in absurd z
+
+        go : Kept t s h ⊎ Gone h → named s h ≡ false
+        go (inl (inl q)) = absurd (n (rw q k))
+        go (inl (inr p)) = absurd (n (put-over t h (rec s h) k p))
+        go (inr g) = own g (g .of)
+
+    new-heading : (h : ℕ) → byte (rec t h) 0 ≢ 1 → byte (rec s h) 0 ≡ 1 → byte (rec t h) 0 ≡ 0
+    new-heading h n k = go (each h (in-s h (omega arith)))
+      where
+        go : Kept t s h ⊎ Gone h → byte (rec t h) 0 ≡ 0
+        go (inl (inl q)) = absurd (n (rw q at k))
+        go (inl (inr p)) = put-heading h n k p
+        go (inr g) = let z : ⊥ = omega (arith, kind-blank (rec s h) (g .empty)) in absurd z
+
+    new-text : (h i : ℕ) → byte (rec t h) 0 ≢ 1 → textOf h (rec s i) ≡ true → byte (rec t i) 0 ≡ 0
+    new-text h i n x = go (each i (in-s i (omega (arith, y .0))))
+      where
+        y : (byte (rec s i) 0 ≡ 3) × (headingOf (rec s i) ≡ h)
+        y = text-of h (rec s i) x
+
+        go : Kept t s i ⊎ Gone i → byte (rec t i) 0 ≡ 0
+        go (inl (inl q)) =
+            let v : byte (rec t i) 0 ≡ 3 = rw q at (y .0) in
+            absurd (n (rw (← q, y .1) at (text-points 65535 t c i (in-t i (omega arith)) v)))
+        go (inl (inr p)) = put-text h i x p .0
+        go (inr g) = let v : ⊥ = omega (arith, y .0, kind-blank (rec s i) (g .empty)) in absurd v
+
+    moved-by : Moved t s
+    moved-by =
+        record {
+          long = e;
+          held = λ h k n z.
+              let q = same-heading h k n z in
+              record { long = e; front = rw q; back = rw q; texts = λ i. same-text h i k z };
+          last = lost-name;
+          new = new-heading;
+          fresh = new-text;
+        }
+
+  pub moved-left : Left t s → Moved t s
+  moved-left (stored each) = moved-by (λ i l. inl (each i l))
+  moved-left (rid g k z n each) =
+      moved-by (λ i l. ⊎-elim inl (λ x. inr (record { empty = x .0; file = g; of = x .1; heading = k; cleared = z; unnamed = n })) (each i l))

@@ -1,0 +1,269 @@
+-- Every request's plan has that shape: a new file goes to free records, an entry over the one that bears its name or to a free record,
+-- DPR asks write of the joined code, and a file is freed only where the entry laid or cleared was the last to name it.
+use mathlib.Core.Bool.{true, false, not, cond}
+use mathlib.Core.List.{List, [], _∷_, _++_, append-assoc}
+use mathlib.Core.Logic.{_⊎_, inl, inr, _≢_, by-cases}
+use mathlib.Core.Path.{_≡_, refl, sym, _∙_}
+use Prim.Native.Nat.{ℕ, _+_, _≤_, _<_}
+use native.Mathlib.Omega.{arith}
+use native.Mathlib.Decide.{ℕ-discrete}
+use lib.ListN.{length, take, length-set, List·getD-append}
+use lib.Seq.{getD-take, length-take-le}
+use borrow.Author.Tests.{ltb-false}
+use Rattle.paper.specs.Scan.{Found, at, nowhere, allBelow}
+use Rattle.paper.specs.Record.{byte, level, headingCode, lifetime, entryCode, headingNamed, names, blank, headingRecord, nameField}
+use Rattle.paper.specs.Table.{rooms, rec, lay, frees, room}
+use Rattle.paper.specs.Declaration.{Part, orElse}
+use Rattle.paper.specs.Line.{Word}
+use Rattle.paper.specs.Check.{Check, passed, verdict}
+use Rattle.paper.specs.Code.{joined, noWrite}
+use Rattle.paper.specs.Entry.{named}
+use Rattle.paper.specs.Sound.{implies}
+use Rattle.paper.specs.Block.{block, fileText}
+use Rattle.paper.specs.Walk.{State, applies, file, reached, toLast, lastName}
+use Rattle.paper.specs.Store.{Store, puts, run}
+use Rattle.paper.specs.Effect.{Planned, plan, halted, chainOf, toHolder, toEnd, Making, borne, placing, needed, readInhibited, writeInhibited, notSimple, making, filing, newFile, freed, lost, settled, recoded, renamed, crdPlan, wrsPlan, cpyPlan, dupPlan, chnPlan, dprPlan, delPlan, rdsPlan, lstPlan, lstBasePlan}
+use Rattle.laws.proofs.Tests.{truth, not-both, false-by, implies-use}
+use Rattle.laws.proofs.Scans.{any-here, any-none, all-true}
+use Rattle.laws.proofs.Lists.{Every, every-parts, every-append, every-imp}
+use Rattle.laws.proofs.Fields.{text-heading, name-total, length-entry, entry-record-kind}
+use Rattle.laws.proofs.Entries.{found-stands, names-kind}
+use Rattle.laws.proofs.Lay.{lay-same, lay-other, length-rec, rooms-lay, length-blank, within}
+use Rattle.laws.proofs.Runs.{Lays, run-each, run-append, rooms-run}
+use Rattle.laws.proofs.Rooms.{room-below, room-kind}
+use Rattle.demands.proofs.Sound.Clauses.{Sound, entry-code}
+use Rattle.demands.proofs.Request.Fair.{Idle, verdict-idle}
+use Rattle.demands.proofs.Request.Steps.{last-looked, holder-by, end-by}
+use Rattle.demands.proofs.Request.Walked.{walk-reached}
+use Rattle.demands.proofs.SoundKept.Filed.{Roomy, Laid, each-laid, roomy, length-file, was-free, text-kind, small}
+use Rattle.histories.proofs.Calls.Stores.{Put, heading, text, entry, cleared, recodes, Puts, Shaped, plain, freeing}
+
+abbrev pub Shape : List ℕ → Planned → Type 0
+Shape t (halted f) = Unit {0}
+Shape t (plan p) = verdict (p .checks) ≡ passed → Shaped t (p .stores)
+
+-- a code that lets write through joined with another lets it through alone: all pairs of codes, computed
+joins : allBelow (λ a. allBelow (λ b. implies (noWrite a) (noWrite (joined a b))) 8) 8 ≡ true
+unfolding allBelow
+joins = refl
+
+pub own-code : (a b : ℕ) → a ≤ 7 → b ≤ 7 → noWrite (joined a b) ≡ false → noWrite a ≡ false
+own-code a b l m e =
+    false-by (noWrite a) (λ n. not-both
+    (implies-use (noWrite a) _ (all-true (λ b. implies (noWrite a) (noWrite (joined a b))) 8 b (omega arith)
+    (all-true (λ a. allBelow (λ b. implies (noWrite a) (noWrite (joined a b))) 8) 8 a (omega arith) joins)) n) e)
+
+holder-shape : (t : List ℕ) (u place : ℕ) (w : Word) (f : State → Planned) → ((d : State) → Shape t (f d)) → Shape t (toHolder t u place w f)
+holder-shape t u place w f h = holder-by (Shape t) place (λ _ _ _. tt) t u w f (λ d _. h d)
+
+end-shape : (t : List ℕ) (u place : ℕ) (w : Word) (f : State → State → Planned)
+    → ((d s : State) → toLast t d (chainOf w) ≡ reached s → Shape t (f d s)) → Shape t (toEnd t u place w f)
+end-shape t u place w f h = end-by (Shape t) place (λ _ _ _. tt) t u w f (λ d s _. h d s)
+
+-- new records that are no entry
+abbrev News : List ℕ → Store → Type 0
+News t = Lays (λ i r. (byte (rec t i) 0 ≡ 0) × (byte r 0 ≢ 2) × Put t i r) (rooms t)
+
+news-puts : (t : List ℕ) (ss : List Store) → Every (News t) ss → Every (Puts t) ss
+news-puts t ss = every-imp (News t) (Puts t) ss (λ s l. record { within = l .within; size = l .size; holds = l .holds .2 })
+
+module _ (t : List ℕ) (c : Sound t) where
+  -- a new file
+  file-news : (head body : List ℕ) → Roomy t head body → Every (News t) (newFile t head body)
+  file-news head body n = every-imp (Lays (Laid t head body n) (rooms t)) (News t) (newFile t head body) one (each-laid t head body n)
+    where
+      new : (i : ℕ) (r : List ℕ) → Laid t head body n i r → (byte (rec t i) 0 ≡ 0) × (byte r 0 ≢ 2) × Put t i r
+      new i r (inl (e, q)) =
+          let a : byte (rec t i) 0 ≡ 0 = rw e (was-free t head body n 0 (omega arith)) in
+          let k : byte r 0 ≡ 1 = rw q (n .kind) in
+          (a, (λ (z : byte r 0 ≡ 2). omega arith), heading a k)
+      new i r (inr (p, l, e, q)) =
+          let a : byte (rec t i) 0 ≡ 0 = rw e (was-free t head body n (p + 1) (omega arith)) in
+          let k : byte r 0 ≡ 3 = rw q (text-kind t head body n p) in (
+            a,
+            (λ (z : byte r 0 ≡ 2). omega arith),
+            text a k (rw (q, text-heading (room t 0) p (block body p) (small t head body n (c .few))) (was-free t head body n 0 (omega arith))),
+          )
+
+      one : (s : Store) → Lays (Laid t head body n) (rooms t) s → News t s
+      one s l = record { within = l .within; size = l .size; holds = new (s .at) (s .bytes) (l .holds) }
+
+  module _ (pre : List Store) (news : Every (News t) pre) (e : ℕ) (r : List ℕ) (k : byte (rec t e) 0 ≡ 2) (size : length r ≡ 32)
+      (put : Put t e r) where
+    in-e : e < rooms t
+    in-e = within t e (c .whole) (omega arith)
+
+    main : List Store
+    main = pre ++ puts e r ∷ []
+
+    laid : Every (Puts t) main
+    unfolding main
+    laid = every-append (Puts t) pre (puts e r ∷ []) (news-puts t pre news) (record { within = in-e; size = size; holds = put }, tt)
+
+    run-main : run t main ≡ lay (run t pre) e r
+    unfolding main run
+    run-main = run-append t pre (puts e r ∷ [])
+
+    -- what names a heading with the new records names it without
+    names-main : (g i : ℕ) → i < rooms t → names g (rec (lay (run t pre) e r) i) ≡ true → names g (rec (lay t e r) i) ≡ true
+    names-main g i l n =
+        by-cases (ℕ-discrete i e)
+        (λ (q : i ≡ e). rw (q, lay-same t e r size in-e) (rw (q, lay-same (run t pre) e r size (rw (rooms-run t pre) in-e)) at n))
+        (λ (q : i ≢ e).
+        rw (lay-other t e r i size q l)
+        (go (run-each (λ i r. (byte (rec t i) 0 ≡ 0) × (byte r 0 ≢ 2) × Put t i r) t pre news i l)
+        (rw (lay-other (run t pre) e r i size q (rw (rooms-run t pre) l)) at n)))
+      where
+        go : (rec (run t pre) i ≡ rec t i) ⊎ ((byte (rec t i) 0 ≡ 0) × (byte (rec (run t pre) i) 0 ≢ 2) × Put t i (rec (run t pre) i))
+            → names g (rec (run t pre) i) ≡ true → names g (rec t i) ≡ true
+        go (inl q) x = rw q at x
+        go (inr q) x = absurd (q .1 (names-kind g (rec (run t pre) i) x))
+
+    unnamed-main : (g : ℕ) → named (lay t e r) g ≡ false → named (run t main) g ≡ false
+    unfolding named
+    unnamed-main g n =
+        rw run-main (any-none (λ i. names g (rec (lay (run t pre) e r) i)) (rooms (lay (run t pre) e r)) (λ i l. false-by _ (λ x.
+        let b : i < rooms t = rw (rooms-lay, rooms-run) at l in
+        not-both (any-here (λ j. names g (rec (lay t e r) j)) (rooms (lay t e r)) i (rw rooms-lay b) (names-main g i b x)) n)))
+
+    -- an entry laid or cleared, and its file freed where no entry names it then
+    over-shaped : Shaped t (pre ++ puts e r ∷ settled t e r)
+    unfolding settled lost
+    over-shaped = go (truth (named (lay t e r) g))
+      where
+        g : ℕ
+        g = headingNamed (rec t e)
+
+        go : (named (lay t e r) g ≡ true) ⊎ (named (lay t e r) g ≡ false) → Shaped t (pre ++ puts e r ∷ cond (not (named (lay t e r) g)) (freed t g) [])
+        go (inl n) = plain (rw n (unfold main in laid))
+        go (inr n) = freeing main g laid (c .targets e in-e k) (unnamed-main g n) (rw n (unfold main in sym (append-assoc pre (puts e r ∷ []) (freed t g))))
+
+  -- a new entry, after new records
+  making-shape : (m : Making) (thirteen fifteen : List Check) → (length (m .first) ≤ length (frees t) → Every (News t) (m .first))
+      → length (m .entry) ≡ 32 → byte (m .entry) 0 ≡ 2 → Shape t (making t m thirteen fifteen)
+  unfolding making
+  making-shape m thirteen fifteen news size kind v =
+      let a = every-parts Idle (thirteen ++ writeInhibited (m .place) (m .directory) ∷ fifteen) _ (verdict-idle _ v) .1 in
+      go (borne t m) refl (ltb-false _ _ (a .1 .1 .0))
+    where
+      go : (x : Found) → borne t m ≡ x → needed m x ≤ length (frees t) → Shaped t (placing t m x)
+      go (at e) q enough =
+          let k = found-stands t (m .directory .holder) (m .name) e q .1 .kind in
+          over-shaped (m .first) (news enough) e (m .entry) k size (entry (inr k) kind)
+      go nowhere q enough =
+          plain (every-append (Puts t) (m .first) _ (news-puts t (m .first) (news (omega arith))) (
+            record {
+              within = room-below t (length (m .first)) (omega arith);
+              size = size;
+              holds = entry (inl (room-kind t (length (m .first)) (omega arith))) kind;
+            },
+            tt,
+          ))
+
+  filing-shape : (place : ℕ) (w : Word) (d : State) (type lev code life n : ℕ) (body : List ℕ) (thirteen fifteen : List Check)
+      → length (lastName (chainOf w)) ≤ 10
+      → Shape t (making t (filing t place w d code (headingRecord type lev code life n) body) thirteen fifteen)
+  filing-shape place w d type lev code life n body thirteen fifteen l =
+      making-shape (filing t place w d code head body) thirteen fifteen
+      (λ enough. file-news head body (roomy t type lev code life n body (omega (arith, length-file t head body, enough))))
+      (length-entry code (d .holder .heading) (room t 0) (d .holder .user) (lastName (chainOf w)) l)
+      (entry-record-kind code (d .holder .heading) (room t 0) (d .holder .user) (lastName (chainOf w)))
+    where
+      head : List ℕ
+      head = headingRecord type lev code life n
+
+  -- ---- each function
+
+  pub crd-shape : (u : ℕ) (name : Word) (lev code : Part) → length (lastName (chainOf name)) ≤ 10 → Shape t (crdPlan t u name lev code)
+  unfolding crdPlan
+  crd-shape u name lev code l =
+      holder-shape t u 1 name _ (λ d. filing-shape 1 name d 0 (orElse lev 0) (orElse code 0) 1 0 [] [] [] l)
+
+  pub wrs-shape : (u : ℕ) (body : List ℕ) (life : ℕ) (lev code : Part) (name : Word) → length (lastName (chainOf name)) ≤ 10
+      → Shape t (wrsPlan t u body life lev code name)
+  unfolding wrsPlan
+  wrs-shape u body life lev code name l =
+      holder-shape t u 2 name _ (λ d. filing-shape 2 name d 1 (orElse lev 0) (orElse code 0) life (length body) body [] [] l)
+
+  pub cpy-shape : (u : ℕ) (old new : Word) (life lev code : Part) → length (lastName (chainOf new)) ≤ 10
+      → Shape t (cpyPlan t u old new life lev code)
+  unfolding cpyPlan
+  cpy-shape u old new life lev code l =
+      end-shape t u 1 old _ (λ _ f _. holder-shape t u 2 new _ (λ d.
+      let source : List ℕ = rec t (file t f) in
+      let body : List ℕ = fileText t (file t f) in
+      filing-shape 2 new d 1 (orElse lev (level source)) (orElse code 0) (orElse life (lifetime source)) (length body) body
+      (readInhibited 1 f ∷ []) (notSimple 1 t f ∷ []) l))
+
+  pub dup-shape : (u : ℕ) (old new : Word) (code : Part) → length (lastName (chainOf new)) ≤ 10 → Shape t (dupPlan t u old new code)
+  unfolding dupPlan
+  dup-shape u old new code l =
+      end-shape t u 1 old _ (λ _ f _. holder-shape t u 2 new _ (λ d.
+      making-shape _ [] [] (λ _. tt) (length-entry _ (d .holder .heading) (file t f) (d .holder .user) (lastName (chainOf new)) l)
+      (entry-record-kind _ (d .holder .heading) (file t f) (d .holder .user) (lastName (chainOf new)))))
+
+  pub chn-shape : (u : ℕ) (old link : Word) → length (lastName (link .names)) ≤ 10 → Shape t (chnPlan t u old link)
+  unfolding chnPlan
+  chn-shape u old link b =
+      end-shape t u 1 old _ (λ d f q _.
+      let g = last-looked t d (chainOf old) f q in
+      plain (
+        record {
+          within = g .within;
+          size = length-renamed (rec t (f .entry)) (length-rec t (f .entry) (g .within));
+          holds = entry (inr (g .stands .kind)) (kind-renamed (rec t (f .entry)) (length-rec t (f .entry) (g .within)) (g .stands .kind));
+        },
+        tt,
+      ))
+    where
+      name : List ℕ
+      name = lastName (link .names)
+
+      front : (r : List ℕ) → length r ≡ 32 → length (take 9 r) ≡ 9
+      front r s = length-take-le 9 r (omega arith)
+
+      length-renamed : (r : List ℕ) → length r ≡ 32 → length (renamed r name) ≡ 32
+      length-renamed r s = unfold renamed in name-total (take 9 r) name (front r s) b
+
+      kind-renamed : (r : List ℕ) → length r ≡ 32 → byte r 0 ≡ 2 → byte (renamed r name) 0 ≡ 2
+      kind-renamed r s k =
+          unfold renamed in
+          List·getD-append (take 9 r) (nameField name) 0 0 (rw (front r s) (omega arith)) ∙ getD-take 9 r 0 0 (omega arith) ∙ k
+
+  pub dpr-shape : (u : ℕ) (name : Word) (code : ℕ) → code ≤ 7 → Shape t (dprPlan t u name code)
+  unfolding dprPlan applies
+  dpr-shape u name code b =
+      end-shape t u 1 name _ (λ d f q v.
+      let g = walk-reached 65535 t c d (chainOf name) f q in
+      let i = verdict-idle _ v in
+      let w : noWrite (applies t (f .entry)) ≡ false = rw (g .looked .code) at (i .0) in
+      plain (
+        record {
+          within = g .within;
+          size = unfold recoded in length-set (rec t (file t f)) 3 code ∙ length-rec t (file t f) (g .within);
+          holds =
+              recodes code b (g .heading)
+              (own-code (headingCode (rec t (file t f))) (entryCode (rec t (f .entry))) (g .fields .code) (entry-code _ (g .own)) w)
+              (i .1 .0) refl;
+        },
+        tt,
+      ))
+
+  pub del-shape : (u place : ℕ) (name : Word) → Shape t (delPlan t u place name)
+  unfolding delPlan
+  del-shape u place name =
+      end-shape t u place name _ (λ d f q _.
+      let k = last-looked t d (chainOf name) f q .stands .kind in
+      over-shaped [] tt (f .entry) blank k length-blank (cleared k refl))
+
+  pub rds-shape : (u : ℕ) (reply : List ℕ) (name : Word) → Shape t (rdsPlan t u reply name)
+  unfolding rdsPlan
+  rds-shape u reply name = end-shape t u 1 name _ (λ d f _ _. plain tt)
+
+  pub lst-shape : (u : ℕ) (reply : List ℕ) (name : Word) → Shape t (lstPlan t u reply name)
+  unfolding lstPlan
+  lst-shape u reply name = end-shape t u 1 name _ (λ d f _ _. plain tt)
+
+  pub lst-base-shape : (u : ℕ) (reply : List ℕ) → Shape t (lstBasePlan t u reply)
+  unfolding lstBasePlan
+  lst-base-shape u reply _ = plain tt

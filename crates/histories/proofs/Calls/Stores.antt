@@ -1,0 +1,174 @@
+-- What the stores of any request are, on a sound table: new records on free ones, an entry laid again or cleared, a heading with more
+-- inhibited and write not inhibited before; and then, at most, one file freed that no entry names by then.
+use mathlib.Core.Bool.{true, false}
+use mathlib.Core.List.{List, _++_}
+use mathlib.Core.Logic.{_⊎_, inl, inr, _≢_, by-cases, ⊎-elim}
+use mathlib.Core.Path.{_≡_, refl, _∙_}
+use Prim.Native.Nat.{ℕ, suc, _-_, _≤_, _<_}
+use native.Mathlib.Omega.{arith}
+use native.Mathlib.Decide.{decLe, ℕ-discrete}
+use lib.ListN.{length, take}
+use lib.Seq.{take-append-le}
+use Rattle.paper.specs.Scan.{eachBelow}
+use Rattle.paper.specs.Record.{byte, headingCode, headingOf, names, blank}
+use Rattle.paper.specs.Table.{rooms, rec, lay, textRoom}
+use Rattle.paper.specs.Code.{noWrite, lacks}
+use Rattle.paper.specs.Entry.{named}
+use Rattle.paper.specs.Block.{blocksOf}
+use Rattle.paper.specs.Store.{Store, clear, run}
+use Rattle.paper.specs.Effect.{freed, recoded}
+use Rattle.laws.proofs.Tests.{not-both, false-by}
+use Rattle.laws.proofs.Scans.{any-here, any-none}
+use Rattle.laws.proofs.Lists.{Every, every-take, every-each, take-past}
+use Rattle.laws.proofs.Lay.{Whole, lay-same, lay-other, rooms-lay, length-lay, length-blank, within}
+use Rattle.laws.proofs.Runs.{Lays, run-each, run-append, length-run, rooms-run}
+use Rattle.demands.proofs.Sound.Clauses.{Sound}
+use Rattle.demands.proofs.SoundKept.Freed.{text-found}
+
+-- r laid in record i of t, by any request
+pub data Put (t : List ℕ) (i : ℕ) (r : List ℕ) : Type 0 where
+  heading : byte (rec t i) 0 ≡ 0 → byte r 0 ≡ 1 → Put t i r
+  text : byte (rec t i) 0 ≡ 0 → byte r 0 ≡ 3 → byte (rec t (headingOf r)) 0 ≡ 0 → Put t i r
+  entry : (byte (rec t i) 0 ≡ 0) ⊎ (byte (rec t i) 0 ≡ 2) → byte r 0 ≡ 2 → Put t i r
+  cleared : byte (rec t i) 0 ≡ 2 → r ≡ blank → Put t i r
+  recodes : (code : ℕ) → code ≤ 7 → byte (rec t i) 0 ≡ 1 → noWrite (headingCode (rec t i)) ≡ false → lacks code (headingCode (rec t i)) ≡ false
+      → r ≡ recoded (rec t i) code → Put t i r
+
+abbrev pub Puts : List ℕ → Store → Type 0
+Puts t = Lays (Put t) (rooms t)
+
+-- the stores of a plan: such stores, and then perhaps heading g, which no entry names by then, freed with its text
+pub data Shaped (t : List ℕ) (ss : List Store) : Type 0 where
+  plain : Every (Puts t) ss → Shaped t ss
+  freeing : (main : List Store) (g : ℕ) → Every (Puts t) main → byte (rec t g) 0 ≡ 1 → named (run t main) g ≡ false → ss ≡ main ++ freed t g
+      → Shaped t ss
+
+-- s is t with some records cleared
+pub record Lessened (t s : List ℕ) : Type 0 where
+  pub long : length s ≡ length t
+  pub each : (i : ℕ) → i < rooms t → (rec s i ≡ rec t i) ⊎ (rec s i ≡ blank)
+
+-- a blank record is of no kind
+pub kind-blank : (r : List ℕ) → r ≡ blank → byte r 0 ≡ 0
+unfolding blank
+kind-blank r q = rw q
+
+-- what is of a kind stayed
+pub less-stays : (t s : List ℕ) → Whole t → Lessened t s → (i : ℕ) → byte (rec s i) 0 ≢ 0 → rec s i ≡ rec t i
+less-stays t s w d i n = go (d .each i (rw (d .long) at (within s i (rw (d .long) w) n)))
+  where
+    go : (rec s i ≡ rec t i) ⊎ (rec s i ≡ blank) → rec s i ≡ rec t i
+    go (inl q) = q
+    go (inr q) = absurd (n (kind-blank (rec s i) q))
+
+-- clearing takes names away, and brings none
+pub unnamed-still : (t s : List ℕ) (h : ℕ) → Lessened t s → named t h ≡ false → named s h ≡ false
+unfolding named
+unnamed-still t s h d n =
+    any-none (λ i. names h (rec s i)) (rooms s) (λ i l. false-by _ (λ e. one i (rw (d .long) at l) e (d .each i (rw (d .long) at l))))
+  where
+    one : (i : ℕ) → i < rooms t → names h (rec s i) ≡ true → (rec s i ≡ rec t i) ⊎ (rec s i ≡ blank) → ⊥
+    one i l e (inl q) = not-both (any-here (λ j. names h (rec t j)) (rooms t) i l (rw q at e)) n
+    one i l e (inr q) = unfold blank in not-both e (rw q)
+
+-- ---- what such stores leave, cut anywhere
+
+-- record i as it was, or laid
+abbrev pub Kept : List ℕ → List ℕ → ℕ → Type 0
+Kept t s i = (rec s i ≡ rec t i) ⊎ Put t i (rec s i)
+
+-- record i of t is heading g or its text
+abbrev pub Of : List ℕ → ℕ → ℕ → Type 0
+Of t g i = (i ≡ g) ⊎ ((byte (rec t i) 0 ≡ 3) × (headingOf (rec t i) ≡ g))
+
+-- no file freed, or the heading g cleared by now
+pub data Left (t s : List ℕ) : Type 0 where
+  stored : ((i : ℕ) → i < rooms t → Kept t s i) → Left t s
+  rid : (g : ℕ) → byte (rec t g) 0 ≡ 1 → rec s g ≡ blank → named s g ≡ false
+      → ((i : ℕ) → i < rooms t → Kept t s i ⊎ ((rec s i ≡ blank) × Of t g i)) → Left t s
+
+module _ (t : List ℕ) (c : Sound t) (main : List Store) (laid : Every (Puts t) main) (g : ℕ) (k : byte (rec t g) 0 ≡ 1) where
+  m : List ℕ
+  m = run t main
+
+  rooms-m : rooms m ≡ rooms t
+  unfolding m
+  rooms-m = rooms-run t main
+
+  in-g : g < rooms t
+  in-g = within t g (c .whole) (omega arith)
+
+  texts : List Store
+  texts = eachBelow (λ p. clear (textRoom t g p)) (blocksOf t g)
+
+  -- clearings of the file's records
+  clears-texts : Every (Lays (λ i x. (x ≡ blank) × Of t g i) (rooms t)) texts
+  unfolding texts
+  clears-texts =
+      every-each _ _ (blocksOf t g) (λ p b.
+      let f = text-found 65535 t g c k p b in
+      record { within = f .0; size = length-blank; holds = (refl, inr (f .1 .kind, f .1 .heading)) })
+
+  -- the heading cleared, and j of the text's records
+  s : ℕ → List ℕ
+  s j = run (lay m g blank) (take j texts)
+
+  rooms-g : rooms (lay m g blank) ≡ rooms t
+  rooms-g = rooms-lay m g blank ∙ rooms-m
+
+  cleared-each : (j i : ℕ) → i < rooms t → (rec (s j) i ≡ rec (lay m g blank) i) ⊎ ((rec (s j) i ≡ blank) × Of t g i)
+  unfolding s
+  cleared-each j i l =
+      run-each (λ i x. (x ≡ blank) × Of t g i) (lay m g blank) (take j texts) (every-take _ j texts (rw rooms-g clears-texts)) i (rw rooms-g l)
+
+  heading-gone : (j : ℕ) → rec (s j) g ≡ blank
+  heading-gone j = go (cleared-each j g in-g)
+    where
+      go : (rec (s j) g ≡ rec (lay m g blank) g) ⊎ ((rec (s j) g ≡ blank) × Of t g g) → rec (s j) g ≡ blank
+      go (inl e) = e ∙ lay-same m g blank length-blank (rw rooms-m in-g)
+      go (inr e) = e .0
+
+  from-m : (j i : ℕ) → i < rooms t → (rec (s j) i ≡ rec m i) ⊎ ((rec (s j) i ≡ blank) × Of t g i)
+  from-m j i l =
+      by-cases (ℕ-discrete i g) (λ (q : i ≡ g). inr (rw q (heading-gone j), inl q)) (λ (q : i ≢ g). go q (cleared-each j i l))
+    where
+      go : i ≢ g → (rec (s j) i ≡ rec (lay m g blank) i) ⊎ ((rec (s j) i ≡ blank) × Of t g i)
+          → (rec (s j) i ≡ rec m i) ⊎ ((rec (s j) i ≡ blank) × Of t g i)
+      go q (inl e) = inl (e ∙ lay-other m g blank i length-blank q (rw rooms-m l))
+      go q (inr e) = inr e
+
+  at-m : (i : ℕ) → i < rooms t → Kept t m i
+  unfolding m
+  at-m i l = run-each (Put t) t main laid i l
+
+  lessened : (j : ℕ) → Lessened m (s j)
+  unfolding s
+  lessened j =
+      record {
+        long = length-run (lay m g blank) (take j texts) ∙ length-lay m g blank;
+        each = λ i l. ⊎-elim inl (λ e. inr (e .0)) (from-m j i (rw rooms-m at l));
+      }
+
+  freed-left : named m g ≡ false → (j : ℕ) → Left t (s j)
+  freed-left n j = rid g k (heading-gone j) (unnamed-still m (s j) g (lessened j) n) (λ i l. go i (at-m i l) (from-m j i l))
+    where
+      go : (i : ℕ) → Kept t m i → (rec (s j) i ≡ rec m i) ⊎ ((rec (s j) i ≡ blank) × Of t g i) → Kept t (s j) i ⊎ ((rec (s j) i ≡ blank) × Of t g i)
+      go i a (inr e) = inr e
+      go i a (inl e) = inl (rw e a)
+
+  run-freed : (j : ℕ) → run m (take (suc j) (freed t g)) ≡ s j
+  unfolding freed run s texts
+  run-freed j = refl
+
+-- cut after k stores
+pub shaped-left : (t : List ℕ) → Sound t → (ss : List Store) → Shaped t ss → (k : ℕ) → Left t (run t (take k ss))
+shaped-left t c ss (plain h) k = stored (run-each (Put t) t (take k ss) (every-take _ k ss h))
+shaped-left t c ss (freeing main g h q n e) k =
+    rw e
+    (by-cases (decLe k (length main))
+    (λ (l : k ≤ length main). rw (take-append-le k main) (stored (run-each (Put t) t (take k main) (every-take _ k main h))))
+    (λ (l : ¬ (k ≤ length main)).
+    rw (take-past k main (freed t g) (omega arith), run-append) (past (k - length main) (k - length main - 1) (omega arith))))
+  where
+    past : (a j : ℕ) → a ≡ suc j → Left t (run (run t main) (take a (freed t g)))
+    past a j z = unfold m in rw (z, run-freed t c main h g q j) (freed-left t c main h g q n j)

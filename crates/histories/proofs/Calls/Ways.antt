@@ -1,0 +1,45 @@
+-- The ways of a request, each the same for every stop number: refused with the table as lent, or, on a sound table alone, one plan that has
+-- the shape of the stores, or DEL, a plan for each name. Each function is told what it needs, and a name that was read fits its field.
+use mathlib.Core.List.{List}
+use mathlib.Core.Path.{_≡_}
+use Prim.Native.Nat.{ℕ}
+use Rattle.paper.specs.Line.{Word}
+use Rattle.paper.specs.Request.{Request, crd, wrs, rds, cpy, dup, chn, del, dpr, lst, lstBase}
+use Rattle.paper.specs.Effect.{Planned, crdPlan, wrsPlan, rdsPlan, cpyPlan, dupPlan, chnPlan, dprPlan, lstPlan, lstBasePlan}
+use Rattle.paper.specs.Answer.{ran, single, deleting, granted, requested}
+use Rattle.laws.proofs.Entries.{link-short}
+use Rattle.demands.proofs.Sound.Clauses.{Sound, sound-clauses}
+use Rattle.demands.proofs.Request.Formed.{named-last}
+use Rattle.demands.proofs.Request.Read.{Told}
+use Rattle.demands.proofs.Request.Course.{Course, untried, tried, course}
+use Rattle.histories.proofs.Calls.Shapes.{Shape, crd-shape, wrs-shape, cpy-shape, dup-shape, chn-shape, dpr-shape, rds-shape, lst-shape, lst-base-shape}
+
+pub data Way (t line text reply : List ℕ) (u : ℕ) : Type 0 where
+  lent : ((k : ℕ) → requested t line text reply u k .table ≡ t) → Way t line text reply u
+  by-plan : Sound t → (x : Planned) → Shape t x → ((k : ℕ) → requested t line text reply u k ≡ single t reply k (ran k x)) → Way t line text reply u
+  by-names : Sound t → (names : List Word) → ((k : ℕ) → requested t line text reply u k ≡ deleting t u reply k 0 0 names) → Way t line text reply u
+
+module _ (t line text reply : List ℕ) (u : ℕ) where
+  granted-way : Sound t → (r : Request) → Told text r → ((k : ℕ) → requested t line text reply u k ≡ granted t text reply u k r)
+      → Way t line text reply u
+  unfolding granted
+  granted-way c (crd name level code) h =
+      by-plan c (crdPlan t u name level code) (crd-shape t c u name level code (named-last name (h .name) .short))
+  granted-way c (wrs lifetime level code name) h =
+      by-plan c (wrsPlan t u text lifetime level code name) (wrs-shape t c u text lifetime level code name (named-last name (h .name) .short))
+  granted-way c (rds name) h = by-plan c (rdsPlan t u reply name) (rds-shape t c u reply name)
+  granted-way c (cpy old new lifetime level code) h =
+      by-plan c (cpyPlan t u old new lifetime level code) (cpy-shape t c u old new lifetime level code (named-last new (h .new) .short))
+  granted-way c (dup old new code) h = by-plan c (dupPlan t u old new code) (dup-shape t c u old new code (named-last new (h .new) .short))
+  granted-way c (chn old link) h = by-plan c (chnPlan t u old link) (chn-shape t c u old link (link-short _ (h .link) .1))
+  granted-way c (del names) h = by-names c names
+  granted-way c (dpr name code) h = by-plan c (dprPlan t u name code) (dpr-shape t c u name code (h .code))
+  granted-way c (lst name) h = by-plan c (lstPlan t u reply name) (lst-shape t c u reply name)
+  granted-way c lstBase h = by-plan c (lstBasePlan t u reply) (lst-base-shape t c u reply)
+
+  pub ways : Way t line text reply u
+  ways = go (course t line text reply u)
+    where
+      go : Course t line text reply u → Way t line text reply u
+      go (untried f h e) = lent (λ k. rw (e k))
+      go (tried r h e) = granted-way (sound-clauses t (h .sized) (h .sound)) r (h .told) e

@@ -1,0 +1,11 @@
+-- ---- the theorems over any history (specs/History), each in a file; what it stands on is in the folder of its name, and in Calls
+-- "as long as that heading has not been cleared, the file's text, level and write inhibition stay": `pen-stays`
+pub mod PenStays
+-- "Clearing happens only when its last entry goes. A later file in the same record is another file.": `cleared-last`, `another-file`
+pub mod ClearedLast
+-- nobody learns a byte of a file that is read-inhibited in its heading: `seal-stays`, `seal-gone`
+pub mod SealStays
+-- the tables between the stores of a call are those after it is cut: `between-stores`, `heads-between`
+pub mod BetweenStores
+-- ---- one call
+pub mod Calls

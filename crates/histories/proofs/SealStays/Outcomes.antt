@@ -1,0 +1,234 @@
+-- One call on two such tables: the same answer, the same reply, and two such tables. A request goes by the same plan, or is refused alike;
+-- a mend clears the same records; and both tables are sound, or neither is, since what a mend would clear is the same.
+use mathlib.Core.Bool.{true, false}
+use mathlib.Core.List.{List, [], _∷_}
+use mathlib.Core.Logic.{_⊎_, inl, inr}
+use mathlib.Core.Path.{_≡_, refl, sym, _∙_}
+use Prim.Native.Nat.{ℕ, _+_, _-_}
+use native.Mathlib.Omega.{arith}
+use lib.Dec.{leb}
+use lib.ListN.{length, take}
+use lib.Seq.{take-length}
+use borrow.Author.Tests.{eqb-true, not-false}
+use Rattle.paper.specs.Record.{byte, headingCode}
+use Rattle.paper.specs.Table.{sized, rec}
+use Rattle.paper.specs.Line.{Word}
+use Rattle.paper.specs.Check.{Refusal, Verdict, passed, refused, verdict}
+use Rattle.paper.specs.Request.{Request, crd, wrs, rds, cpy, dup, chn, del, dpr, lst, lstBase, Read, request, unread, asked}
+use Rattle.paper.specs.Code.{noRead}
+use Rattle.paper.specs.Sound.{sound}
+use Rattle.paper.specs.Store.{Store, run}
+use Rattle.paper.specs.Effect.{Planned, crdPlan, wrsPlan, rdsPlan, cpyPlan, dupPlan, chnPlan, delPlan, dprPlan, lstPlan, lstBasePlan}
+use Rattle.paper.specs.Mend.{mendStores, mended}
+use Rattle.paper.specs.Answer.{Outcome, refusing, ran, single, oneName, deleting, granted, entrance, acted, admitted, requested, mendable, mendRun, mending}
+use Rattle.laws.proofs.Tests.{truth, same-truth}
+use Rattle.laws.proofs.Lists.{Every, every-take}
+use Rattle.laws.proofs.Entries.{link-short}
+use Rattle.laws.proofs.Runs.{length-run}
+use Rattle.demands.proofs.Sound.Clauses.{Sound, sound-clauses, clauses-sound}
+use Rattle.demands.proofs.Request.Formed.{named-last}
+use Rattle.demands.proofs.Request.Fair.{verdict-idle}
+use Rattle.demands.proofs.Request.Read.{Told, Right, read-right}
+use Rattle.demands.proofs.Request.Ended.{ran-by, refuses}
+use Rattle.demands.proofs.SoundKept.Kept.{passed-sound, del-keeps}
+use Rattle.demands.proofs.Mending.Debris.{nothing-to-mend, sound-keeps}
+use Rattle.histories.specs.History.{Call, asks, mends, called, heads}
+use Rattle.histories.proofs.Calls.Stores.{less-stays}
+use Rattle.histories.proofs.Calls.Shapes.{Shape, crd-shape, wrs-shape, cpy-shape, dup-shape, chn-shape, dpr-shape, del-shape, rds-shape, lst-shape, lst-base-shape}
+use Rattle.histories.proofs.Calls.Requests.{passed-shaped, Clears, lessened}
+use Rattle.histories.proofs.Calls.Mendable.{Mendable, mendable-whole}
+use Rattle.histories.proofs.BetweenStores.{mend-clears}
+use Rattle.histories.proofs.SealStays.Veils.{Veil, run-veil, mend-veil}
+use Rattle.histories.proofs.SealStays.Plans.{Same, one, neither, crd-same, wrs-same, cpy-same, dup-same, chn-same, dpr-same, del-same, rds-same, lst-same, lst-base-same}
+use Rattle.histories.proofs.SealStays.Stays.{Sealed, Hidden, equal, veiled, gone-equal, stores-hidden, all-hidden}
+
+-- two outcomes that show the same, over tables that differ in a sealed text alone
+pub record Agree (h : ℕ) (o p : Outcome) : Type 0 where
+  pub answer : p .answer ≡ o .answer
+  pub reply : p .reply ≡ o .reply
+  pub tables : Hidden h (o .table) (p .table)
+
+agree-refl : (h : ℕ) (o : Outcome) → Agree h o o
+agree-refl h o = record { answer = refl; reply = refl; tables = equal refl }
+
+-- ---- a request, the heading sealed
+
+module _ (h : ℕ) (t s reply : List ℕ) (v : Veil h t s) (c : Sound t) (k : byte (rec t h) 0 ≡ 1) (n : noRead (headingCode (rec t h)) ≡ true) where
+  still : Hidden h t s
+  still = veiled v (λ _. n)
+
+  single-agree : (j : ℕ) (x y : Planned) → Shape t x → Same x y → Agree h (single t reply j (ran j x)) (single s reply j (ran j y))
+  single-agree j x y d (neither f a b) = rw (refuses j x f a, refuses j y f b) (record { answer = refl; reply = refl; tables = still })
+  single-agree j x y d (one e) =
+      rw e (ran-by (λ z. Agree h (single t reply j z) (single s reply j z)) j x
+      (λ f _. record { answer = refl; reply = refl; tables = still })
+      (λ p q _. record { answer = refl; reply = refl; tables = all-hidden h t c k n s v (p .stores) (passed-shaped t x p d q) })
+      (λ p q _. record { answer = refl; reply = refl; tables = stores-hidden h t c k n s v (p .stores) (passed-shaped t x p d q) j }))
+
+-- DEL, from name to name
+del-agree : (h : ℕ) (ws : List Word) (t s : List ℕ) (u : ℕ) (reply : List ℕ) (k n made : ℕ) → Sound t → Sound s → Hidden h t s
+    → Agree h (deleting t u reply k n made ws) (deleting s u reply k n made ws)
+unfolding deleting
+del-agree h [] t s u reply k n made c d q = record { answer = refl; reply = refl; tables = q }
+del-agree h (w ∷ ws) t s u reply k n made c d (equal e) = rw e (agree-refl h _)
+del-agree h (w ∷ ws) t s u reply k n made c d (veiled v q) = go (truth (heads h t)) (λ t₁ s₁. del-agree h ws t₁ s₁ u reply)
+  where
+    x : Planned
+    x = delPlan t u (n + 1) w
+
+    y : Planned
+    y = delPlan s u (n + 1) w
+
+    more : List ℕ → ℕ → ℕ → ℕ → Outcome
+    more t₁ k₁ n₁ made₁ = deleting t₁ u reply k₁ n₁ made₁ ws
+
+    Rest : Type 0
+    Rest = (t₁ s₁ : List ℕ) (k₁ n₁ made₁ : ℕ) → Sound t₁ → Sound s₁ → Hidden h t₁ s₁ → Agree h (more t₁ k₁ n₁ made₁) (more s₁ k₁ n₁ made₁)
+
+    by : (z : heads h t ≡ true) → Rest → Same x y → Agree h (oneName t reply k n made more (ran k x)) (oneName s reply k n made more (ran k y))
+    by z rest (neither f a b) = rw (refuses k x f a, refuses k y f b) (record { answer = refl; reply = refl; tables = veiled v q })
+    by z rest (one e) =
+        rw e (ran-by (λ r. Agree h (oneName t reply k n made more r) (oneName s reply k n made more r)) k x
+        (λ f _. record { answer = refl; reply = refl; tables = veiled v q })
+        (λ p r _.
+        rest (run t (p .stores)) (run s (p .stores)) (k - length (p .stores)) (n + 1) (made + length (p .stores))
+        (passed-sound t x p (del-keeps t u (n + 1) w c) r)
+        (passed-sound s y p (del-keeps s u (n + 1) w d) (rw e r))
+        (all-hidden h t c (eqb-true _ _ z) (q z) s v (p .stores) (passed-shaped t x p (del-shape t c u (n + 1) w) r)))
+        (λ p r _. record {
+          answer = refl;
+          reply = refl;
+          tables = stores-hidden h t c (eqb-true _ _ z) (q z) s v (p .stores) (passed-shaped t x p (del-shape t c u (n + 1) w) r) k;
+        }))
+
+    go : (heads h t ≡ true) ⊎ (heads h t ≡ false) → Rest → Agree h (deleting t u reply k n made (w ∷ ws)) (deleting s u reply k n made (w ∷ ws))
+    go (inl z) rest = by z rest (del-same h t s v c (q z) u (n + 1) w)
+    go (inr z) rest = rw (gone-equal h t s v c z) (agree-refl h _)
+
+-- every request on sound tables, the heading sealed
+module _ (h : ℕ) (t s text reply : List ℕ) (u j : ℕ) (v : Veil h t s) (c : Sound t) (d : Sound s) (k : byte (rec t h) 0 ≡ 1)
+    (n : noRead (headingCode (rec t h)) ≡ true) where
+  by-plan : (x y : Planned) → Shape t x → Same x y → Agree h (single t reply j (ran j x)) (single s reply j (ran j y))
+  by-plan = single-agree h t s reply v c k n j
+
+  granted-agree : (r : Request) → Told text r → Agree h (granted t text reply u j r) (granted s text reply u j r)
+  unfolding granted
+  granted-agree (crd name lev code) w =
+      let l = named-last name (w .name) .short in
+      by-plan (crdPlan t u name lev code) (crdPlan s u name lev code) (crd-shape t c u name lev code l) (crd-same h t s v c n u name lev code l)
+  granted-agree (wrs life lev code name) w =
+      let l = named-last name (w .name) .short in
+      by-plan (wrsPlan t u text life lev code name) (wrsPlan s u text life lev code name)
+      (wrs-shape t c u text life lev code name l) (wrs-same h t s v c n u text life lev code name l)
+  granted-agree (rds name) w =
+      by-plan (rdsPlan t u reply name) (rdsPlan s u reply name) (rds-shape t c u reply name) (rds-same h t s v c n u reply name)
+  granted-agree (cpy old new life lev code) w =
+      let l = named-last new (w .new) .short in
+      by-plan (cpyPlan t u old new life lev code) (cpyPlan s u old new life lev code)
+      (cpy-shape t c u old new life lev code l) (cpy-same h t s v c n u old new life lev code l)
+  granted-agree (dup old new code) w =
+      let l = named-last new (w .new) .short in
+      by-plan (dupPlan t u old new code) (dupPlan s u old new code) (dup-shape t c u old new code l) (dup-same h t s v c n u old new code l)
+  granted-agree (chn old link) w =
+      by-plan (chnPlan t u old link) (chnPlan s u old link) (chn-shape t c u old link (link-short _ (w .link) .1)) (chn-same h t s v c n u old link)
+  granted-agree (del names) w = del-agree h names t s u reply j 0 0 c d (veiled v (λ _. n))
+  granted-agree (dpr name code) w =
+      by-plan (dprPlan t u name code) (dprPlan s u name code) (dpr-shape t c u name code (w .code)) (dpr-same h t s v c n u name code)
+  granted-agree (lst name) w =
+      by-plan (lstPlan t u reply name) (lstPlan s u reply name) (lst-shape t c u reply name) (lst-same h t s v c n u reply name)
+  granted-agree lstBase w = by-plan (lstBasePlan t u reply) (lstBasePlan s u reply) (lst-base-shape t c u reply) (lst-base-same h t s v c n u reply)
+
+-- ---- any table of a history
+
+-- nothing to clear: the table is its own end
+sound-end : (t : List ℕ) → Mendable t → mendStores t ≡ [] → sound t ≡ true
+unfolding mended run
+sound-end t m e = let z : mended t ≡ t = rw e in rw z at (clauses-sound (mended t) m .1)
+
+module _ (h : ℕ) (t s : List ℕ) (v : Veil h t s) (m : Mendable t) (m₁ : Mendable s) where
+  sized-t : sized t ≡ true
+  unfolding mended
+  sized-t = rw (length-run t (mendStores t)) at (clauses-sound (mended t) m .0)
+
+  sized-s : sized s ≡ true
+  sized-s = rw (v .long) sized-t
+
+  -- both are sound, or neither
+  sound-veil : sound s ≡ sound t
+  sound-veil =
+      same-truth (sound s) (sound t)
+      (λ e. sound-end t m (sym (mend-veil h t s (mendable-whole t m) v) ∙ nothing-to-mend s (sound-keeps s (sound-clauses s sized-s e))))
+      (λ e. sound-end s m₁ (mend-veil h t s (mendable-whole t m) v ∙ nothing-to-mend t (sound-keeps t (sound-clauses t sized-t e))))
+
+  entrance-veil : (u : ℕ) → entrance s u ≡ entrance t u
+  unfolding entrance
+  entrance-veil u = rw (v .long, sound-veil)
+
+  module _ (q : Sealed h t) where
+    -- refused alike
+    refuse-agree : (reply : List ℕ) (f : Refusal) → Agree h (refusing t reply f) (refusing s reply f)
+    refuse-agree reply f = record { answer = refl; reply = refl; tables = veiled v q }
+
+    -- what was read, on sound tables
+    read-agree : (text reply : List ℕ) (u j : ℕ) → sound t ≡ true → (x : Read) → Right text x → Agree h (acted t text reply u j x) (acted s text reply u j x)
+    read-agree text reply u j e (unread f) w = refuse-agree reply f
+    read-agree text reply u j e (request r) w = go (truth (heads h t))
+      where
+        c : Sound t
+        c = sound-clauses t sized-t e
+
+        go : (heads h t ≡ true) ⊎ (heads h t ≡ false) → Agree h (granted t text reply u j r) (granted s text reply u j r)
+        go (inl z) = granted-agree h t s text reply u j v c (sound-clauses s sized-s (sound-veil ∙ e)) (eqb-true _ _ z) (q z) r w
+        go (inr z) = rw (gone-equal h t s v c z) (agree-refl h _)
+
+    request-agree : (line text reply : List ℕ) (u j : ℕ) → Agree h (requested t line text reply u j) (requested s line text reply u j)
+    unfolding requested
+    request-agree line text reply u j = rw (entrance-veil u) (go (entrance t u) refl)
+      where
+        go : (x : Verdict) → entrance t u ≡ x → Agree h (admitted t line text reply u j x) (admitted s line text reply u j x)
+        go (refused f) e = refuse-agree reply f
+        go passed e =
+            let i : sound t ≡ true = unfold entrance in not-false (sound t) (verdict-idle _ e .1 .0) in
+            read-agree text reply u j i (asked line text) (read-right line text)
+
+    -- a mend clears the same records of both, and lays none again
+    cut-hidden : (j : ℕ) → Hidden h (run t (take j (mendStores t))) (run s (take j (mendStores t)))
+    cut-hidden j = veiled (run-veil h _ ss t s (mendable-whole t m) clears v) sealed
+      where
+        ss : List Store
+        ss = take j (mendStores t)
+
+        clears : Every (Clears t) ss
+        clears = every-take (Clears t) j (mendStores t) (mend-clears t)
+
+        sealed : Sealed h (run t ss)
+        sealed z =
+            let k : byte (rec (run t ss) h) 0 ≡ 1 = eqb-true _ _ z in
+            let e = less-stays t (run t ss) (mendable-whole t m) (lessened t ss clears) h (omega arith) in
+            rw e (q (rw e at z))
+
+    all-cut : Hidden h (run t (mendStores t)) (run s (mendStores t))
+    all-cut = rw (take-length (mendStores t)) at (cut-hidden (length (mendStores t)))
+
+    mends-t : mendable t ≡ passed
+    unfolding mendable verdict
+    mends-t = rw (sized-t, clauses-sound (mended t) m .1)
+
+    mends-s : mendable s ≡ passed
+    unfolding mendable verdict
+    mends-s = rw (sized-s, clauses-sound (mended s) m₁ .1)
+
+    mend-agree : (j : ℕ) → Agree h (mending t j) (mending s j)
+    unfolding mending
+    mend-agree j = rw (mends-t, mends-s, mend-veil h t s (mendable-whole t m) v) (go (truth (leb (length (mendStores t)) j)))
+      where
+        go : (leb (length (mendStores t)) j ≡ true) ⊎ (leb (length (mendStores t)) j ≡ false)
+            → Agree h (mendRun t j (mendStores t) passed) (mendRun s j (mendStores t) passed)
+        go (inl e) = rw e (record { answer = refl; reply = refl; tables = all-cut })
+        go (inr e) = rw e (record { answer = refl; reply = refl; tables = cut-hidden j })
+
+-- one call, on any two tables of a history that differ in a sealed text alone
+pub called-agree : (h : ℕ) (t s : List ℕ) (c : Call) → Mendable t → Mendable s → Hidden h t s → Agree h (called t c) (called s c)
+called-agree h t s c m m₁ (equal e) = rw e (agree-refl h (called t c))
+called-agree h t s (asks line text reply u j) m m₁ (veiled v q) = request-agree h t s v m m₁ q line text reply u j
+called-agree h t s (mends j) m m₁ (veiled v q) = mend-agree h t s v m m₁ q j

@@ -1,0 +1,209 @@
+-- Every request's plan is the same on two such tables, where the heading inhibits reading; or it reads the sealed text and is refused 13 on
+-- both, before anything of the text is asked.
+use mathlib.Core.Bool.{true}
+use mathlib.Core.List.{List, [], _∷_}
+use mathlib.Core.Logic.{_≢_, by-cases}
+use mathlib.Core.Path.{_≡_, refl}
+use Prim.Native.Nat.{ℕ, _≤_, _<_}
+use native.Mathlib.Omega.{arith}
+use native.Mathlib.Decide.{ℕ-discrete}
+use lib.ListN.{length}
+use Rattle.paper.specs.Scan.{Found, at, nowhere, allBelow}
+use Rattle.paper.specs.Record.{byte, headingCode, entryCode, blank}
+use Rattle.paper.specs.Table.{rooms, rec, room}
+use Rattle.paper.specs.Declaration.{Part, orElse}
+use Rattle.paper.specs.Line.{Word}
+use Rattle.paper.specs.Check.{Refusal, Check, verdict, refused}
+use Rattle.paper.specs.Code.{joined, noRead}
+use Rattle.paper.specs.Sound.{implies}
+use Rattle.paper.specs.Block.{fileText}
+use Rattle.paper.specs.Walk.{State, start, applies, file, Walked, reached, stopped, toDirectory, toLast, lastName, lastFrom, endFrom, ended}
+use Rattle.paper.specs.Effect.{Planned, onward, inward, chainOf, toHolder, toEnd, Making, borne, placing, displacing, readInhibited, notSimple, making, filing, newFile, crdPlan, wrsPlan, cpyPlan, dupPlan, chnPlan, dprPlan, delPlan, rdsPlan, lstPlan, lstBasePlan}
+use Rattle.laws.proofs.Tests.{implies-use}
+use Rattle.laws.proofs.Scans.{all-true}
+use Rattle.laws.proofs.Fields.{length-entry}
+use Rattle.laws.proofs.Entries.{found-stands}
+use Rattle.laws.proofs.Lay.{length-blank}
+use Rattle.demands.proofs.Sound.Clauses.{Sound, entry-code}
+use Rattle.demands.proofs.Request.Ended.{Refused, checked}
+use Rattle.demands.proofs.Request.Walked.{Reached, walk-reached}
+use Rattle.histories.proofs.SealStays.Veils.{Veil, rooms-veil, named-veil, rec-veil, simple-veil, directory-veil, find-veil, full-veil, frees-veil}
+use Rattle.histories.proofs.SealStays.Walks.{to-directory-veil, to-last-veil, losing-veil, settled-veil, file-text-veil, directory-lines-veil, base-lines-veil}
+
+-- one plan, or refused alike
+pub data Same (x y : Planned) : Type 0 where
+  one : y ≡ x → Same x y
+  neither : (f : Refusal) → Refused x f → Refused y f → Same x y
+
+-- a code that inhibits reading joined with another still does: all pairs of codes, computed
+joins : allBelow (λ a. allBelow (λ b. implies (noRead a) (noRead (joined a b))) 8) 8 ≡ true
+unfolding allBelow
+joins = refl
+
+pub joined-read : (a b : ℕ) → a ≤ 7 → b ≤ 7 → noRead a ≡ true → noRead (joined a b) ≡ true
+joined-read a b l m =
+    implies-use (noRead a) _ (all-true (λ b. implies (noRead a) (noRead (joined a b))) 8 b (omega arith)
+    (all-true (λ a. allBelow (λ b. implies (noRead a) (noRead (joined a b))) 8) 8 a (omega arith) joins))
+
+-- 13: "read inhibited"
+abbrev no-reading : Refusal
+no-reading = record { number = 13; place = 1; link = 0 }
+
+module _ (h : ℕ) (t s : List ℕ) (v : Veil h t s) (c : Sound t) (seal : noRead (headingCode (rec t h)) ≡ true) where
+  -- ---- walks
+
+  holder-same : (u place : ℕ) (w : Word) (f g : State → Planned)
+      → ((d : State) → toDirectory t 1 (start u) (chainOf w) ≡ reached d → Same (f d) (g d)) → Same (toHolder t u place w f) (toHolder s u place w g)
+  holder-same u place w f g r =
+      rw (to-directory-veil h t s v 1 (start u) (chainOf w)) (go (toDirectory t 1 (start u) (chainOf w)) refl)
+    where
+      go : (x : Walked) → toDirectory t 1 (start u) (chainOf w) ≡ x → Same (onward place x f) (onward place x g)
+      go (reached d) e = r d e
+      go (stopped n link) e = one refl
+
+  end-same : (u place : ℕ) (w : Word) (f g : State → State → Planned)
+      → ((d e : State) → Reached t d (lastName (chainOf w)) e → Same (f d e) (g d e)) → Same (toEnd t u place w f) (toEnd s u place w g)
+  unfolding ended
+  end-same u place w f g r =
+      rw (to-directory-veil h t s v 1 (start u) (chainOf w)) (go (toDirectory t 1 (start u) (chainOf w)))
+    where
+      last : (d : State) (x : Walked) → toLast t d (chainOf w) ≡ x → Same (inward place (lastFrom d x) f) (inward place (lastFrom d x) g)
+      last d (reached e) q = r d e (walk-reached 65535 t c d (chainOf w) e q)
+      last d (stopped n link) q = one refl
+
+      go : (x : Walked) → Same (inward place (endFrom t (chainOf w) x) f) (inward place (endFrom s (chainOf w) x) g)
+      go (reached d) = rw (to-last-veil h t s v d (chainOf w)) (last d (toLast t d (chainOf w)) refl)
+      go (stopped n link) = one refl
+
+  -- what a walk to a file ends at is the same
+  file-same : (e : State) → file s e ≡ file t e
+  file-same e = named-veil h t s v (e .entry)
+
+  heading-same : (d e : State) (n : List ℕ) → Reached t d n e → rec s (file t e) ≡ rec t (file t e)
+  heading-same d e n r = rec-veil h t s v (file t e) (λ (z : byte (rec t (file t e)) 0 ≡ 3). omega (arith, r .heading))
+
+  entry-same : (d e : State) (n : List ℕ) → Reached t d n e → rec s (e .entry) ≡ rec t (e .entry)
+  entry-same d e n r = rec-veil h t s v (e .entry) (λ (z : byte (rec t (e .entry)) 0 ≡ 3). omega (arith, r .looked .stands .kind))
+
+  -- the sealed file is read-inhibited by every path
+  sealed : (d e : State) (n : List ℕ) → Reached t d n e → file t e ≡ h → noRead (e .code) ≡ true
+  unfolding applies
+  sealed d e n r q =
+      rw (r .looked .code)
+      (joined-read (headingCode (rec t (file t e))) (entryCode (rec t (e .entry))) (r .fields .code) (entry-code _ (r .own)) (rw q seal))
+
+  -- ---- a new entry
+
+  room-same : (m : ℕ) → room s m ≡ room t m
+  room-same m = rw (frees-veil h t s v, rooms-veil h t s v)
+
+  module _ (m : Making) (size : length (m .entry) ≡ 32) where
+    kind-at : (e : ℕ) → borne t m ≡ at e → (e < rooms t) × (byte (rec t e) 0 ≡ 2)
+    kind-at e q = let f = found-stands t (m .directory .holder) (m .name) e q in (f .0, f .1 .kind)
+
+    displaced-same : displacing s (borne t m) (m .entry) ≡ displacing t (borne t m) (m .entry)
+    displaced-same = go (borne t m) refl
+      where
+        go : (x : Found) → borne t m ≡ x → displacing s x (m .entry) ≡ displacing t x (m .entry)
+        go (at e) q = let k = kind-at e q in losing-veil h t s v c e (m .entry) (k .0) (k .1) size
+        go nowhere q = refl
+
+    placing-same : placing s m (borne t m) ≡ placing t m (borne t m)
+    placing-same = go (borne t m) refl
+      where
+        go : (x : Found) → borne t m ≡ x → placing s m x ≡ placing t m x
+        go (at e) q = let k = kind-at e q in rw (settled-veil h t s v c e (m .entry) (k .0) (k .1) size)
+        go nowhere q = rw (room-same (length (m .first)))
+
+    making-same : (a b : List Check) → making s m a b ≡ making t m a b
+    unfolding making
+    making-same a b =
+        rw (find-veil h t s v (m .directory .holder) (m .name), displaced-same, placing-same, full-veil h t s v (m .directory .holder), frees-veil h t s v)
+
+  file-made : (head body : List ℕ) → newFile s head body ≡ newFile t head body
+  unfolding newFile
+  file-made head body = rw (frees-veil h t s v, rooms-veil h t s v)
+
+  -- a new file under a name that fits its field
+  filing-same : (place : ℕ) (w : Word) (d : State) (code : ℕ) (head body : List ℕ) (a b : List Check) → length (lastName (chainOf w)) ≤ 10
+      → making s (filing s place w d code head body) a b ≡ making t (filing t place w d code head body) a b
+  filing-same place w d code head body a b l =
+      rw (file-made head body, room-same 0)
+      (making-same (filing t place w d code head body)
+      (length-entry code (d .holder .heading) (room t 0) (d .holder .user) (lastName (chainOf w)) l) a b)
+
+  -- ---- each function
+
+  pub crd-same : (u : ℕ) (name : Word) (lev code : Part) → length (lastName (chainOf name)) ≤ 10 → Same (crdPlan t u name lev code) (crdPlan s u name lev code)
+  unfolding crdPlan
+  crd-same u name lev code l = holder-same u 1 name _ _ (λ d _. one (filing-same 1 name d (orElse code 0) _ [] [] [] l))
+
+  pub wrs-same : (u : ℕ) (body : List ℕ) (life : ℕ) (lev code : Part) (name : Word) → length (lastName (chainOf name)) ≤ 10
+      → Same (wrsPlan t u body life lev code name) (wrsPlan s u body life lev code name)
+  unfolding wrsPlan
+  wrs-same u body life lev code name l = holder-same u 2 name _ _ (λ d _. one (filing-same 2 name d (orElse code 0) _ body [] [] l))
+
+  pub dup-same : (u : ℕ) (old new : Word) (code : Part) → length (lastName (chainOf new)) ≤ 10 → Same (dupPlan t u old new code) (dupPlan s u old new code)
+  unfolding dupPlan
+  dup-same u old new code l =
+      end-same u 1 old _ _ (λ o f r. holder-same u 2 new _ _ (λ d _.
+      one (rw (entry-same o f _ r) (making-same _ (length-entry _ (d .holder .heading) (file t f) (d .holder .user) (lastName (chainOf new)) l) [] []))))
+
+  pub chn-same : (u : ℕ) (old link : Word) → Same (chnPlan t u old link) (chnPlan s u old link)
+  unfolding chnPlan
+  chn-same u old link =
+      end-same u 1 old _ _ (λ d f r. one (rw (find-veil h t s v (d .holder) (lastName (link .names)), entry-same d f _ r)))
+
+  pub dpr-same : (u : ℕ) (name : Word) (code : ℕ) → Same (dprPlan t u name code) (dprPlan s u name code)
+  unfolding dprPlan
+  dpr-same u name code = end-same u 1 name _ _ (λ d f r. one (rw (file-same f, heading-same d f _ r)))
+
+  pub del-same : (u place : ℕ) (name : Word) → Same (delPlan t u place name) (delPlan s u place name)
+  unfolding delPlan
+  del-same u place name =
+      end-same u place name _ _ (λ d f r.
+      let k = r .looked .stands .kind in
+      let l = r .looked .within in
+      one (rw (losing-veil h t s v c (f .entry) blank l k length-blank, settled-veil h t s v c (f .entry) blank l k length-blank)))
+
+  pub lst-same : (u : ℕ) (reply : List ℕ) (name : Word) → Same (lstPlan t u reply name) (lstPlan s u reply name)
+  unfolding lstPlan
+  lst-same u reply name =
+      end-same u 1 name _ _ (λ d f r. one (rw (file-same f, directory-veil h t s v (file t f), directory-lines-veil h t s v (file t f))))
+
+  pub lst-base-same : (u : ℕ) (reply : List ℕ) → Same (lstBasePlan t u reply) (lstBasePlan s u reply)
+  unfolding lstBasePlan
+  lst-base-same u reply = one (rw (base-lines-veil h t s v u))
+
+  -- ---- what reads the text: another file's is the same; the sealed file's is refused first
+
+  thirteen : (f : State) (rest : List Check) → noRead (f .code) ≡ true → verdict (readInhibited 1 f ∷ rest) ≡ refused no-reading
+  unfolding verdict
+  thirteen f rest e = rw e
+
+  pub rds-same : (u : ℕ) (reply : List ℕ) (name : Word) → Same (rdsPlan t u reply name) (rdsPlan s u reply name)
+  unfolding rdsPlan
+  rds-same u reply name =
+      end-same u 1 name _ _ (λ d f r. by-cases (ℕ-discrete (file t f) h)
+      (λ (q : file t f ≡ h).
+      let z = sealed d f _ r q in
+      neither no-reading (checked _ refl (thirteen f _ z)) (checked _ refl (thirteen f _ z)))
+      (λ (q : file t f ≢ h). one (rw (file-same f, simple-veil h t s v (file t f), file-text-veil h t s v (c .whole) (file t f) q (r .heading)))))
+
+  -- a plan whose first check is that of reading
+  refused-making : (m : Making) (f : State) (a b : List Check) (x : List ℕ) → noRead (f .code) ≡ true
+      → Refused (making x m (readInhibited 1 f ∷ a) b) no-reading
+  unfolding making
+  refused-making m f a b x z = checked _ refl (thirteen f _ z)
+
+  pub cpy-same : (u : ℕ) (old new : Word) (life lev code : Part) → length (lastName (chainOf new)) ≤ 10
+      → Same (cpyPlan t u old new life lev code) (cpyPlan s u old new life lev code)
+  unfolding cpyPlan
+  cpy-same u old new life lev code l =
+      end-same u 1 old _ _ (λ o f r. holder-same u 2 new _ _ (λ d _. by-cases (ℕ-discrete (file t f) h)
+      (λ (q : file t f ≡ h).
+      let z = sealed o f _ r q in
+      neither no-reading (refused-making _ f [] _ t z) (refused-making _ f [] _ s z))
+      (λ (q : file t f ≢ h).
+      one (rw (file-same f, simple-veil h t s v (file t f), heading-same o f _ r, file-text-veil h t s v (c .whole) (file t f) q (r .heading))
+      (filing-same 2 new d (orElse code 0) _ (fileText t (file t f)) (readInhibited 1 f ∷ []) (notSimple 1 t f ∷ []) l)))))

@@ -1,0 +1,106 @@
+-- The same stores on two such tables keep them such: each lays one record in one place of both. And the seal stays while the heading is
+-- one: only DPR lays it again, with every bit that it had.
+use mathlib.Core.Bool.{true, false}
+use mathlib.Core.List.{List}
+use mathlib.Core.Logic.{_⊎_, inl, inr}
+use mathlib.Core.Path.{_≡_, refl, sym}
+use Prim.Native.Nat.{ℕ, _≤_, _<_}
+use native.Mathlib.Omega.{arith}
+use lib.ListN.{length, take}
+use lib.Seq.{take-length, getD-set-same}
+use borrow.Author.Tests.{eqb-true, eqb-false, not-false}
+use Rattle.paper.specs.Record.{byte, headingCode, blank}
+use Rattle.paper.specs.Table.{rooms, rec}
+use Rattle.paper.specs.Code.{joined, noRead}
+use Rattle.paper.specs.Store.{Store, run}
+use Rattle.paper.specs.Effect.{recoded, freed}
+use Rattle.laws.proofs.Lists.{Every, every-take, every-append, every-imp}
+use Rattle.laws.proofs.Lay.{ext-table, length-rec, within}
+use Rattle.laws.proofs.Runs.{Lays}
+use Rattle.demands.proofs.Sound.Clauses.{Sound, heading-fields}
+use Rattle.demands.proofs.Sound.Points.{text-points}
+use Rattle.histories.specs.History.{heads}
+use Rattle.histories.proofs.Calls.Stores.{kind-blank, Put, heading, text, entry, cleared, recodes, Puts, Kept, Of, Left, stored, rid, Shaped, plain, freeing, shaped-left}
+use Rattle.histories.proofs.Calls.Requests.{Clears, freed-clears}
+use Rattle.histories.proofs.SealStays.Veils as Veils
+use Rattle.histories.proofs.SealStays.Veils.{Veiled, Veil, run-veil}
+use Rattle.histories.proofs.SealStays.Plans.{joined-read}
+
+-- the heading h, where it is one, inhibits reading
+abbrev pub Sealed : ℕ → List ℕ → Type 0
+Sealed h t = heads h t ≡ true → noRead (headingCode (rec t h)) ≡ true
+
+-- the same table, or one that differs in a sealed text alone
+pub data Hidden (h : ℕ) (t s : List ℕ) : Type 0 where
+  equal : s ≡ t → Hidden h t s
+  veiled : Veil h t s → Sealed h t → Hidden h t s
+
+pub hidden-veil : (h : ℕ) (t s : List ℕ) → Hidden h t s → Veil h t s
+hidden-veil h t s (equal e) = rw e (record { long = refl; each = λ i. Veils.same refl })
+hidden-veil h t s (veiled v q) = v
+
+-- in a sound table text has its heading: where h is none, nothing differs
+pub gone-equal : (h : ℕ) (t s : List ℕ) → Veil h t s → Sound t → heads h t ≡ false → s ≡ t
+gone-equal h t s v c n = sym (ext-table t s (sym (v .long)) (c .whole) (λ i l. go i l (v .each i)))
+  where
+    go : (i : ℕ) → i < rooms t → Veiled h (rec t i) (rec s i) → rec t i ≡ rec s i
+    go i l (Veils.same e) = sym e
+    go i l (Veils.text k q e) = absurd (eqb-false _ _ n (rw q at (text-points 65535 t c i l k)))
+
+-- ---- stores
+
+-- some store of 32 bytes
+abbrev Any : ℕ → List ℕ → Type 0
+Any i r = Unit {0}
+
+any-store : (t : List ℕ) → Sound t → (ss : List Store) → Shaped t ss → Every (Lays Any (rooms t)) ss
+any-store t c ss (plain h) = every-imp (Puts t) (Lays Any (rooms t)) ss (λ x l. record { within = l .within; size = l .size; holds = tt }) h
+any-store t c ss (freeing main g h k n e) =
+    rw e (every-append (Lays Any (rooms t)) main (freed t g)
+    (every-imp (Puts t) (Lays Any (rooms t)) main (λ x l. record { within = l .within; size = l .size; holds = tt }) h)
+    (every-imp (Clears t) (Lays Any (rooms t)) (freed t g) (λ x l. record { within = l .within; size = l .size; holds = tt }) (freed-clears t c g k)))
+
+code-recoded : (r : List ℕ) (code : ℕ) → length r ≡ 32 → headingCode (recoded r code) ≡ code
+unfolding recoded
+code-recoded r code e = getD-set-same r 3 code 0 (omega arith)
+
+module _ (h : ℕ) (t : List ℕ) (c : Sound t) (k : byte (rec t h) 0 ≡ 1) (n : noRead (headingCode (rec t h)) ≡ true) where
+  in-h : h < rooms t
+  in-h = within t h (c .whole) (omega arith)
+
+  -- what is laid over a sealed heading is sealed
+  put-sealed : (r : List ℕ) → Put t h r → noRead (headingCode r) ≡ true
+  put-sealed r (heading a b) = let z : ⊥ = omega arith in absurd z
+  put-sealed r (text a b d) = let z : ⊥ = omega arith in absurd z
+  put-sealed r (entry (inl a) b) = let z : ⊥ = omega arith in absurd z
+  put-sealed r (entry (inr a) b) = let z : ⊥ = omega arith in absurd z
+  put-sealed r (cleared a b) = let z : ⊥ = omega arith in absurd z
+  put-sealed r (recodes code b a w x q) =
+      let j : joined (headingCode (rec t h)) code ≡ code = eqb-true _ _ (not-false _ x) in
+      let m : headingCode (rec t h) ≤ 7 = heading-fields (rec t h) (c .own h in-h .heading k) .code in
+      let z : noRead (joined (headingCode (rec t h)) code) ≡ true = joined-read (headingCode (rec t h)) code m b n in
+      rw (q, code-recoded (rec t h) code (length-rec t h in-h)) (rw j at z)
+
+  kept-sealed : (s : List ℕ) → Kept t s h → noRead (headingCode (rec s h)) ≡ true
+  kept-sealed s (inl e) = rw e n
+  kept-sealed s (inr p) = put-sealed (rec s h) p
+
+  left-sealed : (s : List ℕ) → Left t s → Sealed h s
+  left-sealed s (stored each) z = kept-sealed s (each h in-h)
+  left-sealed s (rid g q y m each) z = go (each h in-h)
+    where
+      go : Kept t s h ⊎ ((rec s h ≡ blank) × Of t g h) → noRead (headingCode (rec s h)) ≡ true
+      go (inl e) = kept-sealed s e
+      go (inr e) =
+          let a : byte (rec s h) 0 ≡ 1 = eqb-true _ _ z in
+          let b = kind-blank (rec s h) (e .0) in
+          let x : ⊥ = omega arith in absurd x
+
+  -- the first k stores of one list
+  pub stores-hidden : (s : List ℕ) → Veil h t s → (ss : List Store) → Shaped t ss → (j : ℕ) → Hidden h (run t (take j ss)) (run s (take j ss))
+  stores-hidden s v ss d j =
+      veiled (run-veil h Any (take j ss) t s (c .whole) (every-take _ j ss (any-store t c ss d)) v)
+      (left-sealed (run t (take j ss)) (shaped-left t c ss d j))
+
+  pub all-hidden : (s : List ℕ) → Veil h t s → (ss : List Store) → Shaped t ss → Hidden h (run t ss) (run s ss)
+  all-hidden s v ss d = rw (take-length ss) at (stores-hidden s v ss d (length ss))
