@@ -18,7 +18,7 @@ use Rattle.paper.specs.Line.{Word}
 use Rattle.paper.specs.Check.{Refusal}
 use Rattle.paper.specs.Request.{del, request, asked}
 use Rattle.paper.specs.Store.{Store, run}
-use Rattle.paper.specs.Effect.{Plan, Planned, plan, delPlan}
+use Rattle.paper.specs.Effect.{Plan, Planned, delPlan}
 use Rattle.paper.specs.Answer.{Outcome, plain, refusing, done, stores, ran, single, deleting, requested}
 use Rattle.laws.proofs.Runs.{length-run}
 use Rattle.demands.proofs.Request.Fair.{placeless, Fair, verdict-idle}

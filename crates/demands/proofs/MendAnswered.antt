@@ -14,7 +14,7 @@ use Rattle.paper.specs.Check.{verdict}
 use Rattle.paper.specs.Sound.{sound}
 use Rattle.paper.specs.Store.{run}
 use Rattle.paper.specs.Mend.{mendStores, mended}
-use Rattle.paper.specs.Answer.{Outcome, plain, refusing, stores, mendable, mending}
+use Rattle.paper.specs.Answer.{Outcome, plain, refusing, mendable, mending}
 use Rattle.laws.proofs.Runs.{length-run}
 
 -- the four ways of a mending: 1, 2, 0 and 22

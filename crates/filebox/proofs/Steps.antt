@@ -225,9 +225,6 @@ came-further input t l m r h t' l' m' r' h' f =
           };
     }
 
-pub came-still : (t l m r : List ℕ) (h : Held) → Further t l m r h t l m r h
-came-still t l m r h = record { came = λ t₀ r₀ c. c }
-
 pub came-over : (t₀ r₀ t l m r : List ℕ) (h : Held) (t' r' : List ℕ) (h' : Held) → Came t₀ r₀ t l m r h
     → Follows finished t l m r h t' l m r' h' → Over t₀ r₀ t' r'
 came-over t₀ r₀ t l m r h t' r' h' c f =

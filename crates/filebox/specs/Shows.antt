@@ -1,5 +1,5 @@
 -- What the code holds of a box: the first bytes of a line and of its text. A line longer than 257 bytes is answered as its first 257
--- are, and a text longer than 24,001 bytes likewise: `requested-cut` of proofs/Cut.antt.
+-- are, and a text longer than 24,001 bytes likewise: `requested-cut` of `demands`.
 use mathlib.Core.Bool.{Bool, false}
 use mathlib.Core.List.{List}
 use mathlib.Core.Path.{_≡_}

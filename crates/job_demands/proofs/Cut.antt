@@ -6,7 +6,6 @@ use mathlib.Core.Logic.{_⊎_, inl, inr, _≢_}
 use mathlib.Core.Path.{_≡_, refl, sym, ap, _∙_}
 use Prim.Native.Nat.{ℕ, suc, _+_, _-_, _≤_}
 use native.Mathlib.Omega.{arith}
-use native.Mathlib.Numerals.{add-one}
 use lib.Dec.{eqb}
 use lib.ListN.{length, take}
 use borrow.Author.Tests.{eqb-true, eqb-false}
@@ -30,11 +29,9 @@ use Rattle.laws.proofs.Lists.{Every, every-imp}
 use Rattle.demands.proofs.Answered.{refusal-lends}
 use Rattle.demands.proofs.Sound.Clauses.{sound-clauses}
 use Rattle.demands.proofs.Mending.Debris.{mended-sound}
-use Rattle.demands.proofs.PowerCut.Landing.{Done}
 use Rattle.demands.proofs.Mending.{mendedWhole, mend-whole}
 use Rattle.demands.proofs.PowerCut.{Lands, before, after, first, demand-three}
 use Rattle.demands.proofs.SoundKept.{sound-kept}
-use Rattle.demands.proofs.Stops.{stop-same}
 use Rattle.job_demands.proofs.Still.{still}
 use Rattle.job_demands.proofs.Lines.{wrs-names}
 use Rattle.job_demands.proofs.Proper.{Proper, job-proper}

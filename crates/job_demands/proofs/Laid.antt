@@ -13,7 +13,7 @@ use lib.Seq.{take-all, take-add}
 use lib.Dec.{eqb}
 use borrow.Author.Tests.{eq-eqb, ne-eqb}
 use Rattle.paper.specs.Scan.{joinBelow}
-use Rattle.paper.specs.Record.{byte, isKind, headingType, simple, entryCode, headingNamed, headingOf, nameOf, held, blank, headingRecord}
+use Rattle.paper.specs.Record.{byte, isKind, headingType, entryCode, headingNamed, headingOf, nameOf, held, blank, headingRecord}
 use Rattle.paper.specs.Table.{rooms, rec, lay, room, textRoom}
 use Rattle.paper.specs.Entry.{Holder, holder, bears}
 use Rattle.paper.specs.Block.{blocks, block, blocksOf, fileText}

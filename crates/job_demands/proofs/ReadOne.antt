@@ -6,7 +6,6 @@ use Prim.Native.Nat.{ℕ, _≤_}
 use native.Mathlib.Omega.{arith}
 use lib.ListN.{length, drop}
 use borrow.Author.Tests.{le-ltb, le-leb}
-use Rattle.paper.specs.Record.{simple}
 use Rattle.paper.specs.Line.{Word}
 use Rattle.paper.specs.Check.{verdict}
 use Rattle.paper.specs.Request.{Request, request, asked}

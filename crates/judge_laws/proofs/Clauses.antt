@@ -10,7 +10,6 @@ use native.Mathlib.Decide.{ℕ-discrete}
 use lib.Dec.{leb}
 use borrow.Author.Tests.{ne-eqb, leb-true, le-leb}
 use Rattle.judge_laws.specs.Shapes.{headingRight, entryRight, rightAt, shaped}
-use Rattle.paper.specs.Entry.{named}
 use Rattle.paper.specs.Name.{linkName}
 use Rattle.paper.specs.Record.{byte, entryCode, nameLength, nameOf, zeros}
 use Rattle.paper.specs.Sound.{freeAsAbove, headingAsAbove, entryAsAbove, textAsAbove, asAbove, holderThere, holdersThere, headingThere, headingsThere, userRight, usersRight, namePadded, namesPadded, directoryPlain, directoriesPlain, nameLegal, namesLegal}

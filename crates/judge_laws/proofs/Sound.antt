@@ -6,8 +6,6 @@ use mathlib.Core.Path.{_≡_, sym, _∙_}
 use Prim.Native.Nat.{ℕ}
 use Rattle.judge_laws.specs.Shapes.{shaped}
 use Rattle.judge_laws.specs.Twins.{noTwins}
-use Rattle.paper.specs.Answer.{plain}
-use Rattle.paper.specs.Record.{padded}
 use Rattle.paper.specs.Sound.{allNamed, noneCrowded, textsWhole, noOtherText, sound}
 use Rattle.judge_laws.proofs.Clauses.{shaped-view, shaped-made}
 use Rattle.judge_laws.proofs.Literal.{twins-literal}

@@ -1,4 +1,4 @@
--- a sheet's name and its zeros
+-- a sheet's name and its parts
 pub mod Sheets
 -- the line of a request
 pub mod Lines

@@ -14,7 +14,8 @@ use Rattle.paper.specs.Check.{Check, Verdict, passed, refused, verdict}
 use Rattle.paper.specs.Scan.{Found, at, nowhere, anyBelow, firstBelow}
 use Rattle.paper.specs.Table.{rec}
 use Rattle.laws.proofs.Tests.{clash}
-use Rattle.laws.proofs.Scans.{first-here, first-none, first-at, first-nowhere, any-more, any-false}
+use Rattle.laws.proofs.Scans.{first-here, first-none, first-at, first-nowhere, any-false}
+use Rattle.scans.proofs.Turns.{any-still}
 use Rattle.job.specs.Sheet.{count, lengthOf, start}
 use Rattle.job.specs.Refusal.{malformed, twice, missing, tooLong, each, admission}
 use Rattle.job.specs.Lamp.{refusal, ran, admitted, lit}
@@ -24,13 +25,6 @@ use Rattle.lamp.specs.Refused.{numbered, firstSheet, admissionShown}
 use Rattle.lamp.specs.declared.refusal.Admission.the-variants.{Passed, Refused}
 
 module _ (p : ℕ → Bool) where
-  pub any-start : anyBelow p 0 ≡ false
-  unfolding anyBelow
-  any-start = refl
-
-  pub any-next : (i : ℕ) → p i ≡ false → anyBelow p i ≡ false → anyBelow p (i + 1) ≡ false
-  any-next i e f = rw (any-more p i, e, f)
-
   pub found-here : (n i : ℕ) → i < n → p i ≡ true → anyBelow p i ≡ false → i + 1 ≡ firstSheet p n
   unfolding firstSheet
   found-here n i l e f = rw (first-here p n i l e f, add-one i)
@@ -142,7 +136,7 @@ module _ (sheets texts : List ℕ) where
       let e : missing sheets texts i ≡ false = le-ltb (length texts) (start sheets i + lengthOf (rec sheets i)) (omega (arith, l .sum)) in
       record {
         sum = rw (start-more sheets i) (omega (arith, l .sum));
-        none = any-next (missing sheets texts) i e (l .none);
+        none = any-still (missing sheets texts) i e (l .none);
       }
 
 -- ---- the promise

@@ -11,9 +11,7 @@ use lib.ListN.{length, take, drop, getD, drop-of-length-le, length-take}
 use lib.Seq.{take-all, take-suc, drop-cons}
 use borrow.Author.Tests.{ne-eqb}
 use Rattle.paper.specs.Name.{linkName}
-use Rattle.paper.specs.Record.{byte, zeros}
-use Rattle.paper.specs.Scan.{allBelow}
-use Rattle.laws.proofs.Scans.{all-false}
+use Rattle.paper.specs.Record.{zeros}
 use Rattle.job.specs.Sheet.{unpadded, linkOf, formed}
 
 -- the name of s so far: i bytes, none of them zero
@@ -50,19 +48,6 @@ unpadded-most (b ∷ s) = go (eqb b 0) (unpadded-most s)
 link-most : (r : List ℕ) → length (linkOf r) ≤ 10
 unfolding linkOf
 link-most r = let a = unpadded-most (take 10 r) in let b = length-take 10 r in omega arith
-
--- the bytes of r from place j on, one after the other
-pub zeros-none : (j : ℕ) (r : List ℕ) → zeros j 0 r ≡ true
-unfolding zeros allBelow
-zeros-none j r = refl
-
-pub zeros-more : (j n : ℕ) (r : List ℕ) → zeros j n r ≡ true → byte r (j + n) ≡ 0 → zeros j (n + 1) r ≡ true
-unfolding zeros allBelow
-zeros-more j n r e z = rw (add-one n, z, e)
-
-pub zeros-not : (j n m : ℕ) (r : List ℕ) → m < n → (byte r (j + m) ≡ 0 → ⊥) → zeros j n r ≡ false
-unfolding zeros
-zeros-not j n m r l e = all-false (λ i. eqb (byte r (j + i)) 0) n m l (ne-eqb (byte r (j + m)) 0 e)
 
 -- the parts of a sheet, tried in order
 module _ (r : List ℕ) where

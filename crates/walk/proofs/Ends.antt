@@ -10,7 +10,6 @@ use Rattle.walk.specs.Shown.{meant, shown, walkedShown}
 use Rattle.walk.specs.Ends.{endShown, bothShown}
 use Rattle.walk.specs.declared.state.State.{State}
 use Rattle.walk.specs.declared.chain.Walked.the-variants.{Reached, Stopped}
-use Rattle.walk.specs.declared.end.End.{End}
 use Rattle.walk.specs.declared.end.End.the-variants.{At, Off}
 use Rattle.walk.specs.declared.end.Both.the-variants as both
 

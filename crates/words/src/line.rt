@@ -4,7 +4,7 @@ use crate::class::end_of;
 use records::bytes::byte_at;
 ghost use mathlib.Core.Path.{_≡_};
 ghost use lib.ListN.{length};
-ghost use Rattle.paper.specs.Line.{Word, word, words, legalLine};
+ghost use Rattle.paper.specs.Line.{word, words, legalLine};
 ghost use Rattle.words.specs.Place.{cut, loneOf, namesFrom, nextWord};
 ghost use Rattle.words.specs.Shown.{nextAt};
 

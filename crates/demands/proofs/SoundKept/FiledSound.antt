@@ -9,7 +9,7 @@ use native.Mathlib.Omega.{arith}
 use lib.ListN.{length}
 use borrow.Author.Tests.{eq-eqb, lt-ltb}
 use Rattle.paper.specs.Scan.{countBelow}
-use Rattle.paper.specs.Record.{byte, headingType, textLength, simple, headingNamed, nameOf, headingOf, position, textAt}
+use Rattle.paper.specs.Record.{byte, headingType, textLength, simple, headingNamed, nameOf, headingOf, textAt}
 use Rattle.paper.specs.Table.{rooms, rec, room}
 use Rattle.paper.specs.Entry.{holder, bears, named}
 use Rattle.paper.specs.Block.{blocks, share, block}

@@ -1,6 +1,6 @@
 -- No record from the start on and below i is free: so the first that is, is the next one,
 -- and where the scan comes to the end there is none.
-use mathlib.Core.Path.{_≡_, refl, sym, _∙_}
+use mathlib.Core.Path.{_≡_, sym, _∙_}
 use mathlib.Core.Bool.{false}
 use Prim.Native.Nat.{_-_, _≤_}
 use native.Mathlib.Omega.{arith}

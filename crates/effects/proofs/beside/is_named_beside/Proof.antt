@@ -1,6 +1,6 @@
 -- No record below i counts, or the scan would have ended; one that counts is the answer.
 -- At the end none of the table's records counts.
-use mathlib.Core.Path.{_≡_, refl, sym, _∙_}
+use mathlib.Core.Path.{_≡_, sym, _∙_}
 use mathlib.Core.Bool.{false}
 use Prim.Native.Nat.{_-_, _≤_}
 use native.Mathlib.Omega.{arith}

@@ -1,6 +1,6 @@
 -- From the last record back, the list holds at each position the first text from the present record on.
 -- At record 0 that is the first of all, which is the one that the definition takes.
-use mathlib.Core.Path.{_≡_, refl}
+use mathlib.Core.Path.{_≡_}
 use Prim.Native.Nat.{_+_, _-_, _≤_}
 use native.Mathlib.Omega.{arith}
 use borrow.Author.Needs.{needs}

@@ -6,9 +6,10 @@ use Prim.Native.Nat.{_≤_, _-_}
 use native.Mathlib.Omega.{arith}
 use borrow.Author.Needs.{needs}
 use Rattle.paper.specs.Scan.{anyBelow}
+use Rattle.scans.proofs.Turns.{any-start, any-still}
 use Rattle.job.specs.Sheet.{count}
 use Rattle.lamp.specs.Refused.{wrong}
-use Rattle.lamp.proofs.Refusals.{any-start, any-next, found-here, found-none}
+use Rattle.lamp.proofs.Refusals.{found-here, found-none}
 use Rattle.lamp.proofs.refusal.first_wrong.Statement.{statement}
 use Rattle.lamp.proofs.refusal.first_wrong.Tie as tie
 
@@ -47,7 +48,7 @@ loop-again : tie.Need-loop-again Inv-loop μ-loop
 loop-again c =
     let k = c .before .before .before in
     let s = k .before .before .before in (
-      any-next (wrong (s .args .fault) (s .args .sheets .now)) (k .loop .i) (sym (c .before .is-wrong .ensures) ∙ c .if1 .left) (k .loop .inv .0),
+      any-still (wrong (s .args .fault) (s .args .sheets .now)) (k .loop .i) (sym (c .before .is-wrong .ensures) ∙ c .if1 .left) (k .loop .inv .0),
       omega arith,
       k .loop .inv .2,
     )

@@ -9,8 +9,8 @@ use Rattle.paper.specs.Name.{same}
 use Rattle.paper.specs.Scan.{anyBelow}
 use Rattle.paper.specs.Table.{rec}
 use Rattle.laws.proofs.Scans.{any-here}
+use Rattle.scans.proofs.Turns.{any-start, any-still}
 use Rattle.job.specs.Sheet.{linkOf}
-use Rattle.lamp.proofs.Refusals.{any-start, any-next}
 use Rattle.lamp.proofs.refusal.is_twice.Statement.{statement}
 use Rattle.lamp.proofs.refusal.is_twice.Tie as tie
 
@@ -52,7 +52,7 @@ loop-again c =
     let s = k .before .before .before in
     let p : ℕ → Bool = λ j. same (linkOf (rec (s .args .sheets .now) (s .args .i))) (linkOf (rec (s .args .sheets .now) j)) in
     let e = rw (k .before .link-of .ensures, c .before .before .link-of2 .ensures) at (c .before .are-same .ensures) in
-    (any-next p (k .loop .j) (sym e ∙ c .if1 .left) (k .loop .inv .0), omega arith)
+    (any-still p (k .loop .j) (sym e ∙ c .if1 .left) (k .loop .inv .0), omega arith)
 
 returns-2 : tie.Need-returns-2 Inv-loop μ-loop
 returns-2 c =

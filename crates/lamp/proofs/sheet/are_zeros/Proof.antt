@@ -7,7 +7,7 @@ use native.Mathlib.Omega.{arith}
 use borrow.Author.Needs.{needs}
 use Rattle.paper.specs.Record.{zeros}
 use Rattle.paper.specs.Table.{rec}
-use Rattle.lamp.proofs.Sheets.{zeros-none, zeros-more, zeros-not}
+use Rattle.judge_laws.proofs.Shapes.{zeros-not, zeros-none, zeros-next}
 use Rattle.lamp.proofs.sheet.are_zeros.Statement.{statement}
 use Rattle.lamp.proofs.sheet.are_zeros.Tie as tie
 
@@ -30,7 +30,7 @@ returns : tie.Need-returns Inv-loop μ-loop
 returns c =
     let k = c .before .before .before in
     let s = k .before .before in
-    sym (zeros-not (s .args .place) (s .args .n) (k .loop .m) (rec (s .args .sheets .now) (s .args .i)) (omega arith)
+    sym (zeros-not (s .args .place) (s .args .n) (rec (s .args .sheets .now) (s .args .i)) (k .loop .m) (omega arith)
     (λ z. c .if1 .taken (c .before .byte-of .ensures ∙ z)))
 
 add-m : tie.Need-add-m Inv-loop μ-loop
@@ -43,7 +43,7 @@ loop-again : tie.Need-loop-again Inv-loop μ-loop
 loop-again c =
     let k = c .before .before .before in
     let s = k .before .before in (
-      zeros-more (s .args .place) (k .loop .m) (rec (s .args .sheets .now) (s .args .i)) (k .loop .inv .0) (sym (c .before .byte-of .ensures) ∙ c .if1 .left),
+      zeros-next (s .args .place) (k .loop .m) (rec (s .args .sheets .now) (s .args .i)) (k .loop .inv .0) (sym (c .before .byte-of .ensures) ∙ c .if1 .left),
       omega arith,
       omega arith,
       omega arith,

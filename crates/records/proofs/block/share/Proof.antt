@@ -2,7 +2,6 @@
 -- and `blocks` has counted them.
 use mathlib.Core.Path.{sym}
 use native.Mathlib.Omega.{arith}
-use lib.ListN.{length}
 use borrow.Author.Needs.{needs}
 use Rattle.records.proofs.Shares.{share-full, share-rest, share-past}
 use Rattle.records.proofs.block.share.Statement.{statement}

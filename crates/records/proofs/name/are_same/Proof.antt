@@ -4,7 +4,7 @@ use mathlib.Core.Path.{_≡_, refl, sym, _∙_}
 use Prim.Native.Nat.{_-_, _≤_}
 use native.Mathlib.Omega.{arith}
 use lib.ListN.{length, drop}
-use Rattle.paper.specs.Name.{same, before}
+use Rattle.paper.specs.Name.{same}
 use Rattle.records.proofs.Order.{same-length, same-end, same-on, same-off}
 use Rattle.records.proofs.name.are_same.Statement.{statement}
 use Rattle.records.proofs.name.are_same.Tie as tie
