@@ -1,20 +1,22 @@
 //! The proved library's calls as ratios to one byte-by-byte pass over the same table in the same run, over tables of 256 to
 //! 2,048 records. The table is warm: it was just copied or read.
 //!
-//! `bench [TURNS]` prints a Markdown table, and the time of the lamp beside its requests made one by one; it ends with status
-//! 1 if a ratio at 2,048 records is above its bar. `bench count OPERATION RECORDS TIMES` runs one operation so many times
+//! `bench [TURNS]` prints a Markdown table, the time of the lamp beside its requests made one by one, and that of a walk among
+//! names of other lengths beside one among names of one length; it ends with status 1 if a ratio at 2,048 records, of the lamp or
+//! of the walks is above its bar. `bench count OPERATION RECORDS TIMES` runs one operation so many times
 //! (`pass`: the pass), to count its instructions with
 //! `valgrind --tool=callgrind --toggle-collect='*counted*' target/release/bench count rds 2048 10`: what is collected is
 //! the calls alone, without setting the table right.
 
 mod lamp;
+mod names;
 mod operations;
 mod tables;
 
 use std::hint::black_box;
 use std::process::ExitCode;
 
-use operations::{Operation, Ready, OPERATIONS};
+use operations::{named, Operation, Ready, OPERATIONS};
 use turns::{least, nanoseconds, pass};
 
 const RECORDS: [usize; 4] = [256, 512, 1024, 2048];
@@ -65,6 +67,9 @@ fn bench(turns: usize) -> ExitCode {
     if !lamp::bench(turns) {
         missing.push("the lamp");
     }
+    if !names::bench(turns) {
+        missing.push("names of other lengths");
+    }
     if missing.is_empty() {
         println!("Each is within its bar.");
         return ExitCode::SUCCESS;
@@ -92,8 +97,7 @@ fn count(name: &str, records: usize, times: usize) -> Option<()> {
         (0..times).for_each(|_| counted_pass(&table));
         return Some(());
     }
-    let mut found = OPERATIONS.iter().filter(|operation| operation.name == name);
-    let mut ready = found.next()?.ready(records);
+    let mut ready = named(name)?.ready(records);
     for _ in 0..times {
         ready.set_right();
         counted(&mut ready);

@@ -2,6 +2,7 @@
 
 use filebox::{mend, request, Number, LONGEST_TEXT, NO_STOP};
 
+use crate::names::{of_one_length, of_other_lengths, ONE_LENGTH, OTHER_LENGTHS};
 use crate::tables::{cut, hundred, long_text, with_long_file, with_room_for_another, USER};
 
 /// One call of the library.
@@ -31,7 +32,7 @@ fn files(line: &'static str, bytes: usize) -> Call {
     Call::Request { line, text }
 }
 
-pub const OPERATIONS: [Operation; 8] = [
+pub const OPERATIONS: [Operation; 10] = [
     Operation {
         name: "rds",
         title: "RDS of 24 bytes",
@@ -88,7 +89,26 @@ pub const OPERATIONS: [Operation; 8] = [
         table: cut,
         calls: |_| vec![Call::Mend],
     },
+    Operation {
+        name: "walk",
+        title: "RDS past nine links, names of other lengths",
+        bar: None,
+        table: of_other_lengths,
+        calls: |_| vec![asks(OTHER_LENGTHS)],
+    },
+    Operation {
+        name: "walk-alike",
+        title: "RDS past nine links, names of one length",
+        bar: None,
+        table: of_one_length,
+        calls: |_| vec![asks(ONE_LENGTH)],
+    },
 ];
+
+/// The operation of this name.
+pub fn named(name: &str) -> Option<&'static Operation> {
+    OPERATIONS.iter().find(|operation| operation.name == name)
+}
 
 /// An operation, ready to be timed again and again.
 pub struct Ready {
@@ -138,8 +158,7 @@ mod tests {
     use filebox::Table;
 
     fn after(name: &str, records: usize) -> (Ready, Table) {
-        let found = OPERATIONS.iter().find(|operation| operation.name == name);
-        let mut ready = found.expect("an operation").ready(records);
+        let mut ready = named(name).expect("an operation").ready(records);
         ready.timed();
         let table = Table::of(ready.table.clone());
         (ready, table)
@@ -160,7 +179,15 @@ mod tests {
     #[test]
     fn what_is_changed_is_as_said() {
         for records in [256, 512, 1024, 2048] {
-            for name in ["rds", "rds-long", "lst", "wrs-del", "mend"] {
+            for name in [
+                "rds",
+                "rds-long",
+                "lst",
+                "wrs-del",
+                "mend",
+                "walk",
+                "walk-alike",
+            ] {
                 let (ready, table) = after(name, records);
                 assert!(table.as_ref() == ready.before, "{name}");
             }

@@ -21,7 +21,7 @@ pub fn long_text(records: usize) -> Vec<u8> {
 }
 
 /// The table after these lines, each with its text.
-fn grown(records: usize, lines: impl Iterator<Item = (String, Vec<u8>)>) -> Table {
+pub fn grown(records: usize, lines: impl Iterator<Item = (String, Vec<u8>)>) -> Table {
     let mut table = Table::free(records);
     for (line, text) in lines {
         let answer = table.request(USER, &line, &text, &mut []);
