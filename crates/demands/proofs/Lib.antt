@@ -13,6 +13,10 @@ pub mod Mending
 pub mod PowerCut
 -- the listing: `directory-listing`, `base-listing`
 pub mod Listed
+-- where entries stand: `entry-stood`, `others-stay`
+pub mod Standing
+-- give and take: `nobody-more`, `never-displaces`
+pub mod Received
 -- lines and texts longer than any that is read: `requested-cut`
 pub mod Long
 -- ---- what several of them stand on

@@ -44,13 +44,13 @@ module _ (t reply : List ℕ) (u k : ℕ) (text : List ℕ) (l : 24000 < length 
   acted-long (unread f) = refl
   acted-long (request (crd name level code)) = refl
   acted-long (request (wrs lifetime level code name)) = rw (lt-ltb 24000 (length text) l, lt-ltb 24000 (length (take 24001 text)) m)
-  acted-long (request (rds name)) = refl
-  acted-long (request (cpy old new lifetime level code)) = refl
-  acted-long (request (dup old new code)) = refl
+  acted-long (request (rds from name)) = refl
+  acted-long (request (cpy from old new lifetime level code)) = refl
+  acted-long (request (dup from old to new code)) = refl
   acted-long (request (chn old link)) = refl
   acted-long (request (del names)) = refl
   acted-long (request (dpr name code)) = refl
-  acted-long (request (lst name)) = refl
+  acted-long (request (lst from name)) = refl
   acted-long (request lstBase) = refl
 
 -- a line cut after 257 bytes

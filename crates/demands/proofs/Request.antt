@@ -3,6 +3,7 @@
 -- read: names and declarations of the right form, checks and fair refusals, what each function is told, the two courses
 pub mod Formed
 pub mod Fair
+pub mod Begun
 pub mod Read
 pub mod Course
 -- walked: one link, then the chain on a sound table

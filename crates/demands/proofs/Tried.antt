@@ -6,10 +6,11 @@ use Prim.Native.Nat.{ℕ, _≤_}
 use Rattle.paper.specs.Line.{Word}
 use Rattle.paper.specs.Check.{Refusal}
 use Rattle.paper.specs.Request.{Request, crd, wrs, rds, cpy, dup, chn, del, dpr, lst, lstBase, request, asked}
-use Rattle.paper.specs.Effect.{Planned, crdPlan, wrsPlan, rdsPlan, cpyPlan, dupPlan, chnPlan, dprPlan, lstPlan, lstBasePlan}
+use Rattle.paper.specs.Effect.{listOf, begun, Planned, crdPlan, wrsPlan, rdsPlan, cpyPlan, dupPlan, chnPlan, dprPlan, lstPlan, lstBasePlan}
 use Rattle.paper.specs.Answer.{refusing, ran, single, deleting, granted, requested}
 use Rattle.demands.proofs.Sound.Clauses.{Sound, sound-clauses}
 use Rattle.demands.proofs.Request.Formed.{named-last}
+use Rattle.demands.proofs.Request.Begun.{list-most}
 use Rattle.demands.proofs.Request.Read.{Told}
 use Rattle.demands.proofs.Request.Course.{Course, untried, tried, course}
 use Rattle.demands.proofs.SoundKept.Kept.{Keeps, dpr-keeps, rds-keeps, lst-keeps, lstBase-keeps}
@@ -34,19 +35,24 @@ module _ (t line text reply : List ℕ) (u : ℕ) where
       by-plan (wrsPlan t u text lifetime level code name)
       (wrs-safe t c u text lifetime level code name (named-last name (h .name) .short))
       (wrs-keeps t c u text lifetime level code name m h)
-  tries c m (rds name) a h = by-plan (rdsPlan t u reply name) (rds-safe t c u reply name) (rds-keeps t u reply name c)
-  tries c m (cpy old new lifetime level code) a h =
-      by-plan (cpyPlan t u old new lifetime level code)
-      (cpy-safe t c u old new lifetime level code (named-last new (h .new) .short))
-      (cpy-keeps t c u old new lifetime level code m h)
-  tries c m (dup old new code) a h =
-      by-plan (dupPlan t u old new code) (dup-safe t c u old new code (named-last new (h .new) .short))
-      (dup-keeps t c u old new code m h)
+  tries c m (rds from name) a h =
+      by-plan (rdsPlan t (listOf u from) reply (begun from name)) (rds-safe t c (listOf u from) reply (begun from name))
+      (rds-keeps t (listOf u from) reply (begun from name) c)
+  tries c m (cpy from old new lifetime level code) a h =
+      by-plan (cpyPlan t (listOf u from) u (begun from old) new lifetime level code)
+      (cpy-safe t c (listOf u from) u (begun from old) new lifetime level code (named-last new (h .new) .short))
+      (cpy-keeps t c (listOf u from) u (begun from old) new lifetime level code m h)
+  tries c m (dup from old to new code) a h =
+      by-plan (dupPlan t (listOf u from) (listOf u to) to (begun from old) (begun to new) code)
+      (dup-safe t c (listOf u from) (listOf u to) to (begun from old) (begun to new) code (named-last (begun to new) (h .new) .short))
+      (dup-keeps t c (listOf u from) (listOf u to) to (begun from old) (begun to new) code (list-most u to (begun to new) (h .gives) m) h)
   tries c m (chn old link) a h = by-plan (chnPlan t u old link) (chn-safe t c u old link) (chn-kept t c u old link h)
   tries c m (del names) a h = by-names names a
   tries c m (dpr name code) a h =
       by-plan (dprPlan t u name code) (dpr-safe t c u name code) (dpr-keeps t u name code c (h .code))
-  tries c m (lst name) a h = by-plan (lstPlan t u reply name) (lst-safe t c u reply name) (lst-keeps t u reply name c)
+  tries c m (lst from name) a h =
+      by-plan (lstPlan t (listOf u from) reply (begun from name)) (lst-safe t c (listOf u from) reply (begun from name))
+      (lst-keeps t (listOf u from) reply (begun from name) c)
   tries c m lstBase a h = by-plan (lstBasePlan t u reply) (lst-base-safe t c u reply) (lstBase-keeps t u reply c)
 
   pub ways : Tried t line text reply u

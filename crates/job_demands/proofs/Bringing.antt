@@ -10,11 +10,11 @@ use lib.Seq.{take-append-seam}
 use borrow.Author.Tests.{le-ltb}
 use Rattle.paper.specs.Line.{Word}
 use Rattle.paper.specs.Check.{Refusal, Check, Verdict, passed, refused, verdict}
-use Rattle.paper.specs.Request.{rds, Read, request, unread, read, asked}
+use Rattle.paper.specs.Request.{Begin, oldFrom, rds, Read, request, unread, read, asked}
 use Rattle.paper.specs.Walk.{State, start, file, End, arrived, astray, ended}
 use Rattle.paper.specs.Block.{fileText}
 use Rattle.paper.specs.Store.{run}
-use Rattle.paper.specs.Effect.{Plan, Planned, plan, inward, chainOf, readInhibited, notSimple, tooShort, writing, rdsPlan}
+use Rattle.paper.specs.Effect.{listOf, begun, Plan, Planned, inward, chainOf, readInhibited, notSimple, tooShort, writing, rdsPlan}
 use Rattle.paper.specs.Answer.{Outcome, Ran, refusedBy, done, cut, ran, refusing, single, granted, entrance, requested}
 use Rattle.laws.proofs.Tests.{clash}
 use Rattle.laws.proofs.Lists.{Every, every-append, every-parts}
@@ -30,7 +30,7 @@ use Rattle.job_demands.proofs.Lines.{rds-read}
 -- for every text, buffer and stop number at once
 data Came (t line : List ℕ) (u : ℕ) : Type 0 where
   lent : (f : Refusal) → Fair f → ((text b : List ℕ) (k : ℕ) → requested t line text b u k ≡ refusing t b f) → Came t line u
-  tried : (w : Word) → ((text b : List ℕ) (k : ℕ) → requested t line text b u k ≡ single t b k (ran k (rdsPlan t u b w))) → Came t line u
+  tried : (v : ℕ) (w : Word) → ((text b : List ℕ) (k : ℕ) → requested t line text b u k ≡ single t b k (ran k (rdsPlan t v b w))) → Came t line u
 
 entrance-fair : (t : List ℕ) (u : ℕ) (f : Refusal) → entrance t u ≡ refused f → Fair f
 unfolding entrance
@@ -43,12 +43,12 @@ came t chain link u = enters (entrance t u) refl
     line : List ℕ
     line = rdsLine chain link
 
-    by : entrance t u ≡ passed → (w : Word) → read line ≡ request (rds w) → Came t line u
-    by p w q = tried w (λ text b k. rw (p, q))
+    by : entrance t u ≡ passed → (from : Begin) (w : Word) → read line ≡ request (rds from w) → Came t line u
+    by p from w q = tried (listOf u from) (begun from w) (λ text b k. rw (p, q))
 
     reads : entrance t u ≡ passed → (x : Read) → read line ≡ x → Came t line u
     reads p (unread f) q = lent f (rw q at (read-right line [])) (λ text b k. rw (p, q))
-    reads p (request r) q = let w = rds-read chain link r q in by p (w .0) (q ∙ ap request (w .1))
+    reads p (request r) q = let w = rds-read chain link r q in by p (oldFrom (w .0)) (w .0) (q ∙ ap request (w .1))
 
     enters : (v : Verdict) → entrance t u ≡ v → Came t line u
     enters passed p = reads p (read line) refl
@@ -80,7 +80,7 @@ buffer-length t chain link text b c u k e = go (came t chain link u)
 
     go : Came t (rdsLine chain link) u → Alike (requested t (rdsLine chain link) text b u k) (requested t (rdsLine chain link) text c u k)
     go (lent f h q) = rw (q text b k, q text c k) (record { answer = refl; text = refl })
-    go (tried w q) = rw (q text b k, q text c k, plan-length t u w b c e) (by (ran k (rdsPlan t u c w)))
+    go (tried v w q) = rw (q text b k, q text c k, plan-length t v w b c e) (by (ran k (rdsPlan t v c w)))
 
 -- ---- any buffer that is long enough
 
@@ -140,18 +140,18 @@ read-again t chain link text b s u k n e x c j l = go (came t chain link u)
     line : List ℕ
     line = rdsLine chain link
 
-    whole : (w : Word) (p : Plan) → Passed (rdsPlan t u b w) p → p .reply ≡ s → single t c j (ran j (rdsPlan t u c w)) ≡ bringing t s c
-    whole w p v r =
-        let y : Writes (rdsPlan t u c w) s = rw r at (plan-passed t u w b p v c (rw r l)) in
-        rw (passes j (rdsPlan t u c w) (writes (y .0) s) (y .1) (omega arith))
+    whole : (o : ℕ) (w : Word) (p : Plan) → Passed (rdsPlan t o b w) p → p .reply ≡ s → single t c j (ran j (rdsPlan t o c w)) ≡ bringing t s c
+    whole o w p v r =
+        let y : Writes (rdsPlan t o c w) s = rw r at (plan-passed t o w b p v c (rw r l)) in
+        rw (passes j (rdsPlan t o c w) (writes (y .0) s) (y .1) (omega arith))
 
     go : Came t line u → requested t line x c u j ≡ bringing t s c
     go (lent f h q) = let z : f .number ≡ 0 = rw (q text b k) at n in let o : ⊥ = omega (arith, h .some) in absurd o
-    go (tried w q) =
+    go (tried o w q) =
         rw (q x c j)
         (ran-by (λ y. single t b k y .answer .number ≡ 0 → take (single t b k y .answer .bytes) (single t b k y .reply) ≡ s
-        → single t c j (ran j (rdsPlan t u c w)) ≡ bringing t s c) k (rdsPlan t u b w)
-        (λ f v m _. let g = fair-refused b (rdsPlan t u b w) f (fair-rdsPlan t b u w) v in let o : ⊥ = omega (arith, g .some, m) in absurd o)
-        (λ p v h m f. whole w p v (sym (take-append-seam (p .reply) (drop (length (p .reply)) b)) ∙ f))
-        (λ p v h m f. let o : ⊥ = omega arith in absurd o)
+        → single t c j (ran j (rdsPlan t o c w)) ≡ bringing t s c) k (rdsPlan t o b w)
+        (λ f v m _. let g = fair-refused b (rdsPlan t o b w) f (fair-rdsPlan t b o w) v in let z : ⊥ = omega (arith, g .some, m) in absurd z)
+        (λ p v h m f. whole o w p v (sym (take-append-seam (p .reply) (drop (length (p .reply)) b)) ∙ f))
+        (λ p v h m f. let z : ⊥ = omega arith in absurd z)
         (rw (q text b k) at n) (rw (q text b k) at e))

@@ -1,6 +1,6 @@
 -- Reading a line by the names of its words: the function is the first word, and what is read passed every check of that function.
 -- So the count of the words, the declaration and the name are known from the names alone, wherever the words start.
-use mathlib.Core.Bool.{Bool, true, false, cond}
+use mathlib.Core.Bool.{Bool, true, false, _||_, cond}
 use mathlib.Core.List.{List, [], _∷_, nil≢cons, tail-eq-of-cons-eq}
 use mathlib.Core.Path.{_≡_, refl, sym, ap, _∙_}
 use Prim.Native.Nat.{ℕ, _-_, _≤_}
@@ -12,10 +12,11 @@ use Rattle.paper.specs.Name.{same, wellFormed, legalBase, baseName}
 use Rattle.paper.specs.Declaration.{Declared, right, wrong, wrsLifetime, notGiven, declared, declaration, lifetimeAt, pointAt, typeLetter, lifetimeLetter, fits, fitWrs}
 use Rattle.paper.specs.Line.{Word, words, word, legalLine}
 use Rattle.paper.specs.Check.{Check, Verdict, passed, refused, verdict}
-use Rattle.paper.specs.Request.{Request, wrs, rds, Read, request, unread, readAs, after, needed, counted, miscounted, misnamed, each, between, declaredAt, readWrs, readRds, readFunction, read, textTooLong, withText, asked}
+use Rattle.paper.specs.Request.{Request, own, wrs, rds, Read, request, unread, readAs, after, needed, counted, miscounted, misnamed, declaredAt, readWrs, readRds, readFunction, read, textTooLong, withText, asked}
 use Rattle.laws.proofs.Tests.{clash, and-parts}
 use Rattle.laws.proofs.Lists.{Every}
 use Rattle.demands.proofs.Request.Fair.{Idle, verdict-idle}
+use Rattle.demands.proofs.Request.Begun.{legal-own}
 use Rattle.job_demands.proofs.Bare.{namesOf, spoken, spoken-count, spoken-word}
 
 -- ---- before the words
@@ -116,14 +117,18 @@ heard line a d ws r e f =
       medium = λ m. let z = rw m at y in cc;
     }
 
--- a name that passes the checks of one function passes those of RDS
+-- a name that passes the checks of one function passes those of RDS, from one's own base list
 pub rds-passes : (line : List ℕ) (a n : List (List ℕ)) → namesOf (words line) ≡ a ∷ n ∷ [] → wellFormed n ≡ true → legalBase (baseName n) ≡ true
-    → readRds line ≡ request (rds (word line 1))
-unfolding readRds counted between each verdict
+    → readRds line ≡ request (rds own (word line 1))
+unfolding readRds counted word verdict
 rds-passes line a n e f l = go (words line) refl e
   where
-    go : (ws : List Word) → words line ≡ ws → namesOf ws ≡ a ∷ n ∷ [] → readRds line ≡ request (rds (word line 1))
+    or-right : (b : Bool) → (b || true) ≡ true
+    or-right true = refl
+    or-right false = refl
+
+    go : (ws : List Word) → words line ≡ ws → namesOf ws ≡ a ∷ n ∷ [] → readRds line ≡ request (rds own (word line 1))
     go [] q p = absurd (nil≢cons p)
     go (v ∷ []) q p = absurd (nil≢cons (tail-eq-of-cons-eq p))
-    go (v ∷ w ∷ []) q p = let g : w .names ≡ n = cc in rw (q, g, f, l)
+    go (v ∷ w ∷ []) q p = let g : w .names ≡ n = cc in rw (q, legal-own w (rw g l), g, f, l, or-right)
     go (v ∷ w ∷ x ∷ ws) q p = absurd (nil≢cons (sym (tail-eq-of-cons-eq (tail-eq-of-cons-eq p))))

@@ -14,7 +14,7 @@ use Rattle.paper.specs.Name.{pointed, dotW, all, inName, linkName, wellFormed, 
 use Rattle.paper.specs.Declaration.{notGiven, declared}
 use Rattle.paper.specs.Line.{inLine, Spot, blankSpot, atColon, close, closed, grow, split, Word, solid, word, legalLine}
 use Rattle.paper.specs.Check.{verdict}
-use Rattle.paper.specs.Request.{Request, wrs, rds, request, readRds, readFunction, read, asked}
+use Rattle.paper.specs.Request.{Begin, own, oldFrom, Request, wrs, rds, request, readRds, readFunction, read, asked}
 use Rattle.paper.specs.Effect.{chainOf}
 use Rattle.laws.proofs.Tests.{truth, clash, and-right, and-both, and-parts}
 use Rattle.demands.proofs.Request.Formed.{Named}
@@ -107,11 +107,12 @@ filing-word : (s : List ℕ) (a : Apart s) → word (filingLine s) 2 .names ≡ 
 filing-word s a = word-is (filingLine s) 2 (a .names) (rw (spoken-wrs s (a .apart), a .one))
 
 -- `RDS` joined to the rest is no function: 5
-reading-read : (s : List ℕ) (r : Request) → readFunction (readingLine s) ≡ request r → Apart s × (r ≡ rds (word (readingLine s) 1))
+reading-read : (s : List ℕ) (r : Request) → readFunction (readingLine s) ≡ request r
+    → Apart s × (r ≡ rds (oldFrom (word (readingLine s) 1)) (word (readingLine s) 1))
 unfolding readRds
 reading-read s r e = go (truth (atColon (rest s)))
   where
-    go : (atColon (rest s) ≡ true) ⊎ (atColon (rest s) ≡ false) → Apart s × (r ≡ rds (word (readingLine s) 1))
+    go : (atColon (rest s) ≡ true) ⊎ (atColon (rest s) ≡ false) → Apart s × (r ≡ rds (oldFrom (word (readingLine s) 1)) (word (readingLine s) 1))
     go (inl c) = let f = function-none (readingLine s) _ _ _ _ (joined s c .rds) in clash (cc)
     go (inr c) =
         let w = spoken-rds s c in
@@ -125,7 +126,7 @@ reading-word : (s : List ℕ) (a : Apart s) → word (readingLine s) 1 .names �
 reading-word s a = word-is (readingLine s) 1 (a .names) (rw (spoken-rds s (a .apart), a .one))
 
 reading-passes : (s : List ℕ) (a : Apart s) → wellFormed (a .names) ≡ true → legalBase (baseName (a .names)) ≡ true
-    → readFunction (readingLine s) ≡ request (rds (word (readingLine s) 1))
+    → readFunction (readingLine s) ≡ request (rds own (word (readingLine s) 1))
 reading-passes s a f l =
     let w = spoken-rds s (a .apart) in
     let v = spoken-words (readingLine s) ∙ w in
@@ -175,15 +176,17 @@ wrs-names chain link text r l e =
     let x = filing-read (below chain link) r (read-by _ r (asked-read _ text r e) .1) in
     (word (filingLine (below chain link)) 2, x .1, named chain link l (word (filingLine (below chain link)) 2) (x .0) (filing-word _ (x .0)))
 
-pub rds-names : (chain link text : List ℕ) (r : Request) → linkName link ≡ true → asked (rdsLine chain link) text ≡ request r
-    → (w : Word) × (r ≡ rds w) × (chainOf w ≡ prefix chain ++ link ∷ [])
+pub rds-names : (chain link text : List ℕ) (from : Begin) (w : Word) → linkName link ≡ true → asked (rdsLine chain link) text ≡ request (rds from w)
+    → chainOf w ≡ prefix chain ++ link ∷ []
 unfolding rdsLine
-rds-names chain link text r l e =
-    let x = reading-read (below chain link) r (read-by _ r (asked-read _ text r e) .1) in
-    (word (readingLine (below chain link)) 1, x .1, named chain link l (word (readingLine (below chain link)) 1) (x .0) (reading-word _ (x .0)))
+rds-names chain link text from w l e =
+    let x = reading-read (below chain link) (rds from w) (read-by _ (rds from w) (asked-read _ text (rds from w) e) .1) in
+    let y = x .1 in
+    let q : w ≡ word (readingLine (below chain link)) 1 = cc in
+    rw q (named chain link l (word (readingLine (below chain link)) 1) (x .0) (reading-word _ (x .0)))
 
 -- the reading line, if it is read, is an RDS, whatever the link
-pub rds-read : (chain link : List ℕ) (r : Request) → read (rdsLine chain link) ≡ request r → (w : Word) × (r ≡ rds w)
+pub rds-read : (chain link : List ℕ) (r : Request) → read (rdsLine chain link) ≡ request r → (w : Word) × (r ≡ rds (oldFrom w) w)
 unfolding rdsLine
 rds-read chain link r e =
     let x = reading-read (below chain link) r (read-by (readingLine (below chain link)) r e .1) in
@@ -199,7 +202,7 @@ legal-shorter s e =
 
 -- where the filing line is read, so is the reading line, whatever text is lent with it
 pub rds-reads : (chain link text x : List ℕ) (r : Request) → linkName link ≡ true → asked (wrsLine chain link) text ≡ request r
-    → (w : Word) × (asked (rdsLine chain link) x ≡ request (rds w))
+    → (w : Word) × (asked (rdsLine chain link) x ≡ request (rds own w))
 unfolding wrsLine rdsLine asked read verdict
 rds-reads chain link text x r l e =
     let s = below chain link in

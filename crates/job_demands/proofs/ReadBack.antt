@@ -3,7 +3,7 @@
 use mathlib.Core.Bool.{true}
 use mathlib.Core.List.{List, [], _∷_, _++_}
 use mathlib.Core.Logic.{_⊎_, inl, inr}
-use mathlib.Core.Path.{_≡_, refl, ap, _∙_}
+use mathlib.Core.Path.{_≡_, refl, _∙_}
 use Prim.Native.Nat.{ℕ, suc, _≤_}
 use native.Mathlib.Omega.{arith}
 use lib.ListN.{length, drop, length-append, length-drop}
@@ -12,7 +12,7 @@ use Rattle.paper.specs.Table.{sized}
 use Rattle.paper.specs.Name.{linkName}
 use Rattle.paper.specs.Line.{Word}
 use Rattle.paper.specs.Check.{Verdict, passed, refused}
-use Rattle.paper.specs.Request.{Request, rds, request, asked}
+use Rattle.paper.specs.Request.{own, Request, rds, request, asked}
 use Rattle.paper.specs.Sound.{sound}
 use Rattle.paper.specs.Walk.{State, start, reached, stopped}
 use Rattle.paper.specs.Effect.{chainOf}
@@ -37,14 +37,13 @@ use Rattle.job_demands.proofs.JobFiled.{walk, Standing, Held, job-held}
 -- the line of the reading is read where that of the filing was, and names the same directory
 pub record Readable (chain link : List ℕ) : Type 0 where
   pub word : Word
-  pub asked : asked (rdsLine chain link) [] ≡ request (rds word)
+  pub asked : asked (rdsLine chain link) [] ≡ request (rds own word)
   pub names : chainOf word ≡ prefix chain ++ link ∷ []
 
 pub readable : (chain link text : List ℕ) (r : Request) → linkName link ≡ true → asked (wrsLine chain link) text ≡ request r → Readable chain link
 readable chain link text r l q =
     let a = rds-reads chain link text [] r l q in
-    let b = rds-names chain link [] (rds (a .0)) l (a .1) in
-    record { word = b .0; asked = a .1 ∙ ap request (b .1); names = b .2 }
+    record { word = a .0; asked = a .1; names = rds-names chain link [] own (a .0) l (a .1) }
 
 -- ---- one sheet read back
 
@@ -54,7 +53,7 @@ module _ (t chain back : List ℕ) (u : ℕ) (x : Sheet) (c : Sound t) (l : u �
       → Wrote t back (x .text) (readBack t chain back u x)
   unfolding readBack granted
   read-whole d w s m =
-      rw (admits t (rdsLine chain (x .link)) [] back u 0 (rds (n .word)) c l (n .asked))
+      rw (admits t (rdsLine chain (x .link)) [] back u 0 (rds own (n .word)) c l (n .asked))
       (rds-writes t back u 0 (n .word) (prefix chain) (x .link) (n .names) (x .text) d
       (walk-last t 1 (start u) (prefix chain) (x .link) [] ∙ w) (s .stood) m)
 
@@ -63,7 +62,7 @@ module _ (t chain back : List ℕ) (u : ℕ) (x : Sheet) (c : Sound t) (l : u �
       → readBack t chain back u x ≡ refusing t back (record { number = number; place = 1; link = link })
   unfolding readBack granted
   read-stopped number link w =
-      admits t (rdsLine chain (x .link)) [] back u 0 (rds (n .word)) c l (n .asked)
+      admits t (rdsLine chain (x .link)) [] back u 0 (rds own (n .word)) c l (n .asked)
       ∙ rds-stops t back u 0 (n .word) (prefix chain) (x .link) (n .names) number link
       (walk-last t 1 (start u) (prefix chain) (x .link) [] ∙ w)
 

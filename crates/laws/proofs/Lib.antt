@@ -1,6 +1,7 @@
--- tests, numbers in bytes, scans and counts, lists
+-- tests, numbers in bytes and in digits, scans and counts, lists
 pub mod Tests
 pub mod Numbers
+pub mod Digits
 pub mod Scans
 pub mod Counts
 pub mod Lists

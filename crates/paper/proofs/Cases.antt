@@ -7,11 +7,11 @@ use Rattle.paper.specs.Number.{numberAt, bytesOf}
 use Rattle.paper.specs.Scan.{allBelow, anyBelow, countBelow, firstBelow, joinBelow}
 use Rattle.paper.specs.Record.{nameOf, held, zeros, blank, headingRecord, nameField, entryRecord, textRecord}
 use Rattle.paper.specs.Table.{rec, lay, frees, textRoom}
-use Rattle.paper.specs.Name.{same, all, linkName, pointed, chain, linkNames, wellFormed, legalBase, before}
+use Rattle.paper.specs.Name.{same, all, linkName, pointed, chain, linkNames, wellFormed, legalBase, userName, counting, userNumber, before}
 use Rattle.paper.specs.Declaration.{typeLetter, lifetimeLetter, levelLetter, digit, codeAt, levelAt, pointAt, lifetimeAt, declaration, declared}
 use Rattle.paper.specs.Line.{legalLine, placed, skipped, atColon, close, closed, grow, split, solid, words, word}
 use Rattle.paper.specs.Check.{verdict}
-use Rattle.paper.specs.Request.{counted, firstWrong, each, between, declaredAt, readCrd, readWrs, readRds, readLst, readCpy, readDup, readChn, readDpr, readDel, readFunction, read, asked}
+use Rattle.paper.specs.Request.{counted, firstWrong, oldFrom, newTo, each, between, declaredAt, readCrd, readWrs, readRds, readLst, readCpy, readDup, readChn, readDpr, readDel, readFunction, read, asked}
 use Rattle.paper.specs.Entry.{stands, bears, find, crowd, named, peopled}
 use Rattle.paper.specs.Block.{share, block, fileText}
 use Rattle.paper.specs.Sound.{asAbove, holdersThere, headingsThere, usersRight, namesPadded, noneTwice, allNamed, noneCrowded, directoriesPlain, textsWhole, noOtherText, namesLegal, sound}
@@ -25,7 +25,7 @@ use Rattle.paper.specs.Case.{Case, holds, holdAll, cases}
 
 -- `holdAll`, with every definition open
 unfoldable pub hold : List Case → Bool
-unfolding numberAt bytesOf allBelow anyBelow countBelow firstBelow joinBelow nameOf held zeros blank headingRecord nameField entryRecord textRecord rec lay frees textRoom same all linkName pointed chain linkNames wellFormed legalBase before typeLetter lifetimeLetter levelLetter digit codeAt levelAt pointAt lifetimeAt declaration declared legalLine placed skipped atColon close closed grow split solid words word verdict counted firstWrong each between declaredAt readCrd readWrs readRds readLst readCpy readDup readChn readDpr readDel readFunction read asked stands bears find crowd named peopled share block fileText asAbove holdersThere headingsThere usersRight namesPadded noneTwice allNamed noneCrowded directoriesPlain textsWhole noOtherText namesLegal sound applies look enter follow toDirectory lastName ended run typeShown lifetimeShown levelShown line insert inOrder listed lines freed lost settled losing making newFile crdPlan wrsPlan cpyPlan dupPlan renamed chnPlan recoded dprPlan delPlan rdsPlan lstPlan lstBasePlan clears mendStores mended deleting granted entrance requested mendable mending holds holdAll
+unfolding numberAt bytesOf allBelow anyBelow countBelow firstBelow joinBelow nameOf held zeros blank headingRecord nameField entryRecord textRecord rec lay frees textRoom same all linkName pointed chain linkNames wellFormed legalBase userName counting userNumber before typeLetter lifetimeLetter levelLetter digit codeAt levelAt pointAt lifetimeAt declaration declared legalLine placed skipped atColon close closed grow split solid words word verdict counted firstWrong oldFrom newTo each between declaredAt readCrd readWrs readRds readLst readCpy readDup readChn readDpr readDel readFunction read asked stands bears find crowd named peopled share block fileText asAbove holdersThere headingsThere usersRight namesPadded noneTwice allNamed noneCrowded directoriesPlain textsWhole noOtherText namesLegal sound applies look enter follow toDirectory lastName ended run typeShown lifetimeShown levelShown line insert inOrder listed lines freed lost settled losing making newFile crdPlan wrsPlan cpyPlan dupPlan renamed chnPlan recoded dprPlan delPlan rdsPlan lstPlan lstBasePlan clears mendStores mended deleting granted entrance requested mendable mending holds holdAll
 hold = holdAll
 
 pub all-cases-hold : holdAll cases ≡ true

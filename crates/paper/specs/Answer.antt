@@ -10,7 +10,7 @@ use Rattle.paper.specs.Check.{Refusal, check, Verdict, passed, refused, 
 use Rattle.paper.specs.Request.{Request, crd, wrs, rds, cpy, dup, chn, del, dpr, lst, lstBase, Read, request, unread, asked}
 use Rattle.paper.specs.Sound.{sound}
 use Rattle.paper.specs.Store.{Store, run}
-use Rattle.paper.specs.Effect.{Plan, Planned, plan, halted, crdPlan, wrsPlan, rdsPlan, cpyPlan, dupPlan, chnPlan, delPlan, dprPlan, lstPlan, lstBasePlan}
+use Rattle.paper.specs.Effect.{Plan, Planned, plan, halted, crdPlan, wrsPlan, rdsPlan, cpyPlan, dupPlan, chnPlan, delPlan, dprPlan, lstPlan, lstBasePlan, listOf, begun}
 use Rattle.paper.specs.Mend.{mendStores, mended}
 
 -- "An answer has: number; place ..; names done; displaced or not; bytes written; stores made."
@@ -91,14 +91,15 @@ unfoldable pub granted : List ℕ → List ℕ → List ℕ → ℕ → ℕ → 
 granted t text reply u k (crd name level code) = single t reply k (ran k (crdPlan t u name level code))
 granted t text reply u k (wrs lifetime level code name) =
     single t reply k (ran k (wrsPlan t u text lifetime level code name))
-granted t text reply u k (rds name) = single t reply k (ran k (rdsPlan t u reply name))
-granted t text reply u k (cpy old new lifetime level code) =
-    single t reply k (ran k (cpyPlan t u old new lifetime level code))
-granted t text reply u k (dup old new code) = single t reply k (ran k (dupPlan t u old new code))
+granted t text reply u k (rds from name) = single t reply k (ran k (rdsPlan t (listOf u from) reply (begun from name)))
+granted t text reply u k (cpy from old new lifetime level code) =
+    single t reply k (ran k (cpyPlan t (listOf u from) u (begun from old) new lifetime level code))
+granted t text reply u k (dup from old to new code) =
+    single t reply k (ran k (dupPlan t (listOf u from) (listOf u to) to (begun from old) (begun to new) code))
 granted t text reply u k (chn old link) = single t reply k (ran k (chnPlan t u old link))
 granted t text reply u k (del names) = deleting t u reply k 0 0 names
 granted t text reply u k (dpr name code) = single t reply k (ran k (dprPlan t u name code))
-granted t text reply u k (lst name) = single t reply k (ran k (lstPlan t u reply name))
+granted t text reply u k (lst from name) = single t reply k (ran k (lstPlan t (listOf u from) reply (begun from name)))
 granted t text reply u k lstBase = single t reply k (ran k (lstBasePlan t u reply))
 
 -- numbers 1, 2 and 3: "table length no multiple of 32, or above 65,536", "table not sound", "user above 999,999"

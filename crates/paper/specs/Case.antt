@@ -3,9 +3,9 @@ use mathlib.Core.Bool.{Bool, true, false, _&&_, not}
 use mathlib.Core.List.{List, [], _∷_, _++_}
 use Prim.Native.Nat.{ℕ}
 use lib.Dec.{eqb}
-use lib.ListN.{replicate}
+use lib.ListN.{replicate, take, drop}
 use Rattle.paper.specs.Record.{blank}
-use Rattle.paper.specs.Name.{same}
+use Rattle.paper.specs.Name.{same, dotR}
 use Rattle.paper.specs.Declaration.{Declared, right, wrong, declared}
 use Rattle.paper.specs.Code.{joined}
 use Rattle.paper.specs.Block.{blocks}
@@ -85,6 +85,39 @@ headingR = 1 ∷ 0 ∷ 0 ∷ 0 ∷ 1 ∷ replicate 27 0
 abbrev pub entryR : List ℕ
 entryR = 2 ∷ 0 ∷ 255 ∷ 255 ∷ 0 ∷ 0 ∷ 1 ∷ 0 ∷ 0 ∷ 2 ∷ 46 ∷ 82 ∷ replicate 20 0
 
+-- `DUP ` old, a blank and new; `.000777`; `:A`
+abbrev pub dup : List ℕ → List ℕ → List ℕ
+dup old new = 68 ∷ 85 ∷ 80 ∷ 32 ∷ old ++ 32 ∷ new
+
+abbrev pub night : List ℕ
+night = 46 ∷ 48 ∷ 48 ∷ 48 ∷ 55 ∷ 55 ∷ 55 ∷ []
+
+abbrev pub link : List ℕ
+link = 58 ∷ 65 ∷ []
+
+-- a base file of user 777, of one letter, that names this heading
+abbrev pub nights : (letter heading : ℕ) → List ℕ
+nights letter heading = 2 ∷ 0 ∷ 255 ∷ 255 ∷ heading ∷ 0 ∷ 9 ∷ 3 ∷ 0 ∷ 2 ∷ 46 ∷ letter ∷ replicate 20 0
+
+-- the directory `.R` of user 1, and `.G` of user 777; the entry A there, of the file that `.R` names
+abbrev pub shelf : List ℕ
+shelf = headingR ++ entryR ++ headingR ++ nights 71 2
+
+abbrev pub entryA : List ℕ
+entryA = 2 ∷ 0 ∷ 2 ∷ 0 ∷ 0 ∷ 0 ∷ 0 ∷ 0 ∷ 0 ∷ 1 ∷ 65 ∷ replicate 21 0
+
+-- an entry with this code
+abbrev pub coded : ℕ → List ℕ → List ℕ
+coded code entry = 2 ∷ code ∷ drop 2 entry
+
+-- the same two files, `.R` with code 4 in its entry
+abbrev pub lent : List ℕ
+lent = headingR ++ coded 4 entryR ++ headingR ++ nights 71 2
+
+-- the simple file `.R` of user 1, without text, and the directory `.T` of user 777
+abbrev pub desk : List ℕ
+desk = (1 ∷ 1 ∷ 0 ∷ 0 ∷ 1 ∷ replicate 27 0) ++ entryR ++ headingR ++ nights 84 2
+
 unfoldable pub cases : List Case
 cases =
     -- "code 1 joined with 4 is 5; 2 with 6 is 6"
@@ -117,4 +150,24 @@ cases =
     -- "then `CRD .R:A` gets 19; `DEL .R` gives zeros, 2 stores"
     ∷ asks (headingR ++ entryR) crdRA [] [] 1 9 (answer 19 0 0 0 0 0) (headingR ++ entryR) []
     ∷ asks (headingR ++ entryR) delR [] [] 1 9 (answer 0 0 1 0 0 2) pair []
+    -- document 02: "A new name `.nnnnnn:link` in DUP (six digits) enters the file in that user's `.G`"
+    ∷ asks (shelf ++ blank) (dup dotR (night ++ link)) [] [] 1 9 (answer 0 0 1 0 0 1) (shelf ++ entryA) []
+    -- "in RDS and LST, `.nnnnnn` starts at that user's `.T`": a directory, here empty
+    ∷ asks (headingR ++ nights 84 0) (76 ∷ 83 ∷ 84 ∷ 32 ∷ night) [] [] 1 9 (answer 0 0 1 0 0 0) (headingR ++ nights 84 0) []
+    ∷ asks (headingR ++ nights 84 0) (rds night) [] [] 1 9 (answer 15 1 0 0 0 0) (headingR ++ nights 84 0) []
+    -- "Codes join as always, so nobody receives more than the giver's entry has": 4, and 1 declared
+    ∷ asks (lent ++ blank) (dup dotR (night ++ link ++ 32 ∷ 46 ∷ 49 ∷ [])) [] [] 1 9 (answer 0 0 1 0 0 1) (lent ++ coded 5 entryA) []
+    -- "16 where the link is taken"
+    ∷ asks (shelf ++ entryA) (dup dotR (night ++ link)) [] [] 1 9 (answer 16 2 0 0 0 0) (shelf ++ entryA) []
+    -- "11 where `.G` or `.T` is missing": `.G` does not stand in for `.T`
+    ∷ asks (headingR ++ entryR) (dup dotR (night ++ link)) [] [] 1 9 (answer 11 2 0 0 0 0) (headingR ++ entryR) []
+    ∷ asks (shelf ++ blank) (rds night) [] [] 1 9 (answer 11 1 0 0 0 0) (shelf ++ blank) []
+    -- "so does a bare `.nnnnnn` as DUP's old name .. and a give with no link or more than one"; five digits are no user
+    ∷ asks [] (dup night dotR) [] [] 1 9 (answer 8 1 0 0 0 0) [] []
+    ∷ asks [] (dup dotR night) [] [] 1 9 (answer 8 2 0 0 0 0) [] []
+    ∷ asks [] (dup dotR (night ++ link ++ link)) [] [] 1 9 (answer 8 2 0 0 0 0) [] []
+    ∷ asks [] (rds (take 6 night)) [] [] 1 9 (answer 8 1 0 0 0 0) [] []
+    -- "In every other place it still gets 8"
+    ∷ asks [] (67 ∷ 82 ∷ 68 ∷ 32 ∷ night ++ link) [] [] 1 9 (answer 8 1 0 0 0 0) [] []
+    ∷ asks (desk ++ pair) (67 ∷ 80 ∷ 89 ∷ 32 ∷ dotR ++ 32 ∷ night ++ link) [] [] 1 9 (answer 8 2 0 0 0 0) (desk ++ pair) []
     ∷ []

@@ -3,14 +3,15 @@ use mathlib.Core.Bool.{Bool, true, false, _&&_, not, cond}
 use mathlib.Core.List.{List, [], _∷_, _++_}
 use Prim.Native.Nat.{ℕ, _+_}
 use lib.Dec.{ltb}
-use lib.ListN.{length, take, set}
+use lib.ListN.{length, take, drop, set}
 use Rattle.paper.specs.Scan.{Found, at, nowhere, eachBelow}
 use Rattle.paper.specs.Record.{level, headingCode, lifetime, entryCode, headingNamed, directory, simple, blank, headingRecord, nameField, entryRecord, textRecord}
 use Rattle.paper.specs.Table.{rec, lay, frees, room, textRoom}
-use Rattle.paper.specs.Name.{chain}
+use Rattle.paper.specs.Name.{dotG, dotT, chain}
 use Rattle.paper.specs.Declaration.{Part, orElse}
 use Rattle.paper.specs.Line.{Word}
 use Rattle.paper.specs.Check.{Refusal, Check, check}
+use Rattle.paper.specs.Request.{Begin, own, takeOf, giveTo}
 use Rattle.paper.specs.Code.{joined, noRead, noWrite, lacks}
 use Rattle.paper.specs.Entry.{find, full, named, peopled}
 use Rattle.paper.specs.Block.{blocks, block, blocksOf, fileText}
@@ -40,6 +41,21 @@ chainOf w = chain (w .names)
 abbrev pub inward : ℕ → End → (State → State → Planned) → Planned
 inward place (arrived d f) g = g d f
 inward place (astray number link) g = halted (record { number = number; place = place; link = link })
+
+-- "`.nnnnnn` starts at that user's `.T`", or "enters the file in that user's `.G`": the user in whose base list a chain of user u starts
+abbrev pub listOf : ℕ → Begin → ℕ
+listOf u own = u
+listOf u (takeOf n) = n
+listOf u (giveTo n) = n
+
+-- .. and the argument there: `.nnnnnn` stands for that one name
+abbrev pub instead : List ℕ → Word → Word
+instead n w = record { start = w .start; names = n ∷ drop 1 (w .names) }
+
+abbrev pub begun : Begin → Word → Word
+begun own w = w
+begun (takeOf n) w = instead dotT w
+begun (giveTo n) w = instead dotG w
 
 -- to the directory of the argument at this place, and to the file it names
 abbrev pub toHolder : List ℕ → ℕ → ℕ → Word → (State → Planned) → Planned
@@ -99,7 +115,7 @@ notSimple place t s = check (not (simple (rec t (file t s)))) 15 place
 abbrev pub noDirectory : ℕ → List ℕ → State → Check
 noDirectory place t s = check (not (directory (rec t (file t s)))) 15 place
 
--- 16: "CHN: new name borne by an entry there, itself included"
+-- 16: "CHN: new name borne by an entry there, itself included"; a give, "where the link is taken"
 abbrev pub taken : ℕ → Found → Check
 taken place found = check (isFound found) 16 place
 
@@ -130,7 +146,13 @@ tooShort out reply = check (ltb (length reply) (length out)) 20 0
 abbrev pub lacking : ℕ → ℕ → ℕ → Check
 lacking place new old = check (lacks new old) 21 place
 
--- a new entry's plan, with the checks of the old name, 13 and 15, where there is one
+-- "A give never displaces."
+abbrev pub linkTaken : List ℕ → Begin → Making → List Check
+linkTaken t own m = []
+linkTaken t (takeOf n) m = []
+linkTaken t (giveTo n) m = taken (m .place) (borne t m) ∷ []
+
+-- a new entry's plan, with the checks of the old name, 13 and 15, where there is one, or a give's 16
 unfoldable pub making : List ℕ → Making → List Check → List Check → Planned
 making t m thirteen fifteen =
     plan (record {
@@ -181,30 +203,33 @@ abbrev pub copyHeading : List ℕ → Part → Part → Part → ℕ → List �
 copyHeading source life lev code length =
     headingRecord 1 (orElse lev (level source)) (orElse code 0) (orElse life (lifetime source)) length
 
-unfoldable pub cpyPlan : List ℕ → ℕ → Word → Word → Part → Part → Part → Planned
-cpyPlan t u old new life lev code =
-    toEnd t u 1 old
+-- CPY of user u, its old name from the base list of user v
+unfoldable pub cpyPlan : List ℕ → ℕ → ℕ → Word → Word → Part → Part → Part → Planned
+cpyPlan t v u old new life lev code =
+    toEnd t v 1 old
     (λ _ f. toHolder t u 2 new
     (λ d.
     let text = fileText t (file t f) in
     making t (filing t 2 new d (orElse code 0) (copyHeading (rec t (file t f)) life lev code (length text)) text)
     (readInhibited 1 f ∷ []) (notSimple 1 t f ∷ [])))
 
--- "DUP: entry, its code the old entry's joined with the declared one."
-unfoldable pub dupPlan : List ℕ → ℕ → Word → Word → Part → Planned
-dupPlan t u old new code =
-    toEnd t u 1 old
-    (λ _ f. toHolder t u 2 new
-    (λ d.
-    making t
-    (record {
+-- the entry of DUP, in d, of the file that f came to
+abbrev pub linking : List ℕ → State → State → Word → Part → Making
+linking t f d new code =
+    record {
       place = 2;
       directory = d;
       name = lastName (chainOf new);
       first = [];
       entry = entryIn d (joined (entryCode (rec t (f .entry))) (orElse code 0)) (file t f) (lastName (chainOf new));
-    })
-    [] []))
+    }
+
+-- "DUP: entry, its code the old entry's joined with the declared one." The old name from the base list of user v, the new of user u
+unfoldable pub dupPlan : List ℕ → ℕ → ℕ → Begin → Word → Word → Part → Planned
+dupPlan t v u to old new code =
+    toEnd t v 1 old
+    (λ _ f. toHolder t u 2 new
+    (λ d. making t (linking t f d new code) [] (linkTaken t to (linking t f d new code))))
 
 -- a plan that displaces nothing and writes nothing
 abbrev pub storing : List Check → List Store → Planned

@@ -1,8 +1,8 @@
 -- Link names, chains, base names, and the order of names.
 use mathlib.Core.Bool.{Bool, true, false, _&&_, _||_, not, cond}
 use mathlib.Core.List.{List, [], _∷_}
-use Prim.Native.Nat.{ℕ}
-use lib.ListN.{length, getD}
+use Prim.Native.Nat.{ℕ, _+_, _*_, _-_}
+use lib.ListN.{length, getD, drop}
 use lib.Dec.{eqb, leb, ltb}
 
 -- two names are the same
@@ -83,6 +83,22 @@ legalBase n =
 -- the base name of a chain
 abbrev pub baseName : List (List ℕ) → List ℕ
 baseName ns = getD (chain ns) 0 []
+
+-- "`.nnnnnn` .. (six digits)": a point and exactly six digits
+abbrev pub inNumber : ℕ → Bool
+inNumber b = leb 48 b && leb b 57
+
+unfoldable pub userName : List ℕ → Bool
+userName n = pointed n && eqb (length n) 7 && all inNumber (drop 1 n)
+
+-- the number that digits make, after the number k
+unfoldable pub counting : ℕ → List ℕ → ℕ
+counting k [] = k
+counting k (b ∷ s) = counting (k * 10 + (b - 48)) s
+
+-- .. and of `.nnnnnn`: "that user"
+unfoldable pub userNumber : List ℕ → ℕ
+userNumber n = counting 0 (drop 1 n)
 
 -- "names in ascending byte order, a name before its longer continuations"
 unfoldable pub before : List ℕ → List ℕ → Bool

@@ -1,25 +1,31 @@
 -- "The first word is the function." Reading a line: the request, or number 4 to 9, and 10 for its text.
-use mathlib.Core.Bool.{Bool, false, _&&_, not, cond}
+use mathlib.Core.Bool.{Bool, false, _&&_, _||_, not, cond}
 use mathlib.Core.List.{List, [], _∷_, _++_}
 use Prim.Native.Nat.{ℕ, suc, _+_, _-_}
 use lib.Dec.{eqb, leb, ltb}
 use lib.ListN.{length, getD, take, drop}
-use Rattle.paper.specs.Name.{linkName, pointed, chain, alone, dash, lonePoint, wellFormed, legalBase, baseName}
+use Rattle.paper.specs.Name.{linkName, pointed, chain, alone, dash, lonePoint, wellFormed, legalBase, baseName, userName, userNumber}
 use Rattle.paper.specs.Declaration.{Part, given, notGiven, Parts, Declared, right, nothing, declared, partsOf, fits, fitCrd, fitCpy, fitDup, wrsLifetime, dprCode}
 use Rattle.paper.specs.Line.{Word, words, word, legalLine}
 use Rattle.paper.specs.Check.{Refusal, Check, check, Verdict, passed, refused, verdict}
+
+-- where a chain starts: in the base list of the user who asks; an old name, "at that user's `.T`"; a new name, "in that user's `.G`"
+pub data Begin : Type 0 where
+  own : Begin
+  takeOf : (user : ℕ) → Begin
+  giveTo : (user : ℕ) → Begin
 
 -- "Nine functions": their names are words of the line, their declared parts given or not; what is needed is a number
 pub data Request : Type 0 where
   crd : (name : Word) (level code : Part) → Request
   wrs : (lifetime : ℕ) (level code : Part) (name : Word) → Request
-  rds : (name : Word) → Request
-  cpy : (old new : Word) (lifetime level code : Part) → Request
-  dup : (old new : Word) (code : Part) → Request
+  rds : (from : Begin) (name : Word) → Request
+  cpy : (from : Begin) (old new : Word) (lifetime level code : Part) → Request
+  dup : (from : Begin) (old : Word) (to : Begin) (new : Word) (code : Part) → Request
   chn : (old link : Word) → Request
   del : (names : List Word) → Request
   dpr : (name : Word) (code : ℕ) → Request
-  lst : (name : Word) → Request
+  lst : (from : Begin) (name : Word) → Request
   lstBase : Request
 
 pub data Read : Type 0 where
@@ -62,6 +68,33 @@ malformed place w =
 abbrev pub illegal : ℕ → Word → Check
 illegal place w =
     record { when = not (legalBase (baseName (w .names))); refusal = record { number = 8; place = place; link = 1 } }
+
+-- the first name of an argument, and how it starts where it may be `.nnnnnn`
+abbrev pub firstName : Word → List ℕ
+firstName w = getD (w .names) 0 []
+
+unfoldable pub oldFrom : Word → Begin
+oldFrom w = cond (userName (firstName w)) (takeOf (userNumber (firstName w))) own
+
+unfoldable pub newTo : Word → Begin
+newTo w = cond (userName (firstName w)) (giveTo (userNumber (firstName w))) own
+
+-- "As an old name in .. CPY, or in RDS and LST"
+abbrev pub isTake : Word → Bool
+isTake w = userName (firstName w)
+
+-- "As an old name in DUP": not bare, "which would hand over the take directory itself"
+abbrev pub isTakeWithin : Word → Bool
+isTakeWithin w = userName (firstName w) && leb 2 (length (w .names))
+
+-- "A new name `.nnnnnn:link` in DUP": not "a give with no link or more than one"
+abbrev pub isGive : Word → Bool
+isGive w = userName (firstName w) && eqb (length (w .names)) 2
+
+-- 8 where an argument may start so: "In every other place it still gets 8"
+abbrev pub illegalBut : (Word → Bool) → ℕ → Word → Check
+illegalBut starts place w =
+    record { when = not (starts w || legalBase (baseName (w .names))); refusal = record { number = 8; place = place; link = 1 } }
 
 -- 9: "declaration malformed or unfit"
 abbrev pub unfit : ℕ → Bool → Check
@@ -106,24 +139,41 @@ readWrs line =
 
 -- "RDS, LST name"
 unfoldable pub readRds : List ℕ → Read
-readRds line = readAs (rds (word line 1)) (verdict (miscounted 1 1 line ∷ misnamed 1 2 line))
+readRds line =
+    readAs (rds (oldFrom (word line 1)) (word line 1))
+    (verdict (miscounted 1 1 line ∷ malformed 1 (word line 1) ∷ illegalBut isTake 1 (word line 1) ∷ []))
 
 -- "LST of a lone point lists the user's base files other than `.W`."
 unfoldable pub readLst : List ℕ → Read
 readLst line =
     cond (lonePoint (word line 1 .names)) (readAs lstBase (verdict (miscounted 1 1 line ∷ [])))
-    (readAs (lst (word line 1)) (verdict (miscounted 1 1 line ∷ misnamed 1 2 line)))
+    (readAs (lst (oldFrom (word line 1)) (word line 1))
+    (verdict (miscounted 1 1 line ∷ malformed 1 (word line 1) ∷ illegalBut isTake 1 (word line 1) ∷ [])))
 
 -- "CPY, DUP old new [decl]"
 unfoldable pub readCpy : List ℕ → Read
 readCpy line =
-    readAs (cpy (word line 1) (word line 2) (partsAt line 3 .lifetime) (partsAt line 3 .level) (partsAt line 3 .code))
-    (verdict (miscounted 2 3 line ∷ misnamed 1 3 line ++ unfit 3 (fits fitCpy (declaredAt line 3)) ∷ []))
+    readAs (cpy (oldFrom (word line 1)) (word line 1) (word line 2) (partsAt line 3 .lifetime) (partsAt line 3 .level) (partsAt line 3 .code))
+    (verdict
+    (miscounted 2 3 line
+    ∷ malformed 1 (word line 1)
+    ∷ malformed 2 (word line 2)
+    ∷ illegalBut isTake 1 (word line 1)
+    ∷ illegal 2 (word line 2)
+    ∷ unfit 3 (fits fitCpy (declaredAt line 3))
+    ∷ []))
 
 unfoldable pub readDup : List ℕ → Read
 readDup line =
-    readAs (dup (word line 1) (word line 2) (partsAt line 3 .code))
-    (verdict (miscounted 2 3 line ∷ misnamed 1 3 line ++ unfit 3 (fits fitDup (declaredAt line 3)) ∷ []))
+    readAs (dup (oldFrom (word line 1)) (word line 1) (newTo (word line 2)) (word line 2) (partsAt line 3 .code))
+    (verdict
+    (miscounted 2 3 line
+    ∷ malformed 1 (word line 1)
+    ∷ malformed 2 (word line 2)
+    ∷ illegalBut isTakeWithin 1 (word line 1)
+    ∷ illegalBut isGive 2 (word line 2)
+    ∷ unfit 3 (fits fitDup (declaredAt line 3))
+    ∷ []))
 
 -- the link of CHN: one link name, and no dash
 abbrev pub linkAlone : List (List ℕ) → Bool
@@ -186,13 +236,13 @@ read line = cond (legalLine line) (readFunction line) (unread (record { number =
 abbrev pub textTooLong : Request → List ℕ → Bool
 textTooLong (crd name level code) text = false
 textTooLong (wrs lifetime level code name) text = ltb 24000 (length text)
-textTooLong (rds name) text = false
-textTooLong (cpy old new lifetime level code) text = false
-textTooLong (dup old new code) text = false
+textTooLong (rds from name) text = false
+textTooLong (cpy from old new lifetime level code) text = false
+textTooLong (dup from old to new code) text = false
 textTooLong (chn old link) text = false
 textTooLong (del names) text = false
 textTooLong (dpr name code) text = false
-textTooLong (lst name) text = false
+textTooLong (lst from name) text = false
 textTooLong lstBase text = false
 
 abbrev pub withText : List ℕ → Read → Read

@@ -10,8 +10,9 @@ use borrow.Author.Tests.{ltb-false}
 use Rattle.paper.specs.Declaration.{Part}
 use Rattle.paper.specs.Line.{Word}
 use Rattle.paper.specs.Check.{Refusal, Check}
+use Rattle.paper.specs.Request.{Begin, own, takeOf, giveTo}
 use Rattle.paper.specs.Walk.{State}
-use Rattle.paper.specs.Effect.{Plan, Planned, plan, halted, toHolder, toEnd, Making, making, writing, readInhibited, notSimple, noDirectory, writeInhibited, tooShort, crdPlan, wrsPlan, rdsPlan, cpyPlan, dupPlan, chnPlan, delPlan, dprPlan, lstPlan, lstBasePlan}
+use Rattle.paper.specs.Effect.{Plan, Planned, plan, halted, toHolder, toEnd, Making, making, linkTaken, linking, writing, readInhibited, notSimple, noDirectory, writeInhibited, tooShort, crdPlan, wrsPlan, rdsPlan, cpyPlan, dupPlan, chnPlan, delPlan, dprPlan, lstPlan, lstBasePlan}
 use Rattle.laws.proofs.Lists.{Every, every-append, every-parts}
 use Rattle.demands.proofs.Request.Fair.{Idle, Fair, FairCheck, verdict-fair, fair-line, fair-at}
 use Rattle.demands.proofs.Request.Steps.{Walks, holder-by, end-by}
@@ -36,14 +37,15 @@ fair-walk reply place l n link (inl (inl e)) = rw e (fair-at 11 place link refl 
 fair-walk reply place l n link (inl (inr e)) = rw e (fair-at 12 place link refl l)
 fair-walk reply place l n link (inr e) = rw e (fair-at 13 place link refl l)
 
+module _ (t reply : List ℕ) where
+  fair-end : (u place : ℕ) (w : Word) (f : State → State → Planned) → 1 ≤ place → ((d s : State) → FairPlanned reply (f d s))
+      → FairPlanned reply (toEnd t u place w f)
+  fair-end u place w f l g = end-by (FairPlanned reply) place (fair-walk reply place l) t u w f (λ d s _ _. g d s)
+
 module _ (t reply : List ℕ) (u : ℕ) where
   fair-holder : (place : ℕ) (w : Word) (f : State → Planned) → 1 ≤ place → ((d : State) → FairPlanned reply (f d))
       → FairPlanned reply (toHolder t u place w f)
   fair-holder place w f l g = holder-by (FairPlanned reply) place (fair-walk reply place l) t u w f (λ d _. g d)
-
-  fair-end : (place : ℕ) (w : Word) (f : State → State → Planned) → 1 ≤ place → ((d s : State) → FairPlanned reply (f d s))
-      → FairPlanned reply (toEnd t u place w f)
-  fair-end place w f l g = end-by (FairPlanned reply) place (fair-walk reply place l) t u w f (λ d s _ _. g d s)
 
   -- a new entry: 14, 17 and 18 at its place, 19 of the whole; and 13 and 15 of the old name
   fair-making : (m : Making) (thirteen fifteen : List Check) → 1 ≤ m .place → Every FairCheck thirteen → Every FairCheck fifteen
@@ -66,35 +68,42 @@ module _ (t reply : List ℕ) (u : ℕ) where
   unfolding wrsPlan
   fair-wrsPlan text lifetime level code w = fair-holder 2 w _ (omega arith) (λ d. fair-making _ [] [] (omega arith) tt tt)
 
-  pub fair-cpyPlan : (old new : Word) (life lev code : Part) → FairPlanned reply (cpyPlan t u old new life lev code)
+  pub fair-cpyPlan : (v : ℕ) (old new : Word) (life lev code : Part) → FairPlanned reply (cpyPlan t v u old new life lev code)
   unfolding cpyPlan
-  fair-cpyPlan old new life lev code =
-      fair-end 1 old _ (omega arith) (λ _ f.
+  fair-cpyPlan v old new life lev code =
+      fair-end t reply v 1 old _ (omega arith) (λ _ f.
       fair-holder 2 new _ (omega arith) (λ d.
       fair-making _ _ _ (omega arith) (fair-at 13 1 0 refl (omega arith), tt) (fair-at 15 1 0 refl (omega arith), tt)))
 
-  pub fair-dupPlan : (old new : Word) (code : Part) → FairPlanned reply (dupPlan t u old new code)
+  -- a give: 16 at its place
+  fair-taken : (to : Begin) (m : Making) → 1 ≤ m .place → Every FairCheck (linkTaken t to m)
+  fair-taken own m l = tt
+  fair-taken (takeOf n) m l = tt
+  fair-taken (giveTo n) m l = (fair-at 16 (m .place) 0 refl l, tt)
+
+  pub fair-dupPlan : (v : ℕ) (to : Begin) (old new : Word) (code : Part) → FairPlanned reply (dupPlan t v u to old new code)
   unfolding dupPlan
-  fair-dupPlan old new code =
-      fair-end 1 old _ (omega arith) (λ _ f. fair-holder 2 new _ (omega arith) (λ d. fair-making _ [] [] (omega arith) tt tt))
+  fair-dupPlan v to old new code =
+      fair-end t reply v 1 old _ (omega arith) (λ _ f.
+      fair-holder 2 new _ (omega arith) (λ d. fair-making _ [] _ (omega arith) tt (fair-taken to (linking t f d new code) (omega arith))))
 
   -- a plan of two checks that writes nothing
   pub fair-chnPlan : (old link : Word) → FairPlanned reply (chnPlan t u old link)
   unfolding chnPlan
   fair-chnPlan old link =
-      fair-end 1 old _ (omega arith) (λ _ _.
+      fair-end t reply u 1 old _ (omega arith) (λ _ _.
       record { checks = (fair-at 14 1 0 refl (omega arith), (fair-at 16 2 0 refl (omega arith), tt)); fits = λ h. omega arith })
 
   pub fair-dprPlan : (w : Word) (code : ℕ) → FairPlanned reply (dprPlan t u w code)
   unfolding dprPlan
   fair-dprPlan w code =
-      fair-end 1 w _ (omega arith) (λ _ _.
+      fair-end t reply u 1 w _ (omega arith) (λ _ _.
       record { checks = (fair-at 14 1 0 refl (omega arith), (fair-at 21 2 0 refl (omega arith), tt)); fits = λ h. omega arith })
 
   pub fair-delPlan : (place : ℕ) (w : Word) → 1 ≤ place → FairPlanned reply (delPlan t u place w)
   unfolding delPlan
   fair-delPlan place w l =
-      fair-end place w _ l (λ _ _. record { checks = (fair-at 14 place 0 refl l, (fair-at 18 place 0 refl l, tt)); fits = λ h. omega arith })
+      fair-end t reply u place w _ l (λ _ _. record { checks = (fair-at 14 place 0 refl l, (fair-at 18 place 0 refl l, tt)); fits = λ h. omega arith })
 
   -- a plan that writes: 20 where the buffer is too short
   fair-writing : (cs : List Check) (out : List ℕ) → Every FairCheck cs → FairPlanned reply (writing cs out reply)
@@ -107,13 +116,13 @@ module _ (t reply : List ℕ) (u : ℕ) where
   pub fair-rdsPlan : (w : Word) → FairPlanned reply (rdsPlan t u reply w)
   unfolding rdsPlan
   fair-rdsPlan w =
-      fair-end 1 w _ (omega arith) (λ _ f.
+      fair-end t reply u 1 w _ (omega arith) (λ _ f.
       fair-writing (readInhibited 1 f ∷ notSimple 1 t f ∷ []) _ (fair-at 13 1 0 refl (omega arith), (fair-at 15 1 0 refl (omega arith), tt)))
 
   pub fair-lstPlan : (w : Word) → FairPlanned reply (lstPlan t u reply w)
   unfolding lstPlan
   fair-lstPlan w =
-      fair-end 1 w _ (omega arith) (λ _ f.
+      fair-end t reply u 1 w _ (omega arith) (λ _ f.
       fair-writing (readInhibited 1 f ∷ noDirectory 1 t f ∷ []) _ (fair-at 13 1 0 refl (omega arith), (fair-at 15 1 0 refl (omega arith), tt)))
 
   pub fair-lstBasePlan : FairPlanned reply (lstBasePlan t u reply)

@@ -7,7 +7,7 @@ use Prim.Native.Nat.{ℕ}
 use Rattle.paper.specs.Line.{Word}
 use Rattle.paper.specs.Check.{Refusal}
 use Rattle.paper.specs.Request.{Request, crd, wrs, rds, cpy, dup, chn, del, dpr, lst, lstBase, request, asked}
-use Rattle.paper.specs.Effect.{Planned, crdPlan, wrsPlan, rdsPlan, cpyPlan, dupPlan, chnPlan, dprPlan, lstPlan, lstBasePlan}
+use Rattle.paper.specs.Effect.{listOf, begun, Planned, crdPlan, wrsPlan, rdsPlan, cpyPlan, dupPlan, chnPlan, dprPlan, lstPlan, lstBasePlan}
 use Rattle.paper.specs.Answer.{refusing, ran, single, deleting, granted, requested}
 use Rattle.demands.proofs.Request.Fair.{Fair}
 use Rattle.demands.proofs.Request.Course.{Course, untried, tried, course}
@@ -16,13 +16,13 @@ use Rattle.demands.proofs.Answered.Numbered.{FairPlanned, fair-crdPlan,
 abbrev pub isDel : Request → Bool
 isDel (crd w level code) = false
 isDel (wrs lifetime level code w) = false
-isDel (rds w) = false
-isDel (cpy old new lifetime level code) = false
-isDel (dup old new code) = false
+isDel (rds from w) = false
+isDel (cpy from old new lifetime level code) = false
+isDel (dup from old to new code) = false
 isDel (chn old link) = false
 isDel (del ws) = true
 isDel (dpr w code) = false
-isDel (lst w) = false
+isDel (lst from w) = false
 isDel lstBase = false
 
 -- the three ways of a request, each the same for every stop number
@@ -44,14 +44,19 @@ came t line text reply u = go (course t line text reply u)
     grants (crd w level code) q = planned (crd w level code) q refl (crdPlan t u w level code) (fair-crdPlan t reply u w level code)
     grants (wrs lifetime level code w) q =
         planned (wrs lifetime level code w) q refl (wrsPlan t u text lifetime level code w) (fair-wrsPlan t reply u text lifetime level code w)
-    grants (rds w) q = planned (rds w) q refl (rdsPlan t u reply w) (fair-rdsPlan t reply u w)
-    grants (cpy old new lifetime level code) q =
-        planned (cpy old new lifetime level code) q refl (cpyPlan t u old new lifetime level code) (fair-cpyPlan t reply u old new lifetime level code)
-    grants (dup old new code) q = planned (dup old new code) q refl (dupPlan t u old new code) (fair-dupPlan t reply u old new code)
+    grants (rds from w) q =
+        planned (rds from w) q refl (rdsPlan t (listOf u from) reply (begun from w)) (fair-rdsPlan t reply (listOf u from) (begun from w))
+    grants (cpy from old new lifetime level code) q =
+        planned (cpy from old new lifetime level code) q refl (cpyPlan t (listOf u from) u (begun from old) new lifetime level code)
+        (fair-cpyPlan t reply u (listOf u from) (begun from old) new lifetime level code)
+    grants (dup from old to new code) q =
+        planned (dup from old to new code) q refl (dupPlan t (listOf u from) (listOf u to) to (begun from old) (begun to new) code)
+        (fair-dupPlan t reply (listOf u to) (listOf u from) to (begun from old) (begun to new) code)
     grants (chn old link) q = planned (chn old link) q refl (chnPlan t u old link) (fair-chnPlan t reply u old link)
     grants (del ws) q = deletes ws q
     grants (dpr w code) q = planned (dpr w code) q refl (dprPlan t u w code) (fair-dprPlan t reply u w code)
-    grants (lst w) q = planned (lst w) q refl (lstPlan t u reply w) (fair-lstPlan t reply u w)
+    grants (lst from w) q =
+        planned (lst from w) q refl (lstPlan t (listOf u from) reply (begun from w)) (fair-lstPlan t reply (listOf u from) (begun from w))
     grants lstBase q = planned lstBase q refl (lstBasePlan t u reply) (fair-lstBasePlan t reply u)
 
     go : Course t line text reply u → Came t line text reply u

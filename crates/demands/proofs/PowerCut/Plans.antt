@@ -13,6 +13,7 @@ use Rattle.paper.specs.Table.{rec, frees, room}
 use Rattle.paper.specs.Declaration.{Part, orElse}
 use Rattle.paper.specs.Line.{Word}
 use Rattle.paper.specs.Check.{Check, passed, verdict}
+use Rattle.paper.specs.Request.{Begin}
 use Rattle.paper.specs.Block.{fileText}
 use Rattle.paper.specs.Walk.{State, file, reached, toLast, lastName}
 use Rattle.paper.specs.Store.{Store, run}
@@ -93,21 +94,22 @@ module _ (t : List ℕ) (c : Sound t) where
   wrs-safe u body life lev code name l =
       holder-safe t u 2 name _ (λ d. filing-safe 2 name d 1 (orElse lev 0) (orElse code 0) life (length body) body [] [] l)
 
-  pub cpy-safe : (u : ℕ) (old new : Word) (life lev code : Part) → length (lastName (chainOf new)) ≤ 10
-      → Safe t (cpyPlan t u old new life lev code)
+  pub cpy-safe : (v u : ℕ) (old new : Word) (life lev code : Part) → length (lastName (chainOf new)) ≤ 10
+      → Safe t (cpyPlan t v u old new life lev code)
   unfolding cpyPlan
-  cpy-safe u old new life lev code l =
-      end-safe t u 1 old _ (λ _ f _. holder-safe t u 2 new _ (λ d.
+  cpy-safe v u old new life lev code l =
+      end-safe t v 1 old _ (λ _ f _. holder-safe t u 2 new _ (λ d.
       let source : List ℕ = rec t (file t f) in
       let body : List ℕ = fileText t (file t f) in
       filing-safe 2 new d 1 (orElse lev (level source)) (orElse code 0) (orElse life (lifetime source)) (length body) body
       (readInhibited 1 f ∷ []) (notSimple 1 t f ∷ []) l))
 
-  pub dup-safe : (u : ℕ) (old new : Word) (code : Part) → length (lastName (chainOf new)) ≤ 10 → Safe t (dupPlan t u old new code)
+  pub dup-safe : (v u : ℕ) (to : Begin) (old new : Word) (code : Part) → length (lastName (chainOf new)) ≤ 10
+      → Safe t (dupPlan t v u to old new code)
   unfolding dupPlan
-  dup-safe u old new code l =
-      end-safe t u 1 old _ (λ _ f _. holder-safe t u 2 new _ (λ d.
-      making-safe _ [] [] (λ _. tt) (length-entry _ (d .holder .heading) (file t f) (d .holder .user) (lastName (chainOf new)) l)))
+  dup-safe v u to old new code l =
+      end-safe t v 1 old _ (λ _ f _. holder-safe t u 2 new _ (λ d.
+      making-safe _ [] _ (λ _. tt) (length-entry _ (d .holder .heading) (file t f) (d .holder .user) (lastName (chainOf new)) l)))
 
   pub chn-safe : (u : ℕ) (old link : Word) → Safe t (chnPlan t u old link)
   unfolding chnPlan

@@ -14,12 +14,14 @@ use Rattle.paper.specs.Name.{linkName, chain, wellFormed, legalBase, baseName, 
 use Rattle.paper.specs.Declaration.{Part, given, notGiven, isGiven, Parts, fits, fitWrs, fitCpy, fitDup, wrsLifetime, dprCode}
 use Rattle.paper.specs.Line.{Word, words, word, legalLine}
 use Rattle.paper.specs.Check.{Check, check, Verdict, passed, refused, verdict}
-use Rattle.paper.specs.Request.{declaredAt, partsAt, Request, crd, wrs, rds, cpy, dup, chn, del, dpr, lst, lstBase, Read, request, unread, after, needed, readAs, counted, miscounted, malformed, illegal, unfit, each, between, misnamed, readCrd, readWrs, readRds, readLst, readCpy, readDup, linkAlone, readChn, readDpr, readDel, isFunction, readFunction, read, textTooLong, withText, asked}
-use Rattle.paper.specs.Walk.{lastName, start}
+use Rattle.paper.specs.Request.{declaredAt, partsAt, Begin, oldFrom, isTake, isTakeWithin, illegalBut, Request, crd, wrs, rds, cpy, dup, chn, del, dpr, lst, lstBase, Read, request, unread, after, needed, readAs, counted, miscounted, malformed, illegal, unfit, each, between, misnamed, readCrd, readWrs, readRds, readLst, readCpy, readDup, linkAlone, readChn, readDpr, readDel, isFunction, readFunction, read, textTooLong, withText, asked}
+use Rattle.paper.specs.Walk.{lastName}
+use Rattle.paper.specs.Effect.{begun}
 use Rattle.laws.proofs.Tests.{and-left, and-right, and-parts, either}
 use Rattle.laws.proofs.Lists.{Every, every-at, every-append, every-parts, every-both}
 use Rattle.demands.proofs.Request.Formed.{Named, Within, lettered-at, fits-parts, taking-given, medium-long, may-medium-long}
 use Rattle.demands.proofs.Request.Fair.{Idle, verdict-idle, Fair, FairCheck, verdict-fair, fair-line, fair-at}
+use Rattle.demands.proofs.Request.Begun.{old-named, new-named, Gives}
 
 -- ---- what each function is told
 
@@ -42,9 +44,10 @@ pub record CpyRead (v w : Word) (n l c : Part) : Type 0 where
   pub level : Within 0 3 l
   pub code : Within 0 7 c
 
-pub record DupRead (v w : Word) (c : Part) : Type 0 where
+pub record DupRead (v w : Word) (to : Begin) (c : Part) : Type 0 where
   pub old : Named v
   pub new : Named w
+  pub gives : Gives to w
   pub code : Within 0 7 c
 
 pub record ChnRead (v w : Word) : Type 0 where
@@ -64,13 +67,13 @@ pub record DprRead (w : Word) (c : ℕ) : Type 0 where
 abbrev pub Told : List ℕ → Request → Type 0
 Told text (crd name level code) = CrdRead name level code
 Told text (wrs lifetime level code name) = WrsRead text lifetime level code name
-Told text (rds name) = Named name
-Told text (cpy old new lifetime level code) = CpyRead old new lifetime level code
-Told text (dup old new code) = DupRead old new code
+Told text (rds from name) = Named (begun from name)
+Told text (cpy from old new lifetime level code) = CpyRead (begun from old) new lifetime level code
+Told text (dup from old to new code) = DupRead (begun from old) (begun to new) to code
 Told text (chn old link) = ChnRead old link
 Told text (del names) = DelRead names
 Told text (dpr name code) = DprRead name code
-Told text (lst name) = Named name
+Told text (lst from name) = Named (begun from name)
 Told text lstBase = Unit {0}
 
 -- ---- what the checks give
@@ -167,6 +170,16 @@ fair-misnamed a b line l =
     every-append FairCheck (each malformed a (between a b line)) _
     (each-fair malformed (λ p w. fair-at 7 p _ refl) a _ l) (each-fair illegal (λ p w. fair-at 8 p 1 refl) a _ l)
 
+-- the refusals of CPY and DUP: the count, 7 and 8 of both names, 9
+abbrev fair : ℕ → ℕ → ℕ → Type 0
+fair number place link = Fair (record { number = number; place = place; link = link })
+
+two-names : (i j : ℕ) → fair 6 0 0 × (fair 7 1 i × (fair 7 2 j × (fair 8 1 1 × (fair 8 2 1 × (fair 9 3 0 × Unit {0})))))
+two-names i j =
+    let eight : fair 8 1 1 × (fair 8 2 1 × (fair 9 3 0 × Unit {0})) =
+    (fair-at 8 1 1 refl (omega arith), (fair-at 8 2 1 refl (omega arith), (fair-at 9 3 0 refl (omega arith), tt))) in
+    (fair-line 6 0 refl, (fair-at 7 1 i refl (omega arith), (fair-at 7 2 j refl (omega arith), eight)))
+
 module _ (line text : List ℕ) where
   -- the usual reader: the count, the names from word a up to b, and the checks after them
   reader : (least most a b : ℕ) (cs : List Check) (x : Read) → 1 ≤ a → Every FairCheck cs
@@ -206,25 +219,33 @@ module _ (line text : List ℕ) where
         text = ltb-false _ _ short;
       }))
 
+  -- the count, and a name that may be a take
+  take-read : (r : Request) → (Named (begun (oldFrom (word line 1)) (word line 1)) → Told text r)
+      → Heard text (readAs r (verdict (miscounted 1 1 line ∷ malformed 1 (word line 1) ∷ illegalBut isTake 1 (word line 1) ∷ [])))
+  take-read r told =
+      heard-after text (request r) _ (fair-line 6 0 refl, (fair-at 7 1 _ refl (omega arith), (fair-at 8 1 1 refl (omega arith), tt)))
+      (λ h _. told (old-named isTake 1 (word line 1) (λ e. e) (h .1 .0) (h .1 .1 .0)))
+
   heard-rds : Heard text (readRds line)
   unfolding readRds
-  heard-rds = reader-names 1 1 1 2 _ (omega arith) (λ n m w _. name-at 1 1 2 1 line refl n w)
+  heard-rds = take-read (rds (oldFrom (word line 1)) (word line 1)) (λ n. n)
 
   heard-lst : Heard text (readLst line)
   unfolding readLst
   heard-lst =
       either (Heard text) (lonePoint (word line 1 .names)) _ _ (heard-after text (request lstBase) _ (fair-line 6 0 refl, tt) (λ _ _. tt))
-      (reader-names 1 1 1 2 _ (omega arith) (λ n m w _. name-at 1 1 2 1 line refl n w))
+      (take-read (lst (oldFrom (word line 1)) (word line 1)) (λ n. n))
 
   heard-cpy : Heard text (readCpy line)
   unfolding readCpy
   heard-cpy =
-      reader 2 3 1 3 _ _ (omega arith) (fair-at 9 3 0 refl (omega arith), tt) (λ n m w g _.
+      heard-after text _ _ (two-names _ _) (λ h _.
       let p = partsAt line 3 in
+      let g = h .1 .1 .1 .1 .1 .0 in
       record {
-        old = name-at 2 1 3 1 line refl n w;
-        new = name-at 2 1 3 2 line refl n w;
-        lifetime = may-medium-long (p .lifetime) (and-right (not (isGiven (p .type))) _ (fit-at fitCpy line 3 3 (g .0))) (lettered-at line 3 .lifetime);
+        old = old-named isTake 1 (word line 1) (λ e. e) (h .1 .0) (h .1 .1 .1 .0);
+        new = record { formed = not-false _ (h .1 .1 .0); legal = not-false _ (h .1 .1 .1 .1 .0) };
+        lifetime = may-medium-long (p .lifetime) (and-right (not (isGiven (p .type))) _ (fit-at fitCpy line 3 3 g)) (lettered-at line 3 .lifetime);
         level = lettered-at line 3 .level;
         code = lettered-at line 3 .code;
       })
@@ -232,8 +253,14 @@ module _ (line text : List ℕ) where
   heard-dup : Heard text (readDup line)
   unfolding readDup
   heard-dup =
-      reader 2 3 1 3 _ _ (omega arith) (fair-at 9 3 0 refl (omega arith), tt) (λ n m w g _.
-      record { old = name-at 2 1 3 1 line refl n w; new = name-at 2 1 3 2 line refl n w; code = lettered-at line 3 .code })
+      heard-after text _ _ (two-names _ _) (λ h _.
+      let w = new-named 2 (word line 2) (h .1 .1 .0) (h .1 .1 .1 .1 .0) in
+      record {
+        old = old-named isTakeWithin 1 (word line 1) (λ e. and-left (isTake (word line 1)) _ e) (h .1 .0) (h .1 .1 .1 .0);
+        new = w .0;
+        gives = w .1;
+        code = lettered-at line 3 .code;
+      })
 
   heard-chn : Heard text (readChn line)
   unfolding readChn

@@ -15,12 +15,13 @@ use Rattle.paper.specs.Name.{legalBase}
 use Rattle.paper.specs.Declaration.{Part, orElse}
 use Rattle.paper.specs.Line.{Word}
 use Rattle.paper.specs.Check.{Check}
+use Rattle.paper.specs.Request.{Begin}
 use Rattle.paper.specs.Code.{joined}
 use Rattle.paper.specs.Entry.{Holder, holder, full}
 use Rattle.paper.specs.Block.{blocks, fileText}
 use Rattle.paper.specs.Walk.{State, start, file, reached, toDirectory, lastName}
 use Rattle.paper.specs.Store.{puts, run}
-use Rattle.paper.specs.Effect.{Making, borne, losing, settled, chainOf, making, filing, readInhibited, notSimple, crdPlan, wrsPlan, cpyPlan, dupPlan, chnPlan}
+use Rattle.paper.specs.Effect.{Making, borne, losing, settled, chainOf, making, filing, linking, readInhibited, notSimple, crdPlan, wrsPlan, cpyPlan, dupPlan, chnPlan}
 use Rattle.laws.proofs.Entries.{Stands, found-stands}
 use Rattle.laws.proofs.Blocks.{file-most}
 use Rattle.demands.proofs.Sound.Clauses.{Sound, entry-code, length-most}
@@ -29,7 +30,7 @@ use Rattle.demands.proofs.Request.Read.{CrdRead, WrsRead, CpyRead, DupR
 use Rattle.demands.proofs.Request.Walked.{Ends, base, inside, joined-code, walk-ends, ends-base, walk-reached}
 use Rattle.demands.proofs.SoundKept.Built.{NewHeading, NewEntry}
 use Rattle.demands.proofs.SoundKept.Filed.{length-file}
-use Rattle.demands.proofs.SoundKept.Made.{Made, Entered, made-sound, made-over, displaced-same, new-file, filing-made, linking, linking-made}
+use Rattle.demands.proofs.SoundKept.Made.{Made, Entered, made-sound, made-over, displaced-same, new-file, filing-made, linking-made}
 use Rattle.demands.proofs.SoundKept.Settled.{instead-found, displaced-sound}
 use Rattle.demands.proofs.SoundKept.Kept.{Keeps, holder-keeps, end-keeps, making-keeps, chn-keeps}
 
@@ -140,11 +141,11 @@ module _ (t : List ℕ) (c : Sound t) where
       filing-keeps 2 name d 1 (orElse lev 0) (orElse code 0) life text (simple-heading _ _ life (length text) l b (h .lifetime) (h .text))
       (entered u name d (orElse code 0) m (h .name) b q) [] [])
 
-  pub cpy-keeps : (u : ℕ) (old new : Word) (life lev code : Part) → u ≤ 999999 → CpyRead old new life lev code
-      → Keeps t (cpyPlan t u old new life lev code)
+  pub cpy-keeps : (v u : ℕ) (old new : Word) (life lev code : Part) → u ≤ 999999 → CpyRead old new life lev code
+      → Keeps t (cpyPlan t v u old new life lev code)
   unfolding cpyPlan
-  cpy-keeps u old new life lev code m h =
-      end-keeps t u 1 old _ (λ e f _ r. holder-keeps t u 2 new _ (λ d q.
+  cpy-keeps v u old new life lev code m h =
+      end-keeps t v 1 old _ (λ e f _ r. holder-keeps t u 2 new _ (λ d q.
       let source : List ℕ = rec t (file t f) in
       let s = walk-reached 65535 t c e (chainOf old) f r in
       let l : orElse lev (level source) ≤ 3 = at-most 3 (level source) lev (h .level) (s .fields .level) in
@@ -154,16 +155,16 @@ module _ (t : List ℕ) (c : Sound t) where
       (simple-heading _ _ _ _ l b n (copy-few (file t f) (s .within) (s .heading)))
       (entered u new d (orElse code 0) m (h .new) b q) (readInhibited 1 f ∷ []) (notSimple 1 t f ∷ [])))
 
-  pub dup-keeps : (u : ℕ) (old new : Word) (code : Part) → u ≤ 999999 → DupRead old new code → Keeps t (dupPlan t u old new code)
+  pub dup-keeps : (v u : ℕ) (to : Begin) (old new : Word) (code : Part) → u ≤ 999999 → DupRead old new to code
+      → Keeps t (dupPlan t v u to old new code)
   unfolding dupPlan run
-  dup-keeps u old new code m h =
-      end-keeps t u 1 old _ (λ e f _ r. holder-keeps t u 2 new _ (λ d q.
+  dup-keeps v u to old new code m h =
+      end-keeps t v 1 old _ (λ e f _ r. holder-keeps t u 2 new _ (λ d q.
       let s = walk-reached 65535 t c e (chainOf old) f r in
       let b : orElse code 0 ≤ 7 = at-most 7 0 code (h .code) (omega arith) in
       let j : ℕ = joined (entryCode (rec t (f .entry))) (orElse code 0) in
       let x = entered u new d j m (h .new) (joined-code _ _ (entry-code (rec t (f .entry)) (s .own)) b) q in
-      made-keeps 65535 (linking 2 d j (file t f) (lastName (chainOf new)))
-      (λ _. linking-made t 2 d j (file t f) (lastName (chainOf new)) c (s .heading) x) [] []))
+      made-keeps 65535 (linking t f d new code) (λ _. linking-made t f d new code c (s .heading) x) [] _))
 
   pub chn-kept : (u : ℕ) (old link : Word) → ChnRead old link → Keeps t (chnPlan t u old link)
   chn-kept u old link h =

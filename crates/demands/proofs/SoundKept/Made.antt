@@ -9,15 +9,17 @@ use native.Mathlib.Omega.{arith}
 use lib.ListN.{length}
 use borrow.Author.Tests.{eq-eqb}
 use Rattle.paper.specs.Scan.{at, nowhere}
-use Rattle.paper.specs.Record.{byte, directory, holderOf, headingNamed, userOf, nameOf, headingRecord, entryRecord}
+use Rattle.paper.specs.Record.{byte, entryCode, directory, holderOf, headingNamed, userOf, nameOf, headingRecord, entryRecord}
 use Rattle.paper.specs.Table.{rooms, rec, lay, frees, room}
+use Rattle.paper.specs.Declaration.{Part, orElse}
 use Rattle.paper.specs.Line.{Word}
+use Rattle.paper.specs.Code.{joined}
 use Rattle.paper.specs.Entry.{Holder, holder, bears, find, crowd, limit}
 use Rattle.paper.specs.Block.{blocks}
 use Rattle.paper.specs.Sound.{isBase, holderThere}
-use Rattle.paper.specs.Walk.{State, lastName}
+use Rattle.paper.specs.Walk.{State, file, lastName}
 use Rattle.paper.specs.Store.{Store, puts, run}
-use Rattle.paper.specs.Effect.{Making, borne, placing, newFile, chainOf, entryIn, filing}
+use Rattle.paper.specs.Effect.{Making, borne, placing, newFile, chainOf, filing, linking}
 use Rattle.laws.proofs.Tests.{or-left, or-right}
 use Rattle.laws.proofs.Fields.{heading-length, entry-record-kind, length-entry, entry-holder, entry-heading, entry-user, entry-name}
 use Rattle.laws.proofs.Entries.{link-short, found-bears, found-stands}
@@ -163,17 +165,18 @@ filing-made t place w d code heading text c n x =
     }
 
 -- DUP: an entry for a heading that is there
-abbrev pub linking : ℕ → State → ℕ → ℕ → List ℕ → Making
-linking place d code heading name = record { place = place; directory = d; name = name; first = []; entry = entryIn d code heading name }
-
-pub linking-made : (t : List ℕ) (place : ℕ) (d : State) (code heading : ℕ) (name : List ℕ) → Sound t → byte (rec t heading) 0 ≡ 1
-    → Entered t (d .holder) code name → Made 65535 t (linking place d code heading name)
+pub linking-made : (t : List ℕ) (f d : State) (new : Word) (code : Part) → Sound t → byte (rec t (file t f)) 0 ≡ 1
+    → Entered t (d .holder) (joined (entryCode (rec t (f .entry))) (orElse code 0)) (lastName (chainOf new))
+    → Made 65535 t (linking t f d new code)
 unfolding run
-linking-made t place d code heading name c k x =
+linking-made t f d new code c k x =
+    let heading : ℕ = file t f in
+    let both : ℕ = joined (entryCode (rec t (f .entry))) (orElse code 0) in
+    let name : List ℕ = lastName (chainOf new) in
     let l : heading < rooms t = within t heading (c .whole) (omega arith) in
     record {
       before = before-none t c;
-      fits = entry-fits t (d .holder) code heading name x 65535 t c (grown-none t) (omega (arith, c .few)) k (inr refl);
-      place = entry-place t (d .holder) code heading name x;
-      name = entry-named t (d .holder) code heading name x;
+      fits = entry-fits t (d .holder) both heading name x 65535 t c (grown-none t) (omega (arith, c .few)) k (inr refl);
+      place = entry-place t (d .holder) both heading name x;
+      name = entry-named t (d .holder) both heading name x;
     }

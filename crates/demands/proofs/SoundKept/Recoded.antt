@@ -35,7 +35,11 @@ module _ (r : List ℕ) (code : ℕ) (s : length r ≡ 32) (k : byte r 0 ≡ 1) 
   unfolding zeros
   zeros-same j n l = all-cong _ _ n (λ i b. rw (byte-same (j + i) (λ (z : j + i ≡ 3). omega arith)))
 
-  recoded-like : Like r (recoded r code)
+  pub length-recoded : length (recoded r code) ≡ 32
+  unfolding recoded
+  length-recoded = length-set r 3 code ∙ s
+
+  pub recoded-like : Like r (recoded r code)
   recoded-like =
       record {
         kind = byte-same 0 (omega arith);
@@ -71,6 +75,6 @@ unfolding recoded
 recoded-sound t h code c k b =
     let l = within t h (c .whole) (omega arith) in
     let s = length-rec t h l in
-    replaced-sound 65535 t h (recoded (rec t h) code) c l (length-set (rec t h) 3 code ∙ s) (recoded-like (rec t h) code s k)
+    replaced-sound 65535 t h (recoded (rec t h) code) c l (length-recoded (rec t h) code s k) (recoded-like (rec t h) code s k)
     (recoded-own (rec t h) code s k b (c .own h l .heading k))
     (λ (z : byte (recoded (rec t h) code) 0 ≡ 2). let y : ⊥ = omega (arith, byte-same (rec t h) code s k 0 (omega arith)) in absurd y)

@@ -37,7 +37,7 @@ module _ (r n : List ℕ) (s : length r ≡ 32) (k : byte r 0 ≡ 2) (b : length
   number-same : (w j : ℕ) → j + w ≤ 9 → numberAt w (renamed r n) j ≡ numberAt w r j
   number-same w j l = number-cong w (renamed r n) r j j (λ i m. byte-same (j + i) (omega arith))
 
-  renamed-like : Like r (renamed r n)
+  pub renamed-like : Like r (renamed r n)
   renamed-like =
       record {
         kind = byte-same 0 (omega arith);
@@ -45,6 +45,10 @@ module _ (r n : List ℕ) (s : length r ≡ 32) (k : byte r 0 ≡ 2) (b : length
         entry = λ _. record { holder = number-same 2 2 (omega arith); heading = number-same 2 4 (omega arith); user = number-same 3 6 (omega arith) };
         text = λ (q : byte r 0 ≡ 3). let z : ⊥ = omega arith in absurd z;
       }
+
+  pub length-renamed : length (renamed r n) ≡ 32
+  unfolding renamed
+  length-renamed = name-total (take 9 r) n front b
 
   renamed-own : EntryOwn r → linkName n ≡ true → implies (isBase r) (legalBase n) ≡ true → Own (renamed r n)
   unfolding renamed
@@ -76,7 +80,7 @@ pub renamed-sound : (t : List ℕ) (e : ℕ) (n : List ℕ) → Sound t → byte
     → find t (holder (rec t e)) n ≡ nowhere → Sound (lay t e (renamed (rec t e) n))
 unfolding renamed find
 renamed-sound t e n c k v u f =
-    replaced-sound 65535 t e (renamed (rec t e) n) c l (name-total (take 9 (rec t e)) n (front (rec t e) n s k b) b)
+    replaced-sound 65535 t e (renamed (rec t e) n) c l (length-renamed (rec t e) n s k b)
     (renamed-like (rec t e) n s k b) (renamed-own (rec t e) n s k b (c .own e l .entry k) v u)
     (λ _ j m d x. not-both (any-here (λ i. bears (holder (rec t e)) n (rec t i)) (rooms t) j m (rw (
       number-same (rec t e) n s k b 2 2 (omega arith),

@@ -16,13 +16,14 @@ use Rattle.paper.specs.Table.{rooms, rec, lay, frees, room}
 use Rattle.paper.specs.Declaration.{Part, orElse}
 use Rattle.paper.specs.Line.{Word}
 use Rattle.paper.specs.Check.{Check, passed, verdict}
+use Rattle.paper.specs.Request.{Begin}
 use Rattle.paper.specs.Code.{joined, noWrite}
 use Rattle.paper.specs.Entry.{named}
 use Rattle.paper.specs.Sound.{implies}
 use Rattle.paper.specs.Block.{block, fileText}
 use Rattle.paper.specs.Walk.{State, applies, file, reached, toLast, lastName}
 use Rattle.paper.specs.Store.{Store, puts, run}
-use Rattle.paper.specs.Effect.{Planned, plan, halted, chainOf, toHolder, toEnd, Making, borne, placing, needed, readInhibited, writeInhibited, notSimple, making, filing, newFile, freed, lost, settled, recoded, renamed, crdPlan, wrsPlan, cpyPlan, dupPlan, chnPlan, dprPlan, delPlan, rdsPlan, lstPlan, lstBasePlan}
+use Rattle.paper.specs.Effect.{Planned, plan, halted, chainOf, toHolder, toEnd, Making, borne, placing, needed, readInhibited, writeInhibited, notSimple, making, filing, linking, newFile, freed, lost, settled, recoded, renamed, crdPlan, wrsPlan, cpyPlan, dupPlan, chnPlan, dprPlan, delPlan, rdsPlan, lstPlan, lstBasePlan}
 use Rattle.laws.proofs.Tests.{truth, not-both, false-by, implies-use}
 use Rattle.laws.proofs.Scans.{any-here, any-none, all-true}
 use Rattle.laws.proofs.Lists.{Every, every-parts, every-append, every-imp}
@@ -185,21 +186,22 @@ module _ (t : List ℕ) (c : Sound t) where
   wrs-shape u body life lev code name l =
       holder-shape t u 2 name _ (λ d. filing-shape 2 name d 1 (orElse lev 0) (orElse code 0) life (length body) body [] [] l)
 
-  pub cpy-shape : (u : ℕ) (old new : Word) (life lev code : Part) → length (lastName (chainOf new)) ≤ 10
-      → Shape t (cpyPlan t u old new life lev code)
+  pub cpy-shape : (v u : ℕ) (old new : Word) (life lev code : Part) → length (lastName (chainOf new)) ≤ 10
+      → Shape t (cpyPlan t v u old new life lev code)
   unfolding cpyPlan
-  cpy-shape u old new life lev code l =
-      end-shape t u 1 old _ (λ _ f _. holder-shape t u 2 new _ (λ d.
+  cpy-shape v u old new life lev code l =
+      end-shape t v 1 old _ (λ _ f _. holder-shape t u 2 new _ (λ d.
       let source : List ℕ = rec t (file t f) in
       let body : List ℕ = fileText t (file t f) in
       filing-shape 2 new d 1 (orElse lev (level source)) (orElse code 0) (orElse life (lifetime source)) (length body) body
       (readInhibited 1 f ∷ []) (notSimple 1 t f ∷ []) l))
 
-  pub dup-shape : (u : ℕ) (old new : Word) (code : Part) → length (lastName (chainOf new)) ≤ 10 → Shape t (dupPlan t u old new code)
+  pub dup-shape : (v u : ℕ) (to : Begin) (old new : Word) (code : Part) → length (lastName (chainOf new)) ≤ 10
+      → Shape t (dupPlan t v u to old new code)
   unfolding dupPlan
-  dup-shape u old new code l =
-      end-shape t u 1 old _ (λ _ f _. holder-shape t u 2 new _ (λ d.
-      making-shape _ [] [] (λ _. tt) (length-entry _ (d .holder .heading) (file t f) (d .holder .user) (lastName (chainOf new)) l)
+  dup-shape v u to old new code l =
+      end-shape t v 1 old _ (λ _ f _. holder-shape t u 2 new _ (λ d.
+      making-shape (linking t f d new code) [] _ (λ _. tt) (length-entry _ (d .holder .heading) (file t f) (d .holder .user) (lastName (chainOf new)) l)
       (entry-record-kind _ (d .holder .heading) (file t f) (d .holder .user) (lastName (chainOf new)))))
 
   pub chn-shape : (u : ℕ) (old link : Word) → length (lastName (link .names)) ≤ 10 → Shape t (chnPlan t u old link)

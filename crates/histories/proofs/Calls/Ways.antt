@@ -5,7 +5,7 @@ use mathlib.Core.Path.{_≡_}
 use Prim.Native.Nat.{ℕ}
 use Rattle.paper.specs.Line.{Word}
 use Rattle.paper.specs.Request.{Request, crd, wrs, rds, cpy, dup, chn, del, dpr, lst, lstBase}
-use Rattle.paper.specs.Effect.{Planned, crdPlan, wrsPlan, rdsPlan, cpyPlan, dupPlan, chnPlan, dprPlan, lstPlan, lstBasePlan}
+use Rattle.paper.specs.Effect.{Planned, crdPlan, wrsPlan, rdsPlan, cpyPlan, dupPlan, chnPlan, dprPlan, lstPlan, lstBasePlan, listOf, begun}
 use Rattle.paper.specs.Answer.{ran, single, deleting, granted, requested}
 use Rattle.laws.proofs.Entries.{link-short}
 use Rattle.demands.proofs.Sound.Clauses.{Sound, sound-clauses}
@@ -27,14 +27,19 @@ module _ (t line text reply : List ℕ) (u : ℕ) where
       by-plan c (crdPlan t u name level code) (crd-shape t c u name level code (named-last name (h .name) .short))
   granted-way c (wrs lifetime level code name) h =
       by-plan c (wrsPlan t u text lifetime level code name) (wrs-shape t c u text lifetime level code name (named-last name (h .name) .short))
-  granted-way c (rds name) h = by-plan c (rdsPlan t u reply name) (rds-shape t c u reply name)
-  granted-way c (cpy old new lifetime level code) h =
-      by-plan c (cpyPlan t u old new lifetime level code) (cpy-shape t c u old new lifetime level code (named-last new (h .new) .short))
-  granted-way c (dup old new code) h = by-plan c (dupPlan t u old new code) (dup-shape t c u old new code (named-last new (h .new) .short))
+  granted-way c (rds from name) h =
+      by-plan c (rdsPlan t (listOf u from) reply (begun from name)) (rds-shape t c (listOf u from) reply (begun from name))
+  granted-way c (cpy from old new lifetime level code) h =
+      by-plan c (cpyPlan t (listOf u from) u (begun from old) new lifetime level code)
+      (cpy-shape t c (listOf u from) u (begun from old) new lifetime level code (named-last new (h .new) .short))
+  granted-way c (dup from old to new code) h =
+      by-plan c (dupPlan t (listOf u from) (listOf u to) to (begun from old) (begun to new) code)
+      (dup-shape t c (listOf u from) (listOf u to) to (begun from old) (begun to new) code (named-last (begun to new) (h .new) .short))
   granted-way c (chn old link) h = by-plan c (chnPlan t u old link) (chn-shape t c u old link (link-short _ (h .link) .1))
   granted-way c (del names) h = by-names c names
   granted-way c (dpr name code) h = by-plan c (dprPlan t u name code) (dpr-shape t c u name code (h .code))
-  granted-way c (lst name) h = by-plan c (lstPlan t u reply name) (lst-shape t c u reply name)
+  granted-way c (lst from name) h =
+      by-plan c (lstPlan t (listOf u from) reply (begun from name)) (lst-shape t c (listOf u from) reply (begun from name))
   granted-way c lstBase h = by-plan c (lstBasePlan t u reply) (lst-base-shape t c u reply)
 
   pub ways : Way t line text reply u

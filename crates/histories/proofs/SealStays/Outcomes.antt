@@ -18,7 +18,7 @@ use Rattle.paper.specs.Request.{Request, crd, wrs, rds, cpy, dup, chn, del, dpr
 use Rattle.paper.specs.Code.{noRead}
 use Rattle.paper.specs.Sound.{sound}
 use Rattle.paper.specs.Store.{Store, run}
-use Rattle.paper.specs.Effect.{Planned, crdPlan, wrsPlan, rdsPlan, cpyPlan, dupPlan, chnPlan, delPlan, dprPlan, lstPlan, lstBasePlan}
+use Rattle.paper.specs.Effect.{Planned, crdPlan, wrsPlan, rdsPlan, cpyPlan, dupPlan, chnPlan, delPlan, dprPlan, lstPlan, lstBasePlan, listOf, begun}
 use Rattle.paper.specs.Mend.{mendStores, mended}
 use Rattle.paper.specs.Answer.{Outcome, refusing, ran, single, oneName, deleting, granted, entrance, acted, admitted, requested, mendable, mendRun, mending}
 use Rattle.laws.proofs.Tests.{truth, same-truth}
@@ -120,22 +120,31 @@ module _ (h : ℕ) (t s text reply : List ℕ) (u j : ℕ) (v : Veil h t s) (c :
       let l = named-last name (w .name) .short in
       by-plan (wrsPlan t u text life lev code name) (wrsPlan s u text life lev code name)
       (wrs-shape t c u text life lev code name l) (wrs-same h t s v c n u text life lev code name l)
-  granted-agree (rds name) w =
-      by-plan (rdsPlan t u reply name) (rdsPlan s u reply name) (rds-shape t c u reply name) (rds-same h t s v c n u reply name)
-  granted-agree (cpy old new life lev code) w =
+  granted-agree (rds from name) w =
+      let a : ℕ = listOf u from in
+      let b : Word = begun from name in
+      by-plan (rdsPlan t a reply b) (rdsPlan s a reply b) (rds-shape t c a reply b) (rds-same h t s v c n a reply b)
+  granted-agree (cpy from old new life lev code) w =
       let l = named-last new (w .new) .short in
-      by-plan (cpyPlan t u old new life lev code) (cpyPlan s u old new life lev code)
-      (cpy-shape t c u old new life lev code l) (cpy-same h t s v c n u old new life lev code l)
-  granted-agree (dup old new code) w =
-      let l = named-last new (w .new) .short in
-      by-plan (dupPlan t u old new code) (dupPlan s u old new code) (dup-shape t c u old new code l) (dup-same h t s v c n u old new code l)
+      let a : ℕ = listOf u from in
+      let b : Word = begun from old in
+      by-plan (cpyPlan t a u b new life lev code) (cpyPlan s a u b new life lev code)
+      (cpy-shape t c a u b new life lev code l) (cpy-same h t s v c n a u b new life lev code l)
+  granted-agree (dup from old to new code) w =
+      let l = named-last (begun to new) (w .new) .short in
+      let a : ℕ = listOf u from in
+      let b : Word = begun from old in
+      by-plan (dupPlan t a (listOf u to) to b (begun to new) code) (dupPlan s a (listOf u to) to b (begun to new) code)
+      (dup-shape t c a (listOf u to) to b (begun to new) code l) (dup-same h t s v c n a (listOf u to) to b (begun to new) code l)
   granted-agree (chn old link) w =
       by-plan (chnPlan t u old link) (chnPlan s u old link) (chn-shape t c u old link (link-short _ (w .link) .1)) (chn-same h t s v c n u old link)
   granted-agree (del names) w = del-agree h names t s u reply j 0 0 c d (veiled v (λ _. n))
   granted-agree (dpr name code) w =
       by-plan (dprPlan t u name code) (dprPlan s u name code) (dpr-shape t c u name code (w .code)) (dpr-same h t s v c n u name code)
-  granted-agree (lst name) w =
-      by-plan (lstPlan t u reply name) (lstPlan s u reply name) (lst-shape t c u reply name) (lst-same h t s v c n u reply name)
+  granted-agree (lst from name) w =
+      let a : ℕ = listOf u from in
+      let b : Word = begun from name in
+      by-plan (lstPlan t a reply b) (lstPlan s a reply b) (lst-shape t c a reply b) (lst-same h t s v c n a reply b)
   granted-agree lstBase w = by-plan (lstBasePlan t u reply) (lstBasePlan s u reply) (lst-base-shape t c u reply) (lst-base-same h t s v c n u reply)
 
 -- ---- any table of a history

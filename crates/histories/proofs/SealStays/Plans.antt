@@ -14,11 +14,12 @@ use Rattle.paper.specs.Table.{rooms, rec, room}
 use Rattle.paper.specs.Declaration.{Part, orElse}
 use Rattle.paper.specs.Line.{Word}
 use Rattle.paper.specs.Check.{Refusal, Check, verdict, refused}
+use Rattle.paper.specs.Request.{Begin, own, takeOf, giveTo}
 use Rattle.paper.specs.Code.{joined, noRead}
 use Rattle.paper.specs.Sound.{implies}
 use Rattle.paper.specs.Block.{fileText}
 use Rattle.paper.specs.Walk.{State, start, applies, file, Walked, reached, stopped, toDirectory, toLast, lastName, lastFrom, endFrom, ended}
-use Rattle.paper.specs.Effect.{Planned, onward, inward, chainOf, toHolder, toEnd, Making, borne, placing, displacing, readInhibited, notSimple, making, filing, newFile, crdPlan, wrsPlan, cpyPlan, dupPlan, chnPlan, dprPlan, delPlan, rdsPlan, lstPlan, lstBasePlan}
+use Rattle.paper.specs.Effect.{Planned, onward, inward, chainOf, toHolder, toEnd, Making, borne, placing, displacing, readInhibited, notSimple, linkTaken, making, filing, linking, newFile, crdPlan, wrsPlan, cpyPlan, dupPlan, chnPlan, dprPlan, delPlan, rdsPlan, lstPlan, lstBasePlan}
 use Rattle.laws.proofs.Tests.{implies-use}
 use Rattle.laws.proofs.Scans.{all-true}
 use Rattle.laws.proofs.Fields.{length-entry}
@@ -143,11 +144,19 @@ module _ (h : ℕ) (t s : List ℕ) (v : Veil h t s) (c : Sound t) (seal : noRea
   unfolding wrsPlan
   wrs-same u body life lev code name l = holder-same u 2 name _ _ (λ d _. one (filing-same 2 name d (orElse code 0) _ body [] [] l))
 
-  pub dup-same : (u : ℕ) (old new : Word) (code : Part) → length (lastName (chainOf new)) ≤ 10 → Same (dupPlan t u old new code) (dupPlan s u old new code)
+  -- a give's 16
+  taken-same : (to : Begin) (m : Making) → linkTaken s to m ≡ linkTaken t to m
+  taken-same own m = refl
+  taken-same (takeOf n) m = refl
+  taken-same (giveTo n) m = rw (find-veil h t s v (m .directory .holder) (m .name))
+
+  pub dup-same : (a u : ℕ) (to : Begin) (old new : Word) (code : Part) → length (lastName (chainOf new)) ≤ 10
+      → Same (dupPlan t a u to old new code) (dupPlan s a u to old new code)
   unfolding dupPlan
-  dup-same u old new code l =
-      end-same u 1 old _ _ (λ o f r. holder-same u 2 new _ _ (λ d _.
-      one (rw (entry-same o f _ r) (making-same _ (length-entry _ (d .holder .heading) (file t f) (d .holder .user) (lastName (chainOf new)) l) [] []))))
+  dup-same a u to old new code l =
+      end-same a 1 old _ _ (λ o f r. holder-same u 2 new _ _ (λ d _.
+      one (rw (entry-same o f _ r, taken-same to (linking t f d new code))
+      (making-same _ (length-entry _ (d .holder .heading) (file t f) (d .holder .user) (lastName (chainOf new)) l) [] _))))
 
   pub chn-same : (u : ℕ) (old link : Word) → Same (chnPlan t u old link) (chnPlan s u old link)
   unfolding chnPlan
@@ -196,11 +205,11 @@ module _ (h : ℕ) (t s : List ℕ) (v : Veil h t s) (c : Sound t) (seal : noRea
   unfolding making
   refused-making m f a b x z = checked _ refl (thirteen f _ z)
 
-  pub cpy-same : (u : ℕ) (old new : Word) (life lev code : Part) → length (lastName (chainOf new)) ≤ 10
-      → Same (cpyPlan t u old new life lev code) (cpyPlan s u old new life lev code)
+  pub cpy-same : (a u : ℕ) (old new : Word) (life lev code : Part) → length (lastName (chainOf new)) ≤ 10
+      → Same (cpyPlan t a u old new life lev code) (cpyPlan s a u old new life lev code)
   unfolding cpyPlan
-  cpy-same u old new life lev code l =
-      end-same u 1 old _ _ (λ o f r. holder-same u 2 new _ _ (λ d _. by-cases (ℕ-discrete (file t f) h)
+  cpy-same a u old new life lev code l =
+      end-same a 1 old _ _ (λ o f r. holder-same u 2 new _ _ (λ d _. by-cases (ℕ-discrete (file t f) h)
       (λ (q : file t f ≡ h).
       let z = sealed o f _ r q in
       neither no-reading (refused-making _ f [] _ t z) (refused-making _ f [] _ s z))
