@@ -10,7 +10,9 @@ use lib.ListN.{length}
 use types.Run.{OneOf, miss}
 use Rattle.paper.specs.Request as asked
 use Rattle.paper.specs.Request.{crd, wrs, rds, cpy, dup, chn, del, dpr, lst, lstBase, request, unread, read, textTooLong}
+use Rattle.paper.specs.Request.{own, takeOf, giveTo}
 use Rattle.laws.proofs.Tests.{clash}
+use Rattle.words.specs.Shown.{beginShown, beginMeant}
 use Rattle.declarations.proofs.Parts.{lifetime-back, level-back, digit-back}
 use Rattle.reader.specs.Asked.{shownRequest, shownRead}
 use Rattle.reader.specs.Tied.{Tied, TiedRead}
@@ -24,17 +26,23 @@ use Rattle.reader.proofs.Ties.{tied}
 use Rattle.elephant.specs.Meant.{requestMeant}
 use Rattle.elephant.proofs.Grants.{word-there}
 
+begin-back : (b : asked.Begin) → beginMeant (beginShown b) ≡ b
+begin-back own = refl
+begin-back (takeOf n) = refl
+begin-back (giveTo n) = refl
+
 pub request-back : (line : List ℕ) (q : asked.Request) → Tied line q → requestMeant line (shownRequest q) ≡ q
 request-back line (crd w v d) t = rw (word-there line 1 w t, level-back v, digit-back d)
 request-back line (wrs f v d w) t = rw (word-there line 2 w t, level-back v, digit-back d)
-request-back line (rds w) t = rw (word-there line 1 w t)
-request-back line (cpy o n f v d) t =
-    rw (word-there line 1 o (t .0), word-there line 2 n (t .1), lifetime-back f, level-back v, digit-back d)
-request-back line (dup o n d) t = rw (word-there line 1 o (t .0), word-there line 2 n (t .1), digit-back d)
+request-back line (rds b w) t = rw (begin-back b, word-there line 1 w t)
+request-back line (cpy b o n f v d) t =
+    rw (begin-back b, word-there line 1 o (t .0), word-there line 2 n (t .1), lifetime-back f, level-back v, digit-back d)
+request-back line (dup b o e n d) t =
+    rw (begin-back b, begin-back e, word-there line 1 o (t .0), word-there line 2 n (t .1), digit-back d)
 request-back line (chn o l) t = rw (word-there line 1 o (t .0), word-there line 2 l (t .1))
 request-back line (del ws) t = ap del (sym t)
 request-back line (dpr w d) t = rw (word-there line 1 w t)
-request-back line (lst w) t = rw (word-there line 1 w t)
+request-back line (lst b w) t = rw (begin-back b, word-there line 1 w t)
 request-back line lstBase t = refl
 
 -- what was read, from what the reader answers
@@ -53,13 +61,13 @@ pub no-text : (line text : List ℕ) (r : Request) → OneOf (0 ∷ 2 ∷ 3 ∷ 
     → textTooLong (requestMeant line r) text ≡ false
 no-text line text (Crd n v d) h = refl
 no-text line text (Wrs f v d n) h = absurd (miss (0 ∷ 2 ∷ 3 ∷ 4 ∷ 5 ∷ 6 ∷ 7 ∷ 8 ∷ 9 ∷ []) 1 tt h)
-no-text line text (Rds n) h = refl
-no-text line text (Cpy o n f v d) h = refl
-no-text line text (Dup o n d) h = refl
+no-text line text (Rds b n) h = refl
+no-text line text (Cpy b o n f v d) h = refl
+no-text line text (Dup b o e n d) h = refl
 no-text line text (Chn o l) h = refl
 no-text line text (Del f n) h = refl
 no-text line text (Dpr n d) h = refl
-no-text line text (Lst n) h = refl
+no-text line text (Lst b n) h = refl
 no-text line text LstBase h = refl
 
 pub its-text : (line text : List ℕ) (r : Request) (f : ℕ) (v : Level) (d : Digit) (n : ℕ) → r ≡ Wrs f v d n

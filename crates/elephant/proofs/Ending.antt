@@ -9,12 +9,15 @@ use lib.Dec.{ltb}
 use lib.ListN.{getD, length, length-append}
 use Rattle.paper.specs.Scan as F
 use Rattle.paper.specs.Table.{sized, frees, room}
-use Rattle.paper.specs.Check.{check, Verdict, passed, refused, verdict}
+use Rattle.paper.specs.Check.{Check, check, Verdict, passed, refused, verdict}
 use Rattle.paper.specs.Entry.{Holder, full}
 use Rattle.paper.specs.Block.{blocks}
 use Rattle.paper.specs.Store.{puts}
 use Rattle.paper.specs.Answer.{plain}
-use Rattle.paper.specs.Effect.{Plan, plan, Making, newFile, placing, needed, borne, isFound, displacing, fullUp, stillPeopled, noRoom}
+use Rattle.paper.specs.Effect.{Plan, plan, Making, newFile, placing, needed, borne, isFound, displacing, fullUp, stillPeopled, noRoom, linkTaken}
+use Rattle.words.specs.Shown.{beginMeant}
+use Rattle.words.specs.declared.begin.Begin.{Begin}
+use Rattle.words.specs.declared.begin.Begin.the-variants.{Own, Take, Give}
 use Rattle.scans.specs.Shown.{foundShown}
 use Rattle.effects.specs.Listed.{freeRooms, textRooms}
 use Rattle.effects.specs.Stage.{Made, textStores, clearStores}
@@ -25,7 +28,7 @@ use Rattle.placing.specs.Placing.{met, losingBy, entryChecks, refusalShown, ent
 use Rattle.placing.specs.declared.Meets.{Meets}
 use Rattle.placing.specs.declared.Refusal.{Refusal}
 use Rattle.elephant.specs.Done.{Did}
-use Rattle.elephant.specs.Filing.{fileCount, fileStores, neededBy, storesBy, makingOf, ending, Ready}
+use Rattle.elephant.specs.Filing.{fileCount, fileStores, neededBy, storesBy, makingOf, takenBy, ending, Ready}
 use Rattle.elephant.specs.declared.filing.File.{File}
 use Rattle.elephant.proofs.Verdicts.{did-refused, did-stored}
 use Rattle.placing.proofs.Meeting.{displaced-loses, placed-settled}
@@ -63,18 +66,23 @@ first-stores t f text z l = go (f .new)
 
 -- ---- the verdict
 
+-- 16 to 19, by what is met
+abbrev allChecks : List ℕ → Begin → ℕ → Holder → Meets → ℕ → List Check
+allChecks t to place d m n = check (takenBy to (m .displaced)) 16 place ∷ entryChecks t place d m n
+
 -- number 0: no check refuses
-pub none-refuses : (t : List ℕ) (place : ℕ) (d : Holder) (m : Meets) (n : ℕ) → refusalShown (verdict (entryChecks t place d m n)) .number ≡ 0
-    → verdict (entryChecks t place d m n) ≡ passed
+pub none-refuses : (t : List ℕ) (to : Begin) (place : ℕ) (d : Holder) (m : Meets) (n : ℕ) → refusalShown (verdict (allChecks t to place d m n)) .number ≡ 0
+    → verdict (allChecks t to place d m n) ≡ passed
 unfolding verdict
-none-refuses t place d m n e = go (not (m .displaced) && full t d) (losingBy t m) (ltb (length (frees t)) n) e
+none-refuses t to place d m n e = go (takenBy to (m .displaced)) (not (m .displaced) && full t d) (losingBy t m) (ltb (length (frees t)) n) e
   where
-    go : (a b c : Bool) → refusalShown (verdict (check a 17 place ∷ check b 18 place ∷ check c 19 0 ∷ [])) .number ≡ 0
-        → verdict (check a 17 place ∷ check b 18 place ∷ check c 19 0 ∷ []) ≡ passed
-    go true b c e = let z : ⊥ = omega arith in absurd z
-    go false true c e = let z : ⊥ = omega arith in absurd z
-    go false false true e = let z : ⊥ = omega arith in absurd z
-    go false false false e = refl
+    go : (x a b c : Bool) → refusalShown (verdict (check x 16 place ∷ check a 17 place ∷ check b 18 place ∷ check c 19 0 ∷ [])) .number ≡ 0
+        → verdict (check x 16 place ∷ check a 17 place ∷ check b 18 place ∷ check c 19 0 ∷ []) ≡ passed
+    go true a b c e = let z : ⊥ = omega arith in absurd z
+    go false true b c e = let z : ⊥ = omega arith in absurd z
+    go false false true c e = let z : ⊥ = omega arith in absurd z
+    go false false false true e = let z : ⊥ = omega arith in absurd z
+    go false false false false e = refl
 
 -- ---- the plan
 
@@ -89,7 +97,7 @@ needed-by t m F.nowhere k free = refl
 
 module _
     (t r name text : List ℕ) (named : ℕ) (w : Ready t r name text named)
-    (place : ℕ) (d : State) (code : ℕ) (f : File) (free : ℕ) (isFree : free ≡ getD r (fileCount f text) 0) where
+    (place : ℕ) (to : Begin) (d : State) (code : ℕ) (f : File) (free : ℕ) (isFree : free ≡ getD r (fileCount f text) 0) where
   abbrev making : Making
   making = makingOf t place d name code named f text
 
@@ -104,7 +112,10 @@ module _
       rw first-length
       (sym (isFree ∙ rw (w .free) (free-room t (fileCount f text) (w .size) (omega (arith, file-count f text (w .few))))))
 
-  checks-met : (fullUp t making ∷ stillPeopled place (displacing t (borne t making) (making .entry)) ∷ noRoom t making ∷ [])
+  abbrev checks : List Check
+  checks = fullUp t making ∷ stillPeopled place (displacing t (borne t making) (making .entry)) ∷ noRoom t making ∷ []
+
+  checks-met : checks
       ≡ entryChecks t place (making .directory .holder) meets (neededBy (fileCount f text) (meets .displaced))
   checks-met =
       rw (
@@ -115,6 +126,20 @@ module _
         first-length,
       )
 
+  -- 16 before them
+  taken-met : verdict (linkTaken t (beginMeant to) making ++ checks)
+      ≡ verdict (allChecks t to place (making .directory .holder) meets (neededBy (fileCount f text) (meets .displaced)))
+  unfolding verdict
+  taken-met = go to
+    where
+      go : (b : Begin) → verdict (linkTaken t (beginMeant b) making ++ checks)
+          ≡ verdict (allChecks t b place (making .directory .holder) meets (neededBy (fileCount f text) (meets .displaced)))
+      go Own = ap verdict checks-met
+      go (Take n) = ap verdict checks-met
+      go (Give n) =
+          ap (λ (b : Bool). verdict (check b 16 place ∷ checks)) (is-displaced t (borne t making) named free)
+          ∙ ap (λ (cs : List Check). verdict (check (meets .displaced) 16 place ∷ cs)) checks-met
+
   stores-met : placing t making (borne t making) ≡ fileStores f r text ++ entryStores meets (making .entry) (textRooms t (meets .heading .0))
   stores-met =
       placed-settled t (w .size) (w .sound) code (d .holder .heading .0) named (d .holder .user) name (w .short) (w .small)
@@ -124,17 +149,17 @@ module _
   abbrev ends : Plan
   ends =
       record {
-        checks = fullUp t making ∷ stillPeopled place (displacing t (borne t making) (making .entry)) ∷ noRoom t making ∷ [];
+        checks = linkTaken t (beginMeant to) making ++ checks;
         stores = placing t making (borne t making);
         displaced = isFound (borne t making);
         reply = [];
       }
 
   module _ (k : ℕ) (m : Meets) (e : m ≡ meets) (c : Refusal)
-      (q : c ≡ refusalShown (verdict (entryChecks t place (making .directory .holder) m (neededBy (fileCount f text) (m .displaced))))) where
-    pub ends-refused : (c .number ≡ 0 → ⊥) → Did t k (ending t making) (shown (plain (c .number) (c .place) 0 0)) t
+      (q : c ≡ refusalShown (verdict (allChecks t to place (making .directory .holder) m (neededBy (fileCount f text) (m .displaced))))) where
+    pub ends-refused : (c .number ≡ 0 → ⊥) → Did t k (ending t (beginMeant to) making) (shown (plain (c .number) (c .place) 0 0)) t
     unfolding ending
-    ends-refused h = go (verdict (ends .checks)) refl (rw (checks-met, ← e) q)
+    ends-refused h = go (verdict (ends .checks)) refl (rw (taken-met, ← e) q)
       where
         go : (v : Verdict) → verdict (ends .checks) ≡ v → c ≡ refusalShown v → Did t k (plan ends) (shown (plain (c .number) (c .place) 0 0)) t
         go passed x y = absurd (h (ap (λ (s : Refusal). s .number) y))
@@ -142,12 +167,12 @@ module _
 
     pub ends-stored : c .number ≡ 0 → (u entry : List ℕ) (l : ℕ) → entry ≡ making .entry
         → Made t u k l (fileStores f r text ++ entryStores m entry (textRooms t (m .heading .0)))
-        → Did t k (ending t making) (shown (stored (storesBy (fileCount f text) m) k (m .displaced))) u
+        → Did t k (ending t (beginMeant to) making) (shown (stored (storesBy (fileCount f text) m) k (m .displaced))) u
     unfolding ending
     ends-stored h u entry l x y =
         let v : verdict (ends .checks) ≡ passed =
-        rw (checks-met, ← e)
-        (none-refuses t place (making .directory .holder) m (neededBy (fileCount f text) (m .displaced)) (sym (ap (λ (s : Refusal). s .number) q) ∙ h)) in
+        rw (taken-met, ← e)
+        (none-refuses t to place (making .directory .holder) m (neededBy (fileCount f text) (m .displaced)) (sym (ap (λ (s : Refusal). s .number) q) ∙ h)) in
         let s : ends .stores ≡ fileStores f r text ++ entryStores m entry (textRooms t (m .heading .0)) = rw (x, e) stores-met in
         let n : length (ends .stores) ≡ storesBy (fileCount f text) m =
         ap length s ∙ rw (length-append, stores-length f r text, entry-length m entry (textRooms t (m .heading .0))) in

@@ -7,10 +7,12 @@ use Rattle.paper.specs.Line.{Word}
 use Rattle.paper.specs.Walk as W
 use Rattle.paper.specs.Walk.{start, toDirectory, ended}
 use Rattle.paper.specs.Answer.{plain}
-use Rattle.paper.specs.Effect.{Planned, halted, chainOf, onward, inward, toHolder, toEnd}
+use Rattle.paper.specs.Effect.{Planned, halted, chainOf, onward, inward, toHolder, toEnd, listOf, begun}
 use Rattle.demands.proofs.Sound.Clauses.{sound-clauses}
 use Rattle.demands.proofs.Request.Walked.{walk-reached}
-use Rattle.walk.specs.Shown.{meant, walkedShown}
+use Rattle.words.specs.Shown.{beginMeant}
+use Rattle.words.specs.declared.begin.Begin.{Begin}
+use Rattle.walk.specs.Shown.{meant, walkedShown, begins, chainAt}
 use Rattle.walk.specs.Ends.{endShown, bothShown}
 use Rattle.walk.specs.declared.state.State.{State}
 use Rattle.walk.specs.declared.chain.Walked.the-variants.{Reached, Stopped}
@@ -39,42 +41,45 @@ module _ (t : List ℕ) (u place k : ℕ) (w : Word) (f : W.State → Planned) w
 
 -- ---- to a file
 
-module _ (t line : List ℕ) (u p place : ℕ) (g : W.State → W.State → Planned)
-    (r : End) (e : r ≡ endShown (ended t (start u) (chainOf (wordAt line p)))) where
-  module _ (n l : ℕ) (z : r ≡ Off n l) where
-    stops : toEnd t u place (wordAt line p) g ≡ halted (record { number = n; place = place; link = l })
-    stops = ap (λ (x : W.End). inward place x g) (end-astray (ended t (start u) (chainOf (wordAt line p))) n l (sym e ∙ z))
+module _ (t line : List ℕ) (u p : ℕ) (b : Begin) (place : ℕ) (g : W.State → W.State → Planned)
+    (r : End) (e : r ≡ endShown (ended t (begins u b) (chainAt line p b))) where
+  abbrev end : Planned
+  end = toEnd t (listOf u (beginMeant b)) place (begun (beginMeant b) (wordAt line p)) g
 
-    pub end-off : (k : ℕ) → Did t k (toEnd t u place (wordAt line p) g) (shown (plain n place 0 0)) t
+  module _ (n l : ℕ) (z : r ≡ Off n l) where
+    stops : end ≡ halted (record { number = n; place = place; link = l })
+    stops = ap (λ (x : W.End). inward place x g) (end-astray (ended t (begins u b) (chainAt line p b)) n l (sym e ∙ z))
+
+    pub end-off : (k : ℕ) → Did t k (end) (shown (plain n place 0 0)) t
     end-off k = rw stops (record { answer = refl; table = refl })
 
-    pub name-off : (k : ℕ) → Came t k (toEnd t u place (wordAt line p) g) (Refused n place) t
+    pub name-off : (k : ℕ) → Came t k (end) (Refused n place) t
     name-off k = rw stops (record { answer = refl; table = refl })
 
-    pub read-off : (reply : List ℕ) → Wrote t reply (toEnd t u place (wordAt line p) g) (shown (plain n place 0 0)) reply
+    pub read-off : (reply : List ℕ) → Wrote t reply (end) (shown (plain n place 0 0)) reply
     read-off reply = rw stops (record { answer = refl; reply = refl })
 
   module _ (d f : State) (z : r ≡ At d f) where
-    arrives : toEnd t u place (wordAt line p) g ≡ g (meant d) (meant f)
-    arrives = ap (λ (x : W.End). inward place x g) (end-arrived (ended t (start u) (chainOf (wordAt line p))) d f (sym e ∙ z))
+    arrives : end ≡ g (meant d) (meant f)
+    arrives = ap (λ (x : W.End). inward place x g) (end-arrived (ended t (begins u b) (chainAt line p b)) d f (sym e ∙ z))
 
-    pub end-at : (k : ℕ) (a : Answer) (v : List ℕ) → Did t k (g (meant d) (meant f)) a v → Did t k (toEnd t u place (wordAt line p) g) a v
+    pub end-at : (k : ℕ) (a : Answer) (v : List ℕ) → Did t k (g (meant d) (meant f)) a v → Did t k (end) a v
     end-at k a v w = rw arrives w
 
-    pub name-at : (k : ℕ) (a : Deleted) (v : List ℕ) → Came t k (g (meant d) (meant f)) a v → Came t k (toEnd t u place (wordAt line p) g) a v
+    pub name-at : (k : ℕ) (a : Deleted) (v : List ℕ) → Came t k (g (meant d) (meant f)) a v → Came t k (end) a v
     name-at k a v w = rw arrives w
 
     pub read-at : (reply : List ℕ) (a : Answer) (v : List ℕ) → Wrote t reply (g (meant d) (meant f)) a v
-        → Wrote t reply (toEnd t u place (wordAt line p) g) a v
+        → Wrote t reply (end) a v
     read-at reply a v w = rw arrives w
 
 -- the file is there
-pub filed : (t line : List ℕ) (u p : ℕ) (r : End) → r ≡ endShown (ended t (start u) (chainOf (wordAt line p))) → Fit t
+pub filed : (t line : List ℕ) (u p : ℕ) (b : Begin) (r : End) → r ≡ endShown (ended t (begins u b) (chainAt line p b)) → Fit t
     → (d f : State) → r ≡ At d f → Filed t (meant f)
-filed t line u p r e h d f z =
-    let ns : List (List ℕ) = chainOf (wordAt line p) in
-    let x = end-arrived (ended t (start u) ns) d f (sym e ∙ z) in
-    let w = walk-reached 65535 t (sound-clauses t (h .sized) (h .sound)) (meant d) ns (meant f) (arrived-last t (start u) ns (meant d) (meant f) x) in
+filed t line u p b r e h d f z =
+    let ns : List (List ℕ) = chainAt line p b in
+    let x = end-arrived (ended t (begins u b) ns) d f (sym e ∙ z) in
+    let w = walk-reached 65535 t (sound-clauses t (h .sized) (h .sound)) (meant d) ns (meant f) (arrived-last t (begins u b) ns (meant d) (meant f) x) in
     record { fit = h; entry = w .looked .within; heading = w .within; kind = w .heading }
 
 -- ---- to a file and to a directory
@@ -89,14 +94,16 @@ both-plan (W.astray n l) w g = refl
 both-plan (W.arrived d f) (W.stopped n l) g = refl
 both-plan (W.arrived d f) (W.reached s) g = refl
 
-module _ (t line : List ℕ) (u old new : ℕ) (g : W.State → W.State → Planned) (r : Both)
-    (e : r ≡ bothShown (ended t (start u) (chainOf (wordAt line old))) (toDirectory t 1 (start u) (chainOf (wordAt line new)))) where
+module _ (t line : List ℕ) (u : ℕ) (from : Begin) (old : ℕ) (to : Begin) (new : ℕ) (g : W.State → W.State → Planned) (r : Both)
+    (e : r ≡ bothShown (ended t (begins u from) (chainAt line old from)) (toDirectory t 1 (begins u to) (chainAt line new to))) where
   abbrev whole : Planned
-  whole = toEnd t u 1 (wordAt line old) (λ _ f. toHolder t u 2 (wordAt line new) (g f))
+  whole =
+      toEnd t (listOf u (beginMeant from)) 1 (begun (beginMeant from) (wordAt line old))
+      (λ _ f. toHolder t (listOf u (beginMeant to)) 2 (begun (beginMeant to) (wordAt line new)) (g f))
 
   came : (x : Both) → r ≡ x → whole ≡ bothPlan x g
   came x z =
-      both-plan (ended t (start u) (chainOf (wordAt line old))) (toDirectory t 1 (start u) (chainOf (wordAt line new))) g
+      both-plan (ended t (begins u from) (chainAt line old from)) (toDirectory t 1 (begins u to) (chainAt line new to)) g
       ∙ ap (λ (y : Both). bothPlan y g) (sym e ∙ z)
 
   pub both-stops : (k n q l : ℕ) → r ≡ both.Off n q l → Did t k whole (shown (plain n q 0 0)) t

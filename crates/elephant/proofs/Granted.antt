@@ -1,16 +1,23 @@
 -- Each function on a request that was admitted: what it stands on follows from what was read, and its promise is the request's.
 -- One law of each kind for a function, so that the choice of the function only cites them.
-use mathlib.Core.List.{List, []}
+use mathlib.Core.Bool.{true, false}
+use mathlib.Core.List.{List, [], _∷_}
+use mathlib.Core.Logic.{_⊎_, inl, inr}
 use mathlib.Core.Path.{_≡_, refl, sym, ap, _∙_, subst}
 use Prim.Native.Nat.{ℕ, _≤_}
 use native.Mathlib.Omega.{arith}
 use lib.ListN.{length, drop}
-use Rattle.paper.specs.Line.{words, word}
+use Rattle.paper.specs.Line.{Word, words, word}
+use Rattle.paper.specs.Name.{dotG, pointed, chain}
 use Rattle.paper.specs.Request.{request, asked}
-use Rattle.paper.specs.Effect.{Planned, crdPlan, wrsPlan, rdsPlan, cpyPlan, dupPlan, chnPlan, dprPlan, lstPlan, lstBasePlan}
+use Rattle.paper.specs.Effect.{Planned, crdPlan, wrsPlan, rdsPlan, cpyPlan, dupPlan, chnPlan, dprPlan, lstPlan, lstBasePlan, chainOf, listOf, begun}
 use Rattle.paper.specs.Walk.{lastName}
 use Rattle.paper.specs.Answer.{Outcome, granted, requested, ran, single}
-use Rattle.words.specs.Place.{namesFrom}
+use Rattle.laws.proofs.Tests.{truth}
+use Rattle.words.specs.Place.{joined, namesFrom}
+use Rattle.words.specs.Shown.{beginMeant}
+use Rattle.words.specs.declared.begin.Begin.{Begin}
+use Rattle.words.specs.declared.begin.Begin.the-variants.{Own, Take, Give}
 use Rattle.declarations.specs.Given.{lifetimePart, levelPart, digitPart}
 use Rattle.declarations.specs.declared.part.Lifetime.{Lifetime}
 use Rattle.declarations.specs.declared.part.Level.{Level}
@@ -19,10 +26,13 @@ use Rattle.reader.specs.declared.request.Request.{Request}
 use Rattle.reader.specs.declared.request.Request.the-variants.{Crd, Wrs, Rds, Cpy, Dup, Chn, Del, Dpr, Lst, LstBase}
 use Rattle.reader.specs.declared.request.Read.the-variants.{Granted}
 use Rattle.demands.proofs.Request.Read.{Told}
+use Rattle.demands.proofs.Request.Begun.{Gives}
 use Rattle.demands.proofs.Request.Formed as formed
 use Rattle.demands.proofs.Request.Formed.{named-last}
+use Rattle.walk.specs.Shown.{chainAt}
+use Rattle.walk.proofs.Chains.{rest-one, last-instead}
 use Rattle.elephant.specs.Done.{wordAt, Did, Wrote}
-use Rattle.elephant.specs.Filing.{Named}
+use Rattle.elephant.specs.Filing.{Named, Linked}
 use Rattle.elephant.specs.Deleted.{CameAll}
 use Rattle.elephant.specs.Reading.{reading}
 use Rattle.elephant.specs.declared.reply.Sheet.the-variants.{Text, Lines}
@@ -33,6 +43,18 @@ use Rattle.answers.specs.declared.Answer.{Answer}
 use Rattle.elephant.proofs.Grants.{Silent, Storeless, crd-silent, wrs-silent, cpy-silent, dup-silent, chn-silent, dpr-silent, rds-storeless, lst-storeless, lst-base-storeless}
 use Rattle.elephant.proofs.Promises.{promised-storing, promised-writing, promised-names}
 use Rattle.elephant.proofs.Requests.{requested-granted, asked-granted, del-read, told, link-short, names-first}
+
+-- a give has one link, the last name that is written
+give-last : (line : List ℕ) (to : Begin) (p : ℕ) → Gives (beginMeant to) (begun (beginMeant to) (wordAt line p))
+    → lastName (chainAt line p to) ≡ lastName (chainOf (wordAt line p))
+unfolding chain pointed
+give-last line Own p g = refl
+give-last line (Take n) p g = absurd g
+give-last line (Give n) p g = go (truth (joined line p))
+  where
+    go : (joined line p ≡ true) ⊎ (joined line p ≡ false) → lastName (dotG ∷ drop 1 (namesFrom line p)) ≡ lastName (chain (namesFrom line p))
+    go (inl j) = last-instead line p dotG j
+    go (inr j) = let z : ⊥ = omega (arith, g .1, ap length (rest-one line p j)) in absurd z
 
 module _ {t line text : List ℕ} {u : ℕ} {r : Request} (a : Admitted t line text u r) where
   -- what was asked, what that tells, and what it comes to
@@ -59,11 +81,23 @@ module _ {t line text : List ℕ} {u : ℕ} {r : Request} (a : Admitted t line t
   pub wrs-ready : (f : ℕ) (l : Level) (d : Digit) (p : ℕ) → r ≡ Wrs f l d p → Named t line p text
   wrs-ready f l d p e = new-named p text (hears (Wrs f l d p) e .name) (hears (Wrs f l d p) e .text)
 
-  pub cpy-ready : (o n : ℕ) (f : Lifetime) (l : Level) (d : Digit) → r ≡ Cpy o n f l d → Named t line n []
-  cpy-ready o n f l d e = new-named n [] (hears (Cpy o n f l d) e .new) (omega arith)
+  pub cpy-ready : (b : Begin) (o n : ℕ) (f : Lifetime) (l : Level) (d : Digit) → r ≡ Cpy b o n f l d → Named t line n []
+  cpy-ready b o n f l d e = new-named n [] (hears (Cpy b o n f l d) e .new) (omega arith)
 
-  pub dup-ready : (o n : ℕ) (d : Digit) → r ≡ Dup o n d → Named t line n []
-  dup-ready o n d e = new-named n [] (hears (Dup o n d) e .new) (omega arith)
+  pub dup-ready : (b : Begin) (o : ℕ) (to : Begin) (n : ℕ) (d : Digit) → r ≡ Dup b o to n d → Linked t line to n
+  dup-ready b o to n d e =
+      let h = hears (Dup b o to n d) e in
+      let q = give-last line to n (h .gives) in
+      record {
+        named =
+            record {
+              size = a .fit .sized;
+              sound = a .fit .sound;
+              short = rw (← q) (named-last (begun (beginMeant to) (wordAt line n)) (h .new) .short);
+              few = omega arith;
+            };
+        last = q;
+      }
 
   pub chn-ready : (o l : ℕ) → r ≡ Chn o l → length (lastName (namesFrom line l)) ≤ 10
   chn-ready o l e = link-short line text (wordAt line o) (wordAt line l) (asks (Chn o l) e)
@@ -75,6 +109,13 @@ module _ {t line text : List ℕ} {u : ℕ} {r : Request} (a : Admitted t line t
       (d .0 ∙ w .0, d .1, rw (d .1) (w .1))
 
   -- ---- what each comes to
+
+  -- whose base list a chain starts in, and its word there
+  abbrev list : Begin → ℕ
+  list b = listOf u (beginMeant b)
+
+  abbrev from : Begin → ℕ → Word
+  from b p = begun (beginMeant b) (wordAt line p)
 
   module _ (reply : List ℕ) (k : ℕ) (z : Answer) (v : List ℕ) where
     -- a plan that stores
@@ -101,20 +142,21 @@ module _ {t line text : List ℕ} {u : ℕ} {r : Request} (a : Admitted t line t
         let x : Planned = wrsPlan t u text f (levelPart l) (digitPart d) (wordAt line p) in
         storing-done (Wrs f l d p) e x refl (wrs-silent t u text f (levelPart l) (digitPart d) (wordAt line p)) h
 
-    pub cpy-done : (o n : ℕ) (f : Lifetime) (l : Level) (d : Digit) → r ≡ Cpy o n f l d
-        → Did t k (cpyPlan t u (wordAt line o) (wordAt line n) (lifetimePart f) (levelPart l) (digitPart d)) z v
+    pub cpy-done : (b : Begin) (o n : ℕ) (f : Lifetime) (l : Level) (d : Digit) → r ≡ Cpy b o n f l d
+        → Did t k (cpyPlan t (list b) u (from b o) (wordAt line n) (lifetimePart f) (levelPart l) (digitPart d)) z v
         → Promised (requested t line text reply u k) z v reply
     unfolding granted
-    cpy-done o n f l d e h =
-        let x : Planned = cpyPlan t u (wordAt line o) (wordAt line n) (lifetimePart f) (levelPart l) (digitPart d) in
-        storing-done (Cpy o n f l d) e x refl (cpy-silent t u (wordAt line o) (wordAt line n) (lifetimePart f) (levelPart l) (digitPart d)) h
+    cpy-done b o n f l d e h =
+        let x : Planned = cpyPlan t (list b) u (from b o) (wordAt line n) (lifetimePart f) (levelPart l) (digitPart d) in
+        storing-done (Cpy b o n f l d) e x refl (cpy-silent t (list b) u (from b o) (wordAt line n) (lifetimePart f) (levelPart l) (digitPart d)) h
 
-    pub dup-done : (o n : ℕ) (d : Digit) → r ≡ Dup o n d → Did t k (dupPlan t u (wordAt line o) (wordAt line n) (digitPart d)) z v
+    pub dup-done : (b : Begin) (o : ℕ) (to : Begin) (n : ℕ) (d : Digit) → r ≡ Dup b o to n d
+        → Did t k (dupPlan t (list b) (list to) (beginMeant to) (from b o) (from to n) (digitPart d)) z v
         → Promised (requested t line text reply u k) z v reply
     unfolding granted
-    dup-done o n d e h =
-        let x : Planned = dupPlan t u (wordAt line o) (wordAt line n) (digitPart d) in
-        storing-done (Dup o n d) e x refl (dup-silent t u (wordAt line o) (wordAt line n) (digitPart d)) h
+    dup-done b o to n d e h =
+        let x : Planned = dupPlan t (list b) (list to) (beginMeant to) (from b o) (from to n) (digitPart d) in
+        storing-done (Dup b o to n d) e x refl (dup-silent t (list b) (list to) (beginMeant to) (from b o) (from to n) (digitPart d)) h
 
     pub chn-done : (o l : ℕ) → r ≡ Chn o l → Did t k (chnPlan t u (wordAt line o) (wordAt line l)) z v
         → Promised (requested t line text reply u k) z v reply
@@ -131,13 +173,15 @@ module _ {t line text : List ℕ} {u : ℕ} {r : Request} (a : Admitted t line t
     del-done p n e h =
         subst (λ (o : Outcome). Promised o z v reply) (sym (comes (Del p n) e reply k)) (promised-names t u reply k (drop 1 (words line)) z v h)
 
-    pub rds-done : (p : ℕ) → r ≡ Rds p → Wrote t reply (reading Text t u reply (wordAt line p)) z v → Promised (requested t line text reply u k) z t v
+    pub rds-done : (b : Begin) (p : ℕ) → r ≡ Rds b p → Wrote t reply (reading Text t (list b) reply (from b p)) z v
+        → Promised (requested t line text reply u k) z t v
     unfolding granted rdsPlan
-    rds-done p e h = writing-done (Rds p) e (rdsPlan t u reply (wordAt line p)) refl (rds-storeless t u reply (wordAt line p)) h
+    rds-done b p e h = writing-done (Rds b p) e (rdsPlan t (list b) reply (from b p)) refl (rds-storeless t (list b) reply (from b p)) h
 
-    pub lst-done : (p : ℕ) → r ≡ Lst p → Wrote t reply (reading Lines t u reply (wordAt line p)) z v → Promised (requested t line text reply u k) z t v
+    pub lst-done : (b : Begin) (p : ℕ) → r ≡ Lst b p → Wrote t reply (reading Lines t (list b) reply (from b p)) z v
+        → Promised (requested t line text reply u k) z t v
     unfolding granted lstPlan
-    lst-done p e h = writing-done (Lst p) e (lstPlan t u reply (wordAt line p)) refl (lst-storeless t u reply (wordAt line p)) h
+    lst-done b p e h = writing-done (Lst b p) e (lstPlan t (list b) reply (from b p)) refl (lst-storeless t (list b) reply (from b p)) h
 
     pub lst-base-done : r ≡ LstBase → Wrote t reply (lstBasePlan t u reply) z v → Promised (requested t line text reply u k) z t v
     unfolding granted

@@ -11,6 +11,7 @@ use mathlib.Core.Bool.{Bool, true, false, cond}
 use Rattle.paper.specs.Check.{Check, Verdict, passed, refused, verdict}
 use Rattle.paper.specs.Declaration.{Part}
 use Rattle.paper.specs.Line.{Word, word}
+use Rattle.paper.specs.Request.{Begin}
 use Rattle.paper.specs.Effect.{Planned, plan, halted, Making, making, crdPlan, wrsPlan, cpyPlan, dupPlan, chnPlan, dprPlan, delPlan, rdsPlan, lstPlan, lstBasePlan}
 use Rattle.paper.specs.Answer.{Outcome, Ran, refusedBy, done, cut, stores, ran, single, oneName, deleting}
 use Rattle.paper.specs.Store.{run}
@@ -64,15 +65,15 @@ pub wrs-silent : (t : List ℕ) (u : ℕ) (text : List ℕ) (lifetime : ℕ) (le
 unfolding wrsPlan
 wrs-silent t u text lifetime level code name = holder-by Silent 2 (λ _ _ _. tt) t u name _ (λ d _. making-silent t _ _ _)
 
-pub cpy-silent : (t : List ℕ) (u : ℕ) (old new : Word) (lifetime level code : Part) → Silent (cpyPlan t u old new lifetime level code)
+pub cpy-silent : (t : List ℕ) (v u : ℕ) (old new : Word) (lifetime level code : Part) → Silent (cpyPlan t v u old new lifetime level code)
 unfolding cpyPlan
-cpy-silent t u old new lifetime level code =
-    end-by Silent 1 (λ _ _ _. tt) t u old _ (λ _ f _ _. holder-by Silent 2 (λ _ _ _. tt) t u new _ (λ d _. making-silent t _ _ _))
+cpy-silent t v u old new lifetime level code =
+    end-by Silent 1 (λ _ _ _. tt) t v old _ (λ _ f _ _. holder-by Silent 2 (λ _ _ _. tt) t u new _ (λ d _. making-silent t _ _ _))
 
-pub dup-silent : (t : List ℕ) (u : ℕ) (old new : Word) (code : Part) → Silent (dupPlan t u old new code)
+pub dup-silent : (t : List ℕ) (v u : ℕ) (to : Begin) (old new : Word) (code : Part) → Silent (dupPlan t v u to old new code)
 unfolding dupPlan
-dup-silent t u old new code =
-    end-by Silent 1 (λ _ _ _. tt) t u old _ (λ _ f _ _. holder-by Silent 2 (λ _ _ _. tt) t u new _ (λ d _. making-silent t _ _ _))
+dup-silent t v u to old new code =
+    end-by Silent 1 (λ _ _ _. tt) t v old _ (λ _ f _ _. holder-by Silent 2 (λ _ _ _. tt) t u new _ (λ d _. making-silent t _ _ _))
 
 pub chn-silent : (t : List ℕ) (u : ℕ) (old link : Word) → Silent (chnPlan t u old link)
 unfolding chnPlan

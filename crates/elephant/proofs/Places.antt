@@ -84,21 +84,21 @@ module _ (line : List ℕ) where
 
   near-rds : Near (readRds line)
   unfolding readRds
-  near-rds = near-as _ _ (omega arith, misnamed-near 1 2 line (omega arith))
+  near-rds = near-as _ _ (omega arith, (omega arith, (omega arith, tt)))
 
   near-lst : Near (readLst line)
   unfolding readLst
   near-lst =
       either Near (lonePoint (word line 1 .names)) _ _ (near-as _ _ (omega arith, tt))
-      (near-as _ _ (omega arith, misnamed-near 1 2 line (omega arith)))
+      (near-as _ _ (omega arith, (omega arith, (omega arith, tt))))
 
   near-cpy : Near (readCpy line)
   unfolding readCpy
-  near-cpy = near-names _ 2 3 1 3 _ (omega arith) (omega arith, tt)
+  near-cpy = near-as _ _ (omega arith, (omega arith, (omega arith, (omega arith, (omega arith, (omega arith, tt))))))
 
   near-dup : Near (readDup line)
   unfolding readDup
-  near-dup = near-names _ 2 3 1 3 _ (omega arith) (omega arith, tt)
+  near-dup = near-as _ _ (omega arith, (omega arith, (omega arith, (omega arith, (omega arith, (omega arith, tt))))))
 
   near-chn : Near (readChn line)
   unfolding readChn

@@ -12,7 +12,8 @@ use Rattle.paper.specs.Check.{Check, Verdict, passed, verdict, refused}
 use Rattle.paper.specs.Store.{Store}
 use Rattle.paper.specs.Code.{noWrite}
 use Rattle.paper.specs.Answer.{Outcome, plain, single, stores, done, cut}
-use Rattle.paper.specs.Effect.{Plan, Planned, plan, Making, making}
+use Rattle.paper.specs.Request.{Begin, own}
+use Rattle.paper.specs.Effect.{Plan, Planned, plan, Making, making, linkTaken}
 use Rattle.laws.proofs.Lists.{length-each, getD-each}
 use Rattle.effects.specs.Listed.{freeRooms}
 use Rattle.answers.specs.Shown.{shown}
@@ -48,13 +49,15 @@ module _ (t : List ℕ) (k : ℕ) (ss : List Store) (b : Bool) where
 -- ---- 14
 
 module _ (t : List ℕ) (k : ℕ) (m : Making) where
-  pub shut-refused : noWrite (m .directory .code) ≡ true → Did t k (making t m [] []) (shown (plain 14 (m .place) 0 0)) t
+  pub shut-refused : (cs : List Check) → noWrite (m .directory .code) ≡ true → Did t k (making t m [] cs) (shown (plain 14 (m .place) 0 0)) t
   unfolding making
-  shut-refused e = did-refused t k _ _ (first-holds _ _ e)
+  shut-refused cs e = did-refused t k _ _ (first-holds _ _ e)
 
-  pub open-ends : (r : Answer) (u : List ℕ) → noWrite (m .directory .code) ≡ false → Did t k (ending t m) r u → Did t k (making t m [] []) r u
+  pub open-ends : (to : Begin) (r : Answer) (u : List ℕ) → noWrite (m .directory .code) ≡ false → Did t k (ending t to m) r u
+      → Did t k (making t m [] (linkTaken t to m)) r u
   unfolding making ending
-  open-ends r u e w = did-same t u k (making t m [] []) (ending t m) r (did-alike t k _ _ _ _ (first-passes _ _ e)) w
+  open-ends to r u e w =
+      did-same t u k (making t m [] (linkTaken t to m)) (ending t to m) r (did-alike t k _ _ _ _ (first-passes _ _ e)) w
 
 -- 13, 14 and 15 of CPY, in that order
 module _ (t : List ℕ) (k : ℕ) (m : Making) (c e : Check) where
@@ -71,11 +74,11 @@ module _ (t : List ℕ) (k : ℕ) (m : Making) (c e : Check) where
   unfolding making
   copy-third x y z = did-refused t k _ _ (first-passes _ _ x ∙ first-passes _ _ y ∙ first-holds _ _ z)
 
-  pub copy-ends : (r : Answer) (u : List ℕ) → c .when ≡ false → noWrite (m .directory .code) ≡ false → e .when ≡ false → Did t k (ending t m) r u
+  pub copy-ends : (r : Answer) (u : List ℕ) → c .when ≡ false → noWrite (m .directory .code) ≡ false → e .when ≡ false → Did t k (ending t own m) r u
       → Did t k (making t m (c ∷ []) (e ∷ [])) r u
   unfolding making ending
   copy-ends r u x y z w =
-      did-same t u k (making t m (c ∷ []) (e ∷ [])) (ending t m) r (did-alike t k _ _ _ _ (first-passes _ _ x ∙ first-passes _ _ y ∙ first-passes _ _ z)) w
+      did-same t u k (making t m (c ∷ []) (e ∷ [])) (ending t own m) r (did-alike t k _ _ _ _ (first-passes _ _ x ∙ first-passes _ _ y ∙ first-passes _ _ z)) w
 
 -- ---- a new file
 

@@ -1,23 +1,24 @@
 -- A new entry and, before it, the stores of a new file if it names one: how many, and the plan that they are.
 use mathlib.Core.Bool.{Bool, true, false, cond}
-use mathlib.Core.List.{List, [], _∷_}
+use mathlib.Core.List.{List, [], _∷_, _++_}
 use mathlib.Core.Path.{_≡_}
 use Prim.Native.Nat.{ℕ, _+_, _≤_, _<_}
 use lib.ListN.{getD, length}
-use Rattle.paper.specs.Record.{entryCode, headingNamed}
 use Rattle.paper.specs.Table.{sized, rec}
 use Rattle.paper.specs.Declaration.{Part, orElse}
 use Rattle.paper.specs.Line.{Word}
-use Rattle.paper.specs.Code.{joined}
+use Rattle.paper.specs.Request as asked
 use Rattle.paper.specs.Block.{blocks, fileText}
 use Rattle.paper.specs.Sound.{sound}
 use Rattle.paper.specs.Store.{Store, puts}
-use Rattle.paper.specs.Effect.{Making, Planned, plan, borne, isFound, placing, fullUp, displacing, stillPeopled, noRoom, newFile, entryIn, chainOf, filing, copyHeading}
+use Rattle.paper.specs.Effect.{Making, Planned, plan, borne, isFound, placing, fullUp, displacing, stillPeopled, noRoom, newFile, entryIn, chainOf, filing, copyHeading, making, linking, linkTaken}
 use Rattle.paper.specs.Walk as W
 use Rattle.paper.specs.Walk.{lastName}
+use Rattle.words.specs.declared.begin.Begin.{Begin}
+use Rattle.words.specs.declared.begin.Begin.the-variants.{Own, Take, Give}
 use Rattle.effects.specs.Listed.{freeRooms}
 use Rattle.effects.specs.Stage.{textStores}
-use Rattle.walk.specs.Shown.{meant}
+use Rattle.walk.specs.Shown.{meant, chainAt}
 use Rattle.walk.specs.declared.state.State.{State}
 use Rattle.placing.specs.declared.Meets.{Meets}
 use Rattle.elephant.specs.Done.{wordAt}
@@ -51,11 +52,17 @@ makingOf t place d name code named f text =
       entry = entryIn (meant d) code named name;
     }
 
+-- 16, "A give never displaces.", by what is met
+abbrev pub takenBy : Begin → Bool → Bool
+takenBy Own displaced = false
+takenBy (Take user) displaced = false
+takenBy (Give user) displaced = displaced
+
 -- a new entry's plan after the checks 13, 14 and 15
-unfoldable pub ending : List ℕ → Making → Planned
-ending t m =
+unfoldable pub ending : List ℕ → asked.Begin → Making → Planned
+ending t to m =
     plan (record {
-      checks = fullUp t m ∷ stillPeopled (m .place) (displacing t (borne t m) (m .entry)) ∷ noRoom t m ∷ [];
+      checks = linkTaken t to m ++ fullUp t m ∷ stillPeopled (m .place) (displacing t (borne t m) (m .entry)) ∷ noRoom t m ∷ [];
       stores = placing t m (borne t m);
       displaced = isFound (borne t m);
       reply = [];
@@ -77,16 +84,14 @@ pub record Named (t line : List ℕ) (p : ℕ) (text : List ℕ) : Type 0 where
   pub short : length (lastName (chainOf (wordAt line p))) ≤ 10
   pub few : length text ≤ 24000
 
--- DUP's making: an entry of the file that entry e names, its code e's joined with this one
-abbrev pub second : List ℕ → Word → W.State → ℕ → ℕ → Making
-second t w d e code =
-    record {
-      place = 2;
-      directory = d;
-      name = lastName (chainOf w);
-      first = [];
-      entry = entryIn d (joined (entryCode (rec t e)) code) (headingNamed (rec t e)) (lastName (chainOf w));
-    }
+-- .. and a new name that begins so: its last name is the one that is written
+pub record Linked (t line : List ℕ) (to : Begin) (p : ℕ) : Type 0 where
+  pub named : Named t line p []
+  pub last : lastName (chainAt line p to) ≡ lastName (chainOf (wordAt line p))
+
+-- DUP at the end of its walks: the entry of the file that f came to, in d
+abbrev pub linkingIn : List ℕ → asked.Begin → Word → Part → W.State → W.State → Planned
+linkingIn t to new code f d = making t (linking t f d new code) [] (linkTaken t to (linking t f d new code))
 
 -- CPY's making: a new file with the text of heading h, and what is not declared from it
 abbrev pub copied : List ℕ → Word → W.State → ℕ → Part → Part → Part → Making

@@ -12,6 +12,7 @@ use walk::chain::last_name;
 use walk::end::End;
 use walk::end::to_end;
 use walk::state::State;
+use words::begin::Begin;
 ghost use Prim.Native.Nat.{_≤_};
 ghost use lib.ListN.{length};
 ghost use Rattle.paper.specs.Effect.{chnAt, chnPlan, dprAt, dprPlan};
@@ -50,7 +51,7 @@ pub(crate) fn dpr(
     requires { ⌜ Fit (now table) ⌝ }
     ensures { λ r. ⌜ Did (now (table .entry)) stop (dprPlan (now (table .entry)) user (wordAt (now (line .entry)) name) code) r (now (table .exit)) ⌝ }
 {
-    let end = to_end(table, line, name, user);
+    let end = to_end(table, line, name, Begin::Own, user);
     match end {
         End::Off { number, link: _ } => Answer::refused(number, 1),
         End::At(_, f) => dpr_at(table, f, code, stop),
@@ -88,7 +89,7 @@ pub(crate) fn chn(
     ensures { λ r. ⌜ Did (now (table .entry)) stop
         (chnPlan (now (table .entry)) user (wordAt (now (line .entry)) old) (wordAt (now (line .entry)) link)) r (now (table .exit)) ⌝ }
 {
-    let end = to_end(table, line, old, user);
+    let end = to_end(table, line, old, Begin::Own, user);
     match end {
         End::Off { number, link: _ } => Answer::refused(number, 1),
         End::At(d, f) => chn_at(table, d, f, last_name(line, link), stop),

@@ -17,14 +17,17 @@ use records::heading::text_length;
 use walk::end::Both;
 use walk::end::to_both;
 use walk::state::State;
+use words::begin::Begin;
 ghost use mathlib.Core.Bool.{true};
 ghost use mathlib.Core.List.{[], _∷_};
 ghost use mathlib.Core.Path.{_≡_};
-ghost use Rattle.paper.specs.Effect.{making, readInhibited, notSimple, cpyPlan};
+ghost use Rattle.paper.specs.Effect.{making, readInhibited, notSimple, cpyPlan, listOf, begun};
 ghost use Rattle.paper.specs.Record.{simple};
+ghost use Rattle.paper.specs.Request.{own};
 ghost use Rattle.paper.specs.Table.{rec};
 ghost use Rattle.paper.specs.Walk.{file};
 ghost use Rattle.declarations.specs.Given.{lifetimePart, levelPart, digitPart};
+ghost use Rattle.words.specs.Shown.{beginMeant};
 ghost use Rattle.walk.specs.Shown.{meant};
 ghost use Rattle.elephant.specs.Done.{wordAt, Did};
 ghost use Rattle.elephant.specs.Filing.{Named, copied, ending};
@@ -43,7 +46,7 @@ fn copy(
 ) -> Answer
     requires { ⌜ Named (now table) (now line) new [] × (simple (rec (now table) (source .0)) ≡ true) ⌝ }
     ensures { λ r. ⌜ Did (now (table .entry)) stop
-        (ending (now (table .entry))
+        (ending (now (table .entry)) own
         (copied (now (table .entry)) (wordAt (now (line .entry)) new) (meant d) (source .0)
         (lifetimePart lifetime) (levelPart level) (digitPart digit))) r (now (table .exit)) ⌝ }
 {
@@ -109,6 +112,7 @@ fn cpy_in(
 pub(crate) fn cpy(
     table: &mut [u8],
     line: &[u8],
+    from: Begin,
     old: usize,
     new: usize,
     lifetime: Lifetime,
@@ -119,10 +123,11 @@ pub(crate) fn cpy(
 ) -> Answer
     requires { ⌜ Named (now table) (now line) new [] ⌝ }
     ensures { λ r. ⌜ Did (now (table .entry)) stop
-        (cpyPlan (now (table .entry)) user (wordAt (now (line .entry)) old) (wordAt (now (line .entry)) new)
+        (cpyPlan (now (table .entry)) (listOf user (beginMeant from)) user
+        (begun (beginMeant from) (wordAt (now (line .entry)) old)) (wordAt (now (line .entry)) new)
         (lifetimePart lifetime) (levelPart level) (digitPart digit)) r (now (table .exit)) ⌝ }
 {
-    let both = to_both(table, line, old, new, user);
+    let both = to_both(table, line, from, old, Begin::Own, new, user);
     match both {
         Both::Off {
             number,

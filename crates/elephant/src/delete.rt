@@ -13,6 +13,7 @@ use records::text::Text;
 use walk::end::End;
 use walk::end::to_end;
 use walk::state::State;
+use words::begin::Begin;
 use words::line::next_word;
 ghost use mathlib.Core.List.{_∷_};
 ghost use mathlib.Core.Path.{_≡_};
@@ -98,7 +99,7 @@ fn delete_one(
     ensures { λ r. ⌜ Came (now (table .entry)) left
         (delPlan (now (table .entry)) user place (wordAt (now (line .entry)) p)) r (now (table .exit)) ⌝ }
 {
-    let end = to_end(table, line, p, user);
+    let end = to_end(table, line, p, Begin::Own, user);
     match end {
         End::Off { number, link: _ } => Deleted::Refused { number, place },
         End::At(d, f) => delete_at(table, d, f, place, left),

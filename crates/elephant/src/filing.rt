@@ -1,10 +1,11 @@
-// A new entry, and before it a new file where it names one: end checks 17 to 19, the stores, the answer.
+// A new entry, and before it a new file where it names one: end checks 16 to 19, the stores, the answer.
 use answers::Answer;
 use effects::rooms::room_at;
 use effects::rooms::text_rooms;
 use effects::stage::put;
 use effects::stage::put_texts;
 use placing::Meets;
+use placing::Refusal;
 use placing::entry_refusal;
 use placing::meet;
 use placing::place_entry;
@@ -13,15 +14,22 @@ use records::bytes::Bytes;
 use records::bytes::Room;
 use records::code::Code;
 use records::entry::Entry;
+use records::entry::Holder;
 use records::text::Text;
 use scans::find;
 use walk::state::State;
+use words::begin::Begin;
+ghost use mathlib.Core.List.{_∷_};
 ghost use mathlib.Core.Path.{_≡_};
 ghost use Prim.Native.Nat.{_≤_};
 ghost use lib.ListN.{length};
+ghost use Rattle.paper.specs.Check.{check, verdict};
+ghost use Rattle.records.specs.Shown.{holderShown};
+ghost use Rattle.words.specs.Shown.{beginMeant};
 ghost use Rattle.effects.specs.Stage.{Made};
+ghost use Rattle.placing.specs.Placing.{entryChecks, refusalShown};
 ghost use Rattle.elephant.specs.Done.{Did};
-ghost use Rattle.elephant.specs.Filing.{fileCount, fileStores, neededBy, storesBy, makingOf, Ready, ending};
+ghost use Rattle.elephant.specs.Filing.{fileCount, fileStores, neededBy, storesBy, makingOf, Ready, takenBy, ending};
 
 // A new file's heading, or no new file.
 pub(crate) struct File {
@@ -69,6 +77,35 @@ fn needed(first: usize, displaced: bool) -> usize
     first + 1
 }
 
+// "A give never displaces."
+fn is_taken(to: Begin, displaced: bool) -> bool
+    ensures { λ r. ⌜ r ≡ takenBy to displaced ⌝ }
+{
+    match to {
+        Begin::Own => false,
+        Begin::Take(_) => false,
+        Begin::Give(_) => displaced,
+    }
+}
+
+// 16, "where the link is taken", and then 17 to 19.
+fn refusal(
+    table: &[u8],
+    to: Begin,
+    holder: Holder,
+    meets: Meets,
+    needed: usize,
+    place: u32,
+) -> Refusal
+    ensures { λ r. ⌜ r ≡ refusalShown (verdict
+        (check (takenBy to (meets .displaced)) 16 place ∷ entryChecks (now (table .entry)) place (holderShown holder) meets needed)) ⌝ }
+{
+    if is_taken(to, meets.displaced) {
+        return Refusal { number: 16, place };
+    }
+    entry_refusal(table, holder, meets, needed, place)
+}
+
 // How many stores there are in all.
 fn count_stores(first: usize, meets: Meets) -> u32
     requires { ⌜ (first ≤ 1001) × (meets .count .0 ≤ 1000) ⌝ }
@@ -89,22 +126,24 @@ pub(crate) fn make(
     code: Code,
     named: Room,
     place: u32,
+    to: Begin,
     file: File,
     text: &[u8],
     stop: u32,
 ) -> Answer
     requires { ⌜ Ready (now table) (now rooms) (now name) (now text) (named .0) ⌝ }
     ensures { λ r. ⌜ Did (now (table .entry)) stop
-        (ending (now (table .entry))
+        (ending (now (table .entry)) (beginMeant to)
         (makingOf (now (table .entry)) place d (now (name .entry)) (code .0) (named .0) file (now (text .entry)))) r (now (table .exit)) ⌝ }
 {
     let holder = d.holder;
     let first = count_file(file, text);
     let found = find(table, holder, name);
     let meets = meet(table, found, named, room_at(rooms, first));
-    let refusal = entry_refusal(table, holder, meets, needed(first, meets.displaced), place);
-    if refusal.number != 0 {
-        return Answer::refused(refusal.number, refusal.place);
+    let needs = needed(first, meets.displaced);
+    let refused = refusal(table, to, holder, meets, needs, place);
+    if refused.number != 0 {
+        return Answer::refused(refused.number, refused.place);
     }
     let entry = Entry {
         code: code,

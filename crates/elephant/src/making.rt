@@ -20,12 +20,15 @@ use walk::chain::to_directory;
 use walk::end::Both;
 use walk::end::to_both;
 use walk::state::State;
+use words::begin::Begin;
 ghost use mathlib.Core.List.{[]};
-ghost use Rattle.paper.specs.Effect.{making, filing, crdPlan, wrsPlan, dupPlan};
+ghost use Rattle.paper.specs.Effect.{making, filing, crdPlan, wrsPlan, dupPlan, listOf, begun};
+ghost use Rattle.paper.specs.Request.{own};
 ghost use Rattle.declarations.specs.Given.{levelPart, digitPart};
+ghost use Rattle.words.specs.Shown.{beginMeant};
 ghost use Rattle.walk.specs.Shown.{meant};
 ghost use Rattle.elephant.specs.Done.{wordAt, Did};
-ghost use Rattle.elephant.specs.Filing.{Named, second, ending};
+ghost use Rattle.elephant.specs.Filing.{Named, Linked, linkingIn, ending};
 
 // A new file under the last name of the chain at `name`, in d: 17 to 19, the stores and the answer.
 pub(crate) fn file(
@@ -41,7 +44,7 @@ pub(crate) fn file(
 ) -> Answer
     requires { ⌜ Named (now table) (now line) name (now text) ⌝ }
     ensures { λ r. ⌜ Did (now (table .entry)) stop
-        (ending (now (table .entry))
+        (ending (now (table .entry)) own
         (filing (now (table .entry)) place (wordAt (now (line .entry)) name) (meant d) (code .0) heading (now (text .entry)))) r (now (table .exit)) ⌝ }
 {
     let mut rooms = [0u16; Entry::MOST_NEW];
@@ -59,6 +62,7 @@ pub(crate) fn file(
         code,
         named,
         place,
+        Begin::Own,
         file,
         text,
         stop,
@@ -111,7 +115,7 @@ pub(crate) fn crd(
         lifetime: Heading::MEDIUM,
         length: Bytes(0),
     }.laid();
-    let walked = to_directory(table, line, name, State::start(user));
+    let walked = to_directory(table, line, name, Begin::Own, user);
     match walked {
         Walked::Stopped { number, link: _ } => Answer::refused(number, 1),
         Walked::Reached(d) => file_in(
@@ -153,76 +157,72 @@ pub(crate) fn wrs(
         lifetime: lifetime,
         length: Bytes(text.len()),
     }.laid();
-    let walked = to_directory(table, line, name, State::start(user));
+    let walked = to_directory(table, line, name, Begin::Own, user);
     match walked {
         Walked::Stopped { number, link: _ } => Answer::refused(number, 2),
         Walked::Reached(d) => file_in(table, line, name, d, 2, code, heading, text, stop),
     }
 }
 
-// 14, and the entry of a file that another entry names, its code joined with the declared one.
+// 14, and the entry of the file f in d, its code the old entry's joined with the declared one.
 fn dup_in(
     table: &mut [u8],
     line: &[u8],
+    to: Begin,
     new: usize,
     d: State,
-    entry: Room,
-    code: Code,
+    f: State,
+    digit: Digit,
     stop: u32,
 ) -> Answer
-    requires { ⌜ Named (now table) (now line) new [] ⌝ }
+    requires { ⌜ Linked (now table) (now line) to new ⌝ }
     ensures { λ r. ⌜ Did (now (table .entry)) stop
-        (making (now (table .entry))
-        (second (now (table .entry)) (wordAt (now (line .entry)) new) (meant d) (entry .0) (code .0)) [] []) r (now (table .exit)) ⌝ }
+        (linkingIn (now (table .entry)) (beginMeant to) (begun (beginMeant to) (wordAt (now (line .entry)) new)) (digitPart digit) (meant f) (meant d))
+        r (now (table .exit)) ⌝ }
 {
     let applies = d.code;
     if applies.inhibits_write() {
         return Answer::refused(14, 2);
     }
-    let named = heading_named(table, entry);
-    let both = entry_code(table, entry).joined(code);
+    let code = Code(digit.or_else(0));
+    let named = heading_named(table, f.entry);
+    let both = entry_code(table, f.entry).joined(code);
     let mut rooms = [0u16; Entry::MOST_NEW];
     free_rooms(table, &mut rooms);
     let file = File {
         new: false,
         heading: [0u8; Room::SIZE],
     };
-    make(
-        table,
-        &rooms,
-        d,
-        last_name(line, new),
-        both,
-        named,
-        2,
-        file,
-        part(line, 0, Bytes(0)),
-        stop,
-    )
+    let name = last_name(line, new);
+    let text = part(line, 0, Bytes(0));
+    make(table, &rooms, d, name, both, named, 2, to, file, text, stop)
 }
 
 // "DUP: entry, its code the old entry's joined with the declared one."
 pub(crate) fn dup(
     table: &mut [u8],
     line: &[u8],
+    from: Begin,
     old: usize,
+    to: Begin,
     new: usize,
     digit: Digit,
     user: u32,
     stop: u32,
 ) -> Answer
-    requires { ⌜ Named (now table) (now line) new [] ⌝ }
+    requires { ⌜ Linked (now table) (now line) to new ⌝ }
     ensures { λ r. ⌜ Did (now (table .entry)) stop
-        (dupPlan (now (table .entry)) user (wordAt (now (line .entry)) old) (wordAt (now (line .entry)) new) (digitPart digit)) r (now (table .exit)) ⌝ }
+        (dupPlan (now (table .entry)) (listOf user (beginMeant from)) (listOf user (beginMeant to)) (beginMeant to)
+        (begun (beginMeant from) (wordAt (now (line .entry)) old)) (begun (beginMeant to) (wordAt (now (line .entry)) new)) (digitPart digit))
+        r (now (table .exit)) ⌝ }
 {
-    let code = Code(digit.or_else(0));
-    let both = to_both(table, line, old, new, user);
+    let both = to_both(table, line, from, old, to, new, user);
     match both {
         Both::Off {
             number,
             place,
             link: _,
         } => Answer::refused(number, place),
-        Both::At(f, d) => dup_in(table, line, new, d, f.entry, code, stop),
+        Both::At(f, d) => dup_in(table, line, to, new, d, f, digit, stop),
     }
 }

@@ -15,16 +15,18 @@ use records::text::Text;
 use walk::end::End;
 use walk::end::to_end;
 use walk::state::State;
+use words::begin::Begin;
 ghost use mathlib.Core.Bool.{true};
 ghost use mathlib.Core.List.{[]};
 ghost use mathlib.Core.Path.{_≡_};
 ghost use lib.Seq.{sets};
 ghost use Rattle.paper.specs.Block.{fileText};
-ghost use Rattle.paper.specs.Effect.{writing, lstBasePlan};
+ghost use Rattle.paper.specs.Effect.{writing, lstBasePlan, listOf, begun};
 ghost use Rattle.paper.specs.Listing.{listed, lines};
 ghost use Rattle.paper.specs.Record.{simple};
 ghost use Rattle.paper.specs.Table.{rec};
 ghost use Rattle.listing.specs.Shown.{isListed};
+ghost use Rattle.words.specs.Shown.{beginMeant};
 ghost use Rattle.walk.specs.Shown.{meant};
 ghost use Rattle.elephant.specs.Done.{Fit, wordAt, Wrote};
 ghost use Rattle.elephant.specs.Reading.{isRight, written, readingAt, reading};
@@ -119,14 +121,16 @@ pub(crate) fn read(
     line: &[u8],
     reply: &mut [u8],
     sheet: Sheet,
+    from: Begin,
     name: usize,
     user: u32,
 ) -> Answer
     requires { ⌜ Fit (now table) ⌝ }
     ensures { λ r. ⌜ Wrote (now (table .entry)) (now (reply .entry))
-        (reading sheet (now (table .entry)) user (now (reply .entry)) (wordAt (now (line .entry)) name)) r (now (reply .exit)) ⌝ }
+        (reading sheet (now (table .entry)) (listOf user (beginMeant from)) (now (reply .entry)) (begun (beginMeant from) (wordAt (now (line .entry)) name)))
+        r (now (reply .exit)) ⌝ }
 {
-    let end = to_end(table, line, name, user);
+    let end = to_end(table, line, name, from, user);
     match end {
         End::Off { number, link: _ } => Answer::refused(number, 1),
         End::At(_, f) => read_at(table, sheet, f, reply),

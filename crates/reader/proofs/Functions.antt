@@ -23,7 +23,7 @@ use Rattle.reader.specs.declared.function.Function.{Function}
 use Rattle.reader.specs.declared.function.Function.the-variants as function
 use Rattle.reader.specs.declared.request.Verdict.{Verdict}
 use Rattle.reader.specs.declared.request.Verdict.the-variants.{Passed}
-use Rattle.reader.proofs.Verdicts.{verdict-then, at-word}
+use Rattle.reader.proofs.Verdicts.{verdict-five, at-word}
 
 -- word k, of which w is the stretch, is this one name
 pub word-lone : (line : List ℕ) (k p : ℕ) → p ≡ word line k .start → (w : List ℕ) → w ≡ loneOf (namesFrom line p)
@@ -145,5 +145,4 @@ module _ (line : List ℕ) (p q : ℕ) (va vb vc vd ve : Verdict) (old : p ≡ w
       let e = misbased 2 (word line 1) (word line 2) in
       let half = at-word (λ w. misbased 2 w (wordAt line q)) line 1 p ve old he in
       rw (ha, at-word (malformed 1) line 1 p vb old hb, at-word (unlinked 2) line 2 q vc link hc, at-word (illegal 1) line 1 p vd old hd)
-      (rw (at-word (misbased 2 (word line 1)) line 2 q ve link half, verdict-then (a ∷ []) (b ∷ []), verdict-then (a ∷ b ∷ []) (c ∷ []))
-      (rw (verdict-then (a ∷ b ∷ c ∷ []) (d ∷ [])) (verdict-then (a ∷ b ∷ c ∷ d ∷ []) (e ∷ []))))
+      (rw (at-word (misbased 2 (word line 1)) line 2 q ve link half) (verdict-five a b c d e))

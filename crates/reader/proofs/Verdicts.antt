@@ -18,7 +18,8 @@ use Rattle.words.specs.Place.{wordAt}
 use Rattle.laws.proofs.Tests.{clash}
 use Rattle.words.proofs.Words.{word-here}
 use Rattle.declarations.specs.Given.{shownParts, shownDeclared, taken}
-use Rattle.reader.specs.Asked.{shownRefusal, firstOf, shownVerdict, shownRequest, shownRead}
+use Rattle.reader.specs.Asked.{shownRefusal, bothChecks, firstOf, shownVerdict, shownRequest, shownRead}
+use Rattle.reader.specs.declared.request.Fault.{Fault}
 use Rattle.reader.specs.declared.request.Refusal.{Refusal}
 use Rattle.reader.specs.declared.request.Verdict.{Verdict}
 use Rattle.reader.specs.declared.request.Verdict.the-variants.{Passed, Refused}
@@ -68,6 +69,22 @@ verdict-then cs ds = go (verdict cs) refl
     go passed e = rw (verdict-passed cs ds (ap shownVerdict e))
     go (refused f) e = sym (verdict-refused cs ds (shownRefusal f) (ap shownVerdict e))
 
+-- one after the other
+pub verdict-three : (a b c : Check)
+    → firstOf (firstOf (shownVerdict (verdict (a ∷ []))) (shownVerdict (verdict (b ∷ [])))) (shownVerdict (verdict (c ∷ [])))
+    ≡ shownVerdict (verdict (a ∷ b ∷ c ∷ []))
+verdict-three a b c = rw (verdict-then (a ∷ []) (b ∷ [])) (verdict-then (a ∷ b ∷ []) (c ∷ []))
+
+pub verdict-five : (a b c d e : Check)
+    → firstOf
+    (firstOf
+    (firstOf (firstOf (shownVerdict (verdict (a ∷ []))) (shownVerdict (verdict (b ∷ [])))) (shownVerdict (verdict (c ∷ []))))
+    (shownVerdict (verdict (d ∷ []))))
+    (shownVerdict (verdict (e ∷ [])))
+    ≡ shownVerdict (verdict (a ∷ b ∷ c ∷ d ∷ e ∷ []))
+verdict-five a b c d e =
+    rw (verdict-three a b c, verdict-then (a ∷ b ∷ c ∷ []) (d ∷ [])) (verdict-then (a ∷ b ∷ c ∷ d ∷ []) (e ∷ []))
+
 -- what a verdict v on the checks says of the reading x after them
 module _ (x : asked.Read) (cs : List Check) (v : Verdict) (a : v ≡ shownVerdict (verdict cs)) where
   pub read-passed : v ≡ Passed → shownRead (after (verdict cs) x) ≡ shownRead x
@@ -116,10 +133,22 @@ module _ (r : asked.Request) (cs : List Check) (place : ℕ) (test : Parts → B
         let u = fits-taken test d q (sym (rw shown at takes) ∙ h) in
         (rw (verdict-passed cs (unfit place (fits test d) ∷ []) (sym a ∙ passes), u .0), u .1)
 
--- a check of word k, which is found by its place
+-- checks of word k, which is found by its place
+pub checks-at : (checks : Word → List Check) (line : List ℕ) (k p : ℕ) (v : Verdict) → p ≡ word line k .start
+    → v ≡ shownVerdict (verdict (checks (wordAt line p))) → v ≡ shownVerdict (verdict (checks (word line k)))
+checks-at checks line k p v e h = subst (λ (w : Word). v ≡ shownVerdict (verdict (checks w))) (word-here line k p e) h
+
 pub at-word : (check : Word → Check) (line : List ℕ) (k p : ℕ) (v : Verdict) → p ≡ word line k .start
     → v ≡ shownVerdict (verdict (check (wordAt line p) ∷ [])) → v ≡ shownVerdict (verdict (check (word line k) ∷ []))
-at-word check line k p v e h = subst (λ (w : Word). v ≡ shownVerdict (verdict (check w ∷ []))) (word-here line k p e) h
+at-word check = checks-at (λ w. check w ∷ [])
+
+-- the checks of an old name, word 1, which starts at p, and of a new one, word 2, at q
+pub both-form : (line : List ℕ) (take give : Fault) (p q : ℕ) (v : Verdict) → p ≡ word line 1 .start → q ≡ word line 2 .start
+    → v ≡ shownVerdict (verdict (bothChecks line take (wordAt line p) give (wordAt line q)))
+    → v ≡ shownVerdict (verdict (bothChecks line take (word line 1) give (word line 2)))
+both-form line take give p q v old new h =
+    checks-at (λ w. bothChecks line take (word line 1) give w) line 2 q v new
+    (checks-at (λ w. bothChecks line take w give (wordAt line q)) line 1 p v old h)
 
 -- a check for each word of a range, one word at a time
 module _ (check : ℕ → Word → Check) (line : List ℕ) (a b : ℕ) where

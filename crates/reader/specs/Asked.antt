@@ -7,8 +7,9 @@ use Rattle.paper.specs.Line.{Word}
 use Rattle.paper.specs.Name.{alone}
 use Rattle.paper.specs.Check as paper
 use Rattle.paper.specs.Check.{Check, passed, refused}
-use Rattle.paper.specs.Request.{malformed, illegal, readCrd, readWrs, readRds, readLst, readCpy, readDup, readChn, readDpr, readDel, crd, wrs, rds, cpy, dup, chn, del, dpr, lst, lstBase, request, unread}
+use Rattle.paper.specs.Request.{malformed, illegal, illegalBut, isTake, isTakeWithin, isGive, miscounted, readCrd, readWrs, readRds, readLst, readCpy, readDup, readChn, readDpr, readDel, crd, wrs, rds, cpy, dup, chn, del, dpr, lst, lstBase, request, unread}
 use Rattle.paper.specs.Request as asked
+use Rattle.words.specs.Shown.{beginShown}
 use Rattle.declarations.specs.Given.{shownLifetime, shownLevel, shownDigit}
 use Rattle.reader.specs.declared.function.Function.{Function}
 use Rattle.reader.specs.declared.function.Function.the-variants as function
@@ -31,13 +32,13 @@ firstStart (w ∷ ws) = w .start
 abbrev pub shownRequest : asked.Request → Request
 shownRequest (crd w v d) = Crd (w .start) (shownLevel v) (shownDigit d)
 shownRequest (wrs f v d w) = Wrs f (shownLevel v) (shownDigit d) (w .start)
-shownRequest (rds w) = Rds (w .start)
-shownRequest (cpy o n f v d) = Cpy (o .start) (n .start) (shownLifetime f) (shownLevel v) (shownDigit d)
-shownRequest (dup o n d) = Dup (o .start) (n .start) (shownDigit d)
+shownRequest (rds b w) = Rds (beginShown b) (w .start)
+shownRequest (cpy b o n f v d) = Cpy (beginShown b) (o .start) (n .start) (shownLifetime f) (shownLevel v) (shownDigit d)
+shownRequest (dup b o e n d) = Dup (beginShown b) (o .start) (beginShown e) (n .start) (shownDigit d)
 shownRequest (chn o l) = Chn (o .start) (l .start)
 shownRequest (del ws) = Del (firstStart ws) (length ws)
 shownRequest (dpr w d) = Dpr (w .start) d
-shownRequest (lst w) = Lst (w .start)
+shownRequest (lst b w) = Lst (beginShown b) (w .start)
 shownRequest lstBase = LstBase
 
 abbrev pub shownRefusal : paper.Refusal → Refusal
@@ -56,10 +57,22 @@ abbrev pub shownRead : asked.Read → Read
 shownRead (request r) = answers.Granted (shownRequest r)
 shownRead (unread f) = answers.Refused (shownRefusal f)
 
--- 7: malformed, 8: illegal
+-- 7: malformed, 8: illegal, but for how the name may start
 abbrev pub faultCheck : Fault → ℕ → Word → Check
 faultCheck faults.Malformed = malformed
 faultCheck faults.Illegal = illegal
+faultCheck faults.IllegalTake = illegalBut isTake
+faultCheck faults.IllegalTakeWithin = illegalBut isTakeWithin
+faultCheck faults.IllegalGive = illegalBut isGive
+
+-- the checks of RDS and LST: the count, then 7 and 8 of the name
+abbrev pub oldChecks : List ℕ → Word → List Check
+oldChecks line old = miscounted 1 1 line ∷ malformed 1 old ∷ illegalBut isTake 1 old ∷ []
+
+-- the checks of CPY and DUP but for the declaration: the count, 7 of both names, then 8 of both
+abbrev pub bothChecks : List ℕ → Fault → Word → Fault → Word → List Check
+bothChecks line take old give new =
+    miscounted 2 3 line ∷ malformed 1 old ∷ malformed 2 new ∷ faultCheck take 1 old ∷ faultCheck give 2 new ∷ []
 
 -- the function that a word of these names is
 unfoldable pub functionOf : List (List ℕ) → Function

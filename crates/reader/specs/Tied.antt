@@ -10,13 +10,13 @@ use Rattle.paper.specs.Request.{Request, crd, wrs, rds, cpy, dup, chn, del, dpr
 abbrev pub Tied : List ℕ → Request → Type 0
 Tied line (crd w v d) = w ≡ word line 1
 Tied line (wrs f v d w) = w ≡ word line 2
-Tied line (rds w) = w ≡ word line 1
-Tied line (cpy o n f v d) = (o ≡ word line 1) × (n ≡ word line 2)
-Tied line (dup o n d) = (o ≡ word line 1) × (n ≡ word line 2)
+Tied line (rds b w) = w ≡ word line 1
+Tied line (cpy b o n f v d) = (o ≡ word line 1) × (n ≡ word line 2)
+Tied line (dup b o e n d) = (o ≡ word line 1) × (n ≡ word line 2)
 Tied line (chn o l) = (o ≡ word line 1) × (l ≡ word line 2)
 Tied line (del ws) = ws ≡ drop 1 (words line)
 Tied line (dpr w d) = w ≡ word line 1
-Tied line (lst w) = w ≡ word line 1
+Tied line (lst b w) = w ≡ word line 1
 Tied line lstBase = Unit
 
 -- and a refusal has none

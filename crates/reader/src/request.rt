@@ -11,6 +11,12 @@ use declarations::taken::taken_by_dpr;
 use declarations::taken::taken_by_dup;
 use declarations::taken::taken_by_wrs;
 use records::name::are_same;
+use words::begin::Begin;
+use words::begin::is_give;
+use words::begin::is_take;
+use words::begin::is_take_within;
+use words::begin::new_to;
+use words::begin::old_from;
 use words::line::count_words;
 use words::line::is_legal_line;
 use words::line::lone_word;
@@ -29,9 +35,9 @@ ghost use Prim.Native.Nat.{_-_};
 ghost use lib.ListN.{length};
 ghost use Rattle.paper.specs.Line.{words};
 ghost use Rattle.paper.specs.Check.{verdict};
-ghost use Rattle.paper.specs.Request.{each, between, unlinked, misbased, miscounted, misnamed, linkAlone, readCrd, readWrs, readRds, readLst, readCpy, readDup, readChn, readDpr, readDel, readFunction, read};
+ghost use Rattle.paper.specs.Request.{each, between, malformed, illegalBut, unlinked, misbased, miscounted, misnamed, linkAlone, readCrd, readWrs, readRds, readLst, readCpy, readDup, readChn, readDpr, readDel, readFunction, read};
 ghost use Rattle.words.specs.Place.{namesFrom, wordAt};
-ghost use Rattle.reader.specs.Asked.{faultCheck, firstOf, shownVerdict, shownRead};
+ghost use Rattle.reader.specs.Asked.{faultCheck, oldChecks, bothChecks, firstOf, shownVerdict, shownRead};
 
 // The nine functions, and LST of a lone point. Names stand by the places where they start in the line; the names of DEL are
 // the words from the first on.
@@ -48,9 +54,11 @@ pub enum Request {
         name: usize,
     },
     Rds {
+        from: Begin,
         name: usize,
     },
     Cpy {
+        from: Begin,
         old: usize,
         new: usize,
         lifetime: Lifetime,
@@ -58,7 +66,9 @@ pub enum Request {
         digit: Digit,
     },
     Dup {
+        from: Begin,
         old: usize,
+        to: Begin,
         new: usize,
         digit: Digit,
     },
@@ -75,6 +85,7 @@ pub enum Request {
         code: u8,
     },
     Lst {
+        from: Begin,
         name: usize,
     },
     LstBase,
@@ -114,10 +125,13 @@ impl Verdict {
     }
 }
 
-// What a name gets: 7 or 8.
+// What a name gets: 7; or 8, where it may start in one's own base list alone, or with `.nnnnnn` as well.
 enum Fault {
     Malformed,
     Illegal,
+    IllegalTake,
+    IllegalTakeWithin,
+    IllegalGive,
 }
 
 fn refused(number: u8, place: usize, link: usize) -> Verdict
@@ -166,23 +180,39 @@ fn check_count(line: &[u8], least: usize, most: usize) -> Verdict
     Verdict::Passed
 }
 
-// 7 or 8 for the name at p, the argument at this place.
+// 7 for the name at p, the argument at this place.
+fn check_chain(line: &[u8], p: usize, place: usize) -> Verdict
+    ensures { λ r. ⌜ r ≡ shownVerdict (verdict (malformed place (wordAt (now (line .entry)) p) ∷ [])) ⌝ }
+{
+    if is_well_formed(line, p) {
+        return Verdict::Passed;
+    }
+    refused(7, place, first_wrong(line, p))
+}
+
+// 8 for it, where it does not start as it may.
+fn check_start(line: &[u8], p: usize, starts: bool, place: usize) -> Verdict
+    ensures { λ r. ⌜ r ≡ shownVerdict (verdict (illegalBut (λ w. starts) place (wordAt (now (line .entry)) p) ∷ [])) ⌝ }
+{
+    if starts {
+        return Verdict::Passed;
+    }
+    if has_legal_base(line, p) {
+        return Verdict::Passed;
+    }
+    refused(8, place, 1)
+}
+
+// 7 or 8 for it.
 fn check_name(line: &[u8], p: usize, fault: Fault, place: usize) -> Verdict
     ensures { λ r. ⌜ r ≡ shownVerdict (verdict (faultCheck fault place (wordAt (now (line .entry)) p) ∷ [])) ⌝ }
 {
     match fault {
-        Fault::Malformed => {
-            if is_well_formed(line, p) {
-                return Verdict::Passed;
-            }
-            refused(7, place, first_wrong(line, p))
-        }
-        Fault::Illegal => {
-            if has_legal_base(line, p) {
-                return Verdict::Passed;
-            }
-            refused(8, place, 1)
-        }
+        Fault::Malformed => check_chain(line, p, place),
+        Fault::Illegal => check_start(line, p, false, place),
+        Fault::IllegalTake => check_start(line, p, is_take(line, p), place),
+        Fault::IllegalTakeWithin => check_start(line, p, is_take_within(line, p), place),
+        Fault::IllegalGive => check_start(line, p, is_give(line, p), place),
     }
 }
 
@@ -218,6 +248,26 @@ fn check_form(line: &[u8], least: usize, most: usize, a: usize, b: usize) -> Ver
     ensures { λ r. ⌜ r ≡ shownVerdict (verdict (miscounted least most (now (line .entry)) ∷ misnamed a b (now (line .entry)))) ⌝ }
 {
     check_count(line, least, most).then(check_names(line, a, b))
+}
+
+// The count of arguments, then the one name, which is at p.
+fn check_old(line: &[u8], p: usize) -> Verdict
+    ensures { λ r. ⌜ r ≡ shownVerdict (verdict (oldChecks (now (line .entry)) (wordAt (now (line .entry)) p))) ⌝ }
+{
+    check_count(line, 1, 1)
+        .then(check_name(line, p, Fault::Malformed, 1))
+        .then(check_name(line, p, Fault::IllegalTake, 1))
+}
+
+// The count of arguments, then 7 of the old name and of the new, then 8 of both, each by how it may start.
+fn check_both(line: &[u8], old: usize, take: Fault, new: usize, give: Fault) -> Verdict
+    ensures { λ r. ⌜ r ≡ shownVerdict (verdict (bothChecks (now (line .entry)) take (wordAt (now (line .entry)) old) give (wordAt (now (line .entry)) new))) ⌝ }
+{
+    check_count(line, 2, 3)
+        .then(check_name(line, old, Fault::Malformed, 1))
+        .then(check_name(line, new, Fault::Malformed, 2))
+        .then(check_name(line, old, take, 1))
+        .then(check_name(line, new, give, 2))
 }
 
 // CRD name [decl]
@@ -266,11 +316,13 @@ fn read_wrs(line: &[u8]) -> Read
 fn read_rds(line: &[u8]) -> Read
     ensures { λ r. ⌜ r ≡ shownRead (readRds (now (line .entry))) ⌝ }
 {
-    if let Verdict::Refused(refusal) = check_form(line, 1, 1, 1, 2) {
+    let p = word_at(line, 1);
+    if let Verdict::Refused(refusal) = check_old(line, p) {
         return Read::Refused(refusal);
     }
     Read::Granted(Request::Rds {
-        name: word_at(line, 1),
+        from: old_from(line, p),
+        name: p,
     })
 }
 
@@ -285,17 +337,23 @@ fn read_lst(line: &[u8]) -> Read
         }
         return Read::Granted(Request::LstBase);
     }
-    if let Verdict::Refused(refusal) = check_form(line, 1, 1, 1, 2) {
+    if let Verdict::Refused(refusal) = check_old(line, p) {
         return Read::Refused(refusal);
     }
-    Read::Granted(Request::Lst { name: p })
+    Read::Granted(Request::Lst {
+        from: old_from(line, p),
+        name: p,
+    })
 }
 
 // CPY old new [decl]
 fn read_cpy(line: &[u8]) -> Read
     ensures { λ r. ⌜ r ≡ shownRead (readCpy (now (line .entry))) ⌝ }
 {
-    if let Verdict::Refused(refusal) = check_form(line, 2, 3, 1, 3) {
+    let old = word_at(line, 1);
+    let new = word_at(line, 2);
+    let form = check_both(line, old, Fault::IllegalTake, new, Fault::Illegal);
+    if let Verdict::Refused(refusal) = form {
         return Read::Refused(refusal);
     }
     let Declaration::Right(parts) = taken_by_cpy(declared_at(line, 3)) else {
@@ -305,8 +363,9 @@ fn read_cpy(line: &[u8]) -> Read
     let level = parts.level;
     let digit = parts.digit;
     Read::Granted(Request::Cpy {
-        old: word_at(line, 1),
-        new: word_at(line, 2),
+        from: old_from(line, old),
+        old: old,
+        new: new,
         lifetime: lifetime,
         level: level,
         digit: digit,
@@ -317,7 +376,10 @@ fn read_cpy(line: &[u8]) -> Read
 fn read_dup(line: &[u8]) -> Read
     ensures { λ r. ⌜ r ≡ shownRead (readDup (now (line .entry))) ⌝ }
 {
-    if let Verdict::Refused(refusal) = check_form(line, 2, 3, 1, 3) {
+    let old = word_at(line, 1);
+    let new = word_at(line, 2);
+    let form = check_both(line, old, Fault::IllegalTakeWithin, new, Fault::IllegalGive);
+    if let Verdict::Refused(refusal) = form {
         return Read::Refused(refusal);
     }
     let Declaration::Right(parts) = taken_by_dup(declared_at(line, 3)) else {
@@ -325,8 +387,10 @@ fn read_dup(line: &[u8]) -> Read
     };
     let digit = parts.digit;
     Read::Granted(Request::Dup {
-        old: word_at(line, 1),
-        new: word_at(line, 2),
+        from: old_from(line, old),
+        old: old,
+        to: new_to(line, new),
+        new: new,
         digit: digit,
     })
 }

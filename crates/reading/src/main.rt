@@ -1,6 +1,7 @@
 // Reads request lines from standard input and prints, a line for each, what the reader makes of it: the reply number and the
-// place; or 0, the function, and the numbers of the request in the order of its fields, a dash for a part that is not given;
-// for CRD and WRS also the first five bytes of the heading that is laid for such a file.
+// place; or 0, the function, and the numbers of the request in the order of its fields, a dash for a part that is not given,
+// T or G and a user before a name that starts at that user's `.T` or in that user's `.G`; for CRD and WRS also the first five
+// bytes of the heading that is laid for such a file.
 use declarations::part::Digit;
 use declarations::part::Level;
 use declarations::part::Lifetime;
@@ -11,6 +12,7 @@ use reader::request::Request;
 use records::bytes::Bytes;
 use records::code::Code;
 use records::heading::Heading;
+use words::begin::Begin;
 ghost use Prim.Native.Nat.{_≤_};
 ghost use lib.ListN.{length};
 
@@ -74,6 +76,26 @@ fn put_heading(ty: u8, lifetime: u8, level: Level, digit: Digit) {
     put_number(laid[Heading::LIFETIME]);
 }
 
+fn put_user(shelf: &[u8], user: u32) {
+    put(shelf);
+    io::print_decimal(STDOUT_FILENO, user as u64);
+}
+
+// Where a name starts, unless in one's own base list, and the name.
+fn put_name(begin: Begin, name: usize) {
+    match begin {
+        Begin::Own => {}
+        Begin::Take(user) => put_user(b" T", user),
+        Begin::Give(user) => put_user(b" G", user),
+    }
+    put_place(name);
+}
+
+fn put_old(function: &[u8], from: Begin, name: usize) {
+    put(function);
+    put_name(from, name);
+}
+
 fn put_one(function: &[u8], name: usize) {
     put(function);
     put_place(name);
@@ -98,6 +120,19 @@ fn put_wrs(lifetime: u8, level: Level, digit: Digit, name: usize) {
     put_heading(Heading::SIMPLE, lifetime, level, digit);
 }
 
+fn put_cpy(from: Begin, old: usize, new: usize, lifetime: Lifetime, level: Level, digit: Digit) {
+    put_old(b"0 CPY", from, old);
+    put_place(new);
+    put_lifetime(lifetime);
+    put_parts(level, digit);
+}
+
+fn put_dup(from: Begin, old: usize, to: Begin, new: usize, digit: Digit) {
+    put_old(b"0 DUP", from, old);
+    put_name(to, new);
+    put_digit(digit);
+}
+
 fn put_request(request: Request) {
     match request {
         Request::Crd { name, level, digit } => put_crd(name, level, digit),
@@ -107,29 +142,29 @@ fn put_request(request: Request) {
             digit,
             name,
         } => put_wrs(lifetime, level, digit, name),
-        Request::Rds { name } => put_one(b"0 RDS", name),
+        Request::Rds { from, name } => put_old(b"0 RDS", from, name),
         Request::Cpy {
+            from,
             old,
             new,
             lifetime,
             level,
             digit,
-        } => {
-            put_two(b"0 CPY", old, new);
-            put_lifetime(lifetime);
-            put_parts(level, digit);
-        }
-        Request::Dup { old, new, digit } => {
-            put_two(b"0 DUP", old, new);
-            put_digit(digit);
-        }
+        } => put_cpy(from, old, new, lifetime, level, digit),
+        Request::Dup {
+            from,
+            old,
+            to,
+            new,
+            digit,
+        } => put_dup(from, old, to, new, digit),
         Request::Chn { old, link } => put_two(b"0 CHN", old, link),
         Request::Del { first, count } => put_two(b"0 DEL", first, count),
         Request::Dpr { name, code } => {
             put_one(b"0 DPR", name);
             put_number(code);
         }
-        Request::Lst { name } => put_one(b"0 LST", name),
+        Request::Lst { from, name } => put_old(b"0 LST", from, name),
         Request::LstBase => put(b"0 LST ."),
     }
 }

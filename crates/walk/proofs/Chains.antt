@@ -1,12 +1,12 @@
 -- A chain is walked name by name: a walk from a list of two names or more is its first link and the walk from the rest, one
 -- link on; and the last name of a list is the last of its rest.
 use mathlib.Core.Bool.{Bool, true, false}
-use mathlib.Core.List.{List, _∷_}
+use mathlib.Core.List.{List, [], _∷_}
 use mathlib.Core.Path.{_≡_, refl, sym, ap, _∙_}
 use Prim.Native.Nat.{ℕ, suc, _+_, _-_, _<_}
 use native.Mathlib.Numerals.{add-one}
 use native.Mathlib.Omega.{arith}
-use lib.ListN.{length}
+use lib.ListN.{length, drop}
 use Rattle.paper.specs.Name.{pointed, dotW, chain}
 use Rattle.paper.specs.Walk.{on, off, follow, linked, reached, toDirectory, lastName}
 use Rattle.paper.specs.Walk as W
@@ -63,6 +63,22 @@ module _ (t : List ℕ) (k : ℕ) (s : State) (line : List ℕ) (p : ℕ) where
           go (on x) f = let z : shown x ≡ d = cc in ap (λ (y : State). toDirectory t (suc k) (meant y) (namesFrom line p)) (sym z)
           go (off number) f = let z : _≡_ {A = ℕ} 0 1 = cc in absurd (omega arith)
 
+-- the names after the first of a word: none, or those of the next
+pub rest-one : (line : List ℕ) (p : ℕ) → joined line p ≡ false → drop 1 (namesFrom line p) ≡ []
+rest-one line p j = rw (names-one line p j)
+
+pub rest-more : (line : List ℕ) (p : ℕ) → joined line p ≡ true → drop 1 (namesFrom line p) ≡ namesFrom line (nextName line p)
+rest-more line p j = rw (names-more line p j)
+
+-- .. and with a name in place of the first: as many names, and one alone is not walked
+pub rest-length : (line : List ℕ) (p : ℕ) (n : List ℕ) → length (n ∷ drop 1 (namesFrom line p)) ≡ length (namesFrom line p)
+rest-length line p n = rw (names-step line p)
+
+pub walk-alone : (t : List ℕ) (s : State) (line : List ℕ) (p : ℕ) (n : List ℕ) → joined line p ≡ false
+    → Reached s ≡ walkedShown (toDirectory t 1 (meant s) (n ∷ drop 1 (namesFrom line p)))
+unfolding toDirectory
+walk-alone t s line p n j = rw (rest-one line p j)
+
 -- the last name of a word, name by name
 less : (k : ℕ) → suc k - 1 ≡ k
 less k = omega arith
@@ -70,6 +86,10 @@ less k = omega arith
 pub last-one : (line : List ℕ) (p : ℕ) → joined line p ≡ false → lastName (namesFrom line p) ≡ cut line p
 unfolding lastName
 last-one line p j = rw (names-one line p j)
+
+pub last-alone : (n : List ℕ) → lastName (n ∷ []) ≡ n
+unfolding lastName
+last-alone n = refl
 
 last-later : (n : List ℕ) (line : List ℕ) (p : ℕ) → lastName (n ∷ namesFrom line p) ≡ lastName (namesFrom line p)
 unfolding lastName
@@ -85,3 +105,9 @@ last-chain line p = go (pointed (cut line p)) refl
     go : (b : Bool) → pointed (cut line p) ≡ b → lastName (chain (namesFrom line p)) ≡ lastName (namesFrom line p)
     go true e = rw (chain-pointed line p e)
     go false e = rw (chain-bare line p e) (last-later dotW line p)
+
+-- nor is a name in place of the first, where another is joined to it
+pub last-instead : (line : List ℕ) (p : ℕ) (n : List ℕ) → joined line p ≡ true
+    → lastName (n ∷ drop 1 (namesFrom line p)) ≡ lastName (chain (namesFrom line p))
+last-instead line p n j =
+    rw (rest-more line p j, last-chain line p) (last-later n line (nextName line p) ∙ sym (last-more line p j))

@@ -66,13 +66,13 @@ arrived-last t s ns d f e = go (toDirectory t 1 s ns) e
 
 -- ---- the walks of two names
 
-module _ (t : List ℕ) (s : W.State) (os ns : List (List ℕ)) where
-  pub both-old : (n k : ℕ) → endShown (ended t s os) ≡ Off n k → both.Off n 1 k ≡ bothShown (ended t s os) (toDirectory t 1 s ns)
+module _ (t : List ℕ) (s : W.State) (os : List (List ℕ)) (r : W.State) (ns : List (List ℕ)) where
+  pub both-old : (n k : ℕ) → endShown (ended t s os) ≡ Off n k → both.Off n 1 k ≡ bothShown (ended t s os) (toDirectory t 1 r ns)
   both-old n k h = rw (end-astray (ended t s os) n k h)
 
   module _ (d f : State) (h : endShown (ended t s os) ≡ At d f) where
-    pub both-new : (n k : ℕ) → walkedShown (toDirectory t 1 s ns) ≡ Stopped n k → both.Off n 2 k ≡ bothShown (ended t s os) (toDirectory t 1 s ns)
-    both-new n k g = rw (end-arrived (ended t s os) d f h, walked-stopped (toDirectory t 1 s ns) n k g)
+    pub both-new : (n k : ℕ) → walkedShown (toDirectory t 1 r ns) ≡ Stopped n k → both.Off n 2 k ≡ bothShown (ended t s os) (toDirectory t 1 r ns)
+    both-new n k g = rw (end-arrived (ended t s os) d f h, walked-stopped (toDirectory t 1 r ns) n k g)
 
-    pub both-at : (x : State) → walkedShown (toDirectory t 1 s ns) ≡ Reached x → both.At f x ≡ bothShown (ended t s os) (toDirectory t 1 s ns)
-    both-at x g = rw (end-arrived (ended t s os) d f h, walked-reached (toDirectory t 1 s ns) x g)
+    pub both-at : (x : State) → walkedShown (toDirectory t 1 r ns) ≡ Reached x → both.At f x ≡ bothShown (ended t s os) (toDirectory t 1 r ns)
+    both-at x g = rw (end-arrived (ended t s os) d f h, walked-reached (toDirectory t 1 r ns) x g)

@@ -1,7 +1,13 @@
 -- The states and answers of the code, and those of `Walk` that they stand for.
-use Rattle.paper.specs.Walk.{on, off, reached, stopped}
+use mathlib.Core.List.{List}
+use Prim.Native.Nat.{ℕ}
+use Rattle.paper.specs.Effect.{chainOf, listOf, begun}
+use Rattle.paper.specs.Walk.{start, on, off, reached, stopped}
 use Rattle.paper.specs.Walk as W
 use Rattle.records.specs.Shown.{holderShown}
+use Rattle.words.specs.Place.{wordAt}
+use Rattle.words.specs.Shown.{beginMeant}
+use Rattle.words.specs.declared.begin.Begin.{Begin}
 use Rattle.walk.specs.declared.state.State.{State}
 use Rattle.walk.specs.declared.state.Step.{Step}
 use Rattle.walk.specs.declared.state.Step.the-variants.{On, Off}
@@ -33,3 +39,10 @@ stepShown (off number) = Off number
 abbrev pub walkedShown : W.Walked → Walked
 walkedShown (reached s) = Reached (shown s)
 walkedShown (stopped number link) = Stopped number link
+
+-- where a chain of this user starts, and the chain at p
+abbrev pub begins : ℕ → Begin → W.State
+begins u begin = start (listOf u (beginMeant begin))
+
+abbrev pub chainAt : List ℕ → ℕ → Begin → List (List ℕ)
+chainAt line p begin = chainOf (begun (beginMeant begin) (wordAt line p))

@@ -3,10 +3,10 @@ use crate::chain::Walked;
 use crate::chain::to_directory;
 use crate::chain::to_last;
 use crate::state::State;
+use words::begin::Begin;
 ghost use mathlib.Core.Path.{_≡_};
-ghost use Rattle.paper.specs.Name.{chain};
-ghost use Rattle.paper.specs.Walk.{start, toDirectory, ended};
-ghost use Rattle.words.specs.Place.{namesFrom};
+ghost use Rattle.paper.specs.Walk.{toDirectory, ended};
+ghost use Rattle.walk.specs.Shown.{begins, chainAt};
 ghost use Rattle.walk.specs.Ends.{endShown, bothShown};
 
 // The directory and the file, or the number of the link that the walk stopped at.
@@ -16,14 +16,14 @@ pub enum End {
 }
 
 // "an old name to its file"
-pub fn to_end(table: &[u8], line: &[u8], p: usize, user: u32) -> End
-    ensures { λ r. ⌜ r ≡ endShown (ended (now (table .entry)) (start user) (chain (namesFrom (now (line .entry)) p))) ⌝ }
+pub fn to_end(table: &[u8], line: &[u8], p: usize, begin: Begin, user: u32) -> End
+    ensures { λ r. ⌜ r ≡ endShown (ended (now (table .entry)) (begins user begin) (chainAt (now (line .entry)) p begin)) ⌝ }
 {
-    let first = to_directory(table, line, p, State::start(user));
+    let first = to_directory(table, line, p, begin, user);
     match first {
         Walked::Stopped { number, link } => End::Off { number, link },
         Walked::Reached(d) => {
-            let last = to_last(table, line, p, d);
+            let last = to_last(table, line, p, begin, d);
             match last {
                 Walked::Stopped { number, link } => End::Off { number, link },
                 Walked::Reached(f) => End::At(d, f),
@@ -39,11 +39,19 @@ pub enum Both {
 }
 
 // "the arguments are walked left to right", "a new name only to its directory"
-pub fn to_both(table: &[u8], line: &[u8], old: usize, new: usize, user: u32) -> Both
-    ensures { λ r. ⌜ r ≡ bothShown (ended (now (table .entry)) (start user) (chain (namesFrom (now (line .entry)) old)))
-        (toDirectory (now (table .entry)) 1 (start user) (chain (namesFrom (now (line .entry)) new))) ⌝ }
+pub fn to_both(
+    table: &[u8],
+    line: &[u8],
+    from: Begin,
+    old: usize,
+    to: Begin,
+    new: usize,
+    user: u32,
+) -> Both
+    ensures { λ r. ⌜ r ≡ bothShown (ended (now (table .entry)) (begins user from) (chainAt (now (line .entry)) old from))
+        (toDirectory (now (table .entry)) 1 (begins user to) (chainAt (now (line .entry)) new to)) ⌝ }
 {
-    let end = to_end(table, line, old, user);
+    let end = to_end(table, line, old, from, user);
     match end {
         End::Off { number, link } => Both::Off {
             number,
@@ -51,7 +59,7 @@ pub fn to_both(table: &[u8], line: &[u8], old: usize, new: usize, user: u32) -> 
             link,
         },
         End::At(_, file) => {
-            let walked = to_directory(table, line, new, State::start(user));
+            let walked = to_directory(table, line, new, to, user);
             match walked {
                 Walked::Stopped { number, link } => Both::Off {
                     number,

@@ -3,13 +3,14 @@
 use mathlib.Core.Bool.{Bool, true, false, _&&_, cond}
 use mathlib.Core.List.{List, [], _∷_}
 use mathlib.Core.Logic.{_⊎_, inl, inr}
-use mathlib.Core.Path.{_≡_, refl, sym}
+use mathlib.Core.Path.{_≡_, refl, sym, _∙_}
 use Prim.Native.Nat.{ℕ, suc, _+_, _≤_, _<_}
 use native.Mathlib.Omega.{arith}
 use native.Mathlib.Nat.{add-zero, zero-add}
 use lib.ListN.{length, getD, drop, drop-of-length-le, length-drop}
 use lib.Seq.{drop-cons}
 use lib.Dec.{eqb, eqb·zero-suc, eqb·suc-suc}
+use borrow.Author.Tests.{eqb-true, eqb-false, eq-eqb, ne-eqb}
 use Rattle.paper.specs.Name.{all}
 use Rattle.words.specs.Place.{lead, reach}
 use Rattle.laws.proofs.Tests.{truth}
@@ -89,3 +90,16 @@ all-reach test s = rw zero-add (by s)
         go : (t : Bool) → all test s ≡ eqb (lead test s) (length s) → (t && all test s) ≡ eqb (cond t (suc (lead test s)) 0) (suc (length s))
         go true r = rw eqb·suc-suc r
         go false r = sym (eqb·zero-suc (length s))
+
+-- .. and from p on
+pub all-reach-from : (test : ℕ → Bool) (s : List ℕ) (p : ℕ) → p ≤ length s → all test (drop p s) ≡ eqb (reach test s p) (length s)
+unfolding reach
+all-reach-from test s p l =
+    rw (all-reach test (drop p s), zero-add) (go (lead test (drop p s)) (length (drop p s)) (length s) (omega (arith, length-drop p s)))
+  where
+    go : (a b n : ℕ) → n ≡ p + b → eqb a b ≡ eqb (p + a) n
+    go a b n e = by (truth (eqb a b))
+      where
+        by : (eqb a b ≡ true) ⊎ (eqb a b ≡ false) → eqb a b ≡ eqb (p + a) n
+        by (inl f) = f ∙ sym (eq-eqb (p + a) n (omega (arith, eqb-true a b f)))
+        by (inr f) = f ∙ sym (ne-eqb (p + a) n (λ (g : p + a ≡ n). eqb-false a b f (omega arith)))

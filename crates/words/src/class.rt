@@ -1,17 +1,18 @@
 // Classes of bytes.
 ghost use mathlib.Core.Path.{_≡_};
-ghost use Rattle.paper.specs.Name.{inName, inBase};
+ghost use Rattle.paper.specs.Name.{inName, inBase, inNumber};
 ghost use Rattle.paper.specs.Line.{inLine};
 ghost use Rattle.words.specs.Place.{reach, isPlain};
 ghost use Rattle.words.specs.Shown.{test};
 
-// Blanks; what is neither blank nor colon; bytes of a line, of a link name, of a base name of three characters or more.
+// Blanks; what is neither blank nor colon; bytes of a line, of a link name, of a base name of three characters or more; digits.
 pub(crate) enum Class {
     Blank,
     Plain,
     Line,
     Name,
     Base,
+    Digit,
 }
 
 impl Class {
@@ -63,6 +64,15 @@ fn in_base(b: u8) -> bool
     }
 }
 
+fn is_digit(b: u8) -> bool
+    ensures { λ r. ⌜ r ≡ inNumber b ⌝ }
+{
+    match b {
+        b'0'..=b'9' => true,
+        _ => false,
+    }
+}
+
 fn passes(class: Class, b: u8) -> bool
     ensures { λ r. ⌜ r ≡ test class b ⌝ }
 {
@@ -72,6 +82,7 @@ fn passes(class: Class, b: u8) -> bool
         Class::Line => in_line(b),
         Class::Name => in_name(b),
         Class::Base => in_base(b),
+        Class::Digit => is_digit(b),
     }
 }
 

@@ -39,7 +39,7 @@ pub fn is_pointed(n: &[u8]) -> bool
 }
 
 // How many names the word at p has.
-fn count_names(line: &[u8], p: usize) -> usize
+pub fn count_names(line: &[u8], p: usize) -> usize
     ensures { λ r. ⌜ r ≡ length (namesFrom (now (line .entry)) p) ⌝ }
 {
     let mut i = p;

@@ -4,6 +4,7 @@ use mathlib.Core.Path.{_∙_}
 use Rattle.elephant.proofs.Ends.{end-off, end-at, filed}
 use Rattle.paper.specs.Effect.{chnPlan}
 use Rattle.walk.proofs.Chains.{last-chain}
+use Rattle.words.specs.declared.begin.Begin.the-variants.{Own}
 use borrow.Author.Needs.{needs}
 use Rattle.elephant.proofs.change.chn.Statement.{statement}
 use Rattle.elephant.proofs.change.chn.Tie as tie
@@ -30,7 +31,7 @@ chn-at-requires c κs =
     let a = start .args in
     let g = c .before .before .before .end2 .given in
     let n = c .last-name .ensures ∙ last-chain (a .line .now) (a .link) in (
-      filed (a .table .now) (a .line .now) (a .user) (a .old) _ (at-to-end .to-end .ensures) (start .pre .0) (g .0 .0) (g .0 .1 .0) (g .1),
+      filed (a .table .now) (a .line .now) (a .user) (a .old) Own _ (at-to-end .to-end .ensures) (start .pre .0) (g .0 .0) (g .0 .1 .0) (g .1),
       rw n
           (start .pre .1),
     )
@@ -46,7 +47,7 @@ returns c =
     let a = start .args in
     let g = c .before .before .end .given in
     rw (c .refused .ensures)
-    (end-off (a .table .now) (a .line .now) (a .user) (a .old) 1 _ _ (at-to-end .to-end .ensures) (g .0 .0) (g .0 .1 .0) (g .1) (a .stop))
+    (end-off (a .table .now) (a .line .now) (a .user) (a .old) Own 1 _ _ (at-to-end .to-end .ensures) (g .0 .0) (g .0 .1 .0) (g .1) (a .stop))
 
 same-length-2 : tie.Need-same-length-2
 same-length-2 c = search needs
@@ -60,7 +61,7 @@ returns-2 c =
     let a = start .args in
     let g = at-end2 .end2 .given in
     let n = c .before .before .before .last-name .ensures ∙ last-chain (a .line .now) (a .link) in
-    end-at (a .table .now) (a .line .now) (a .user) (a .old) 1 _ _ (at-to-end .to-end .ensures) (g .0 .0) (g .0 .1 .0) (g .1) (a .stop) _ _
+    end-at (a .table .now) (a .line .now) (a .user) (a .old) Own 1 _ _ (at-to-end .to-end .ensures) (g .0 .0) (g .0 .1 .0) (g .1) (a .stop) _ _
     (rw n at (c .before .before .chn-at .ensures))
 
 pub chn-spec : {M : Type 1} → statement M

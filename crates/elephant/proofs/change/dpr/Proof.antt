@@ -2,6 +2,7 @@
 -- On a fit table the file is there.
 use Rattle.elephant.proofs.Ends.{end-off, end-at, filed}
 use Rattle.paper.specs.Effect.{dprPlan}
+use Rattle.words.specs.declared.begin.Begin.the-variants.{Own}
 use borrow.Author.Needs.{needs}
 use Rattle.elephant.proofs.change.dpr.Statement.{statement}
 use Rattle.elephant.proofs.change.dpr.Tie as tie
@@ -24,7 +25,7 @@ dpr-at-requires c κs =
     let start = at-to-end .before .before .before .before in
     let a = start .args in
     let g = c .before .before .end2 .given in
-    filed (a .table .now) (a .line .now) (a .user) (a .name) _ (at-to-end .to-end .ensures) (start .pre) (g .0 .0) (g .0 .1 .0) (g .1)
+    filed (a .table .now) (a .line .now) (a .user) (a .name) Own _ (at-to-end .to-end .ensures) (start .pre) (g .0 .0) (g .0 .1 .0) (g .1)
 
 same-length : tie.Need-same-length
 same-length c = search needs
@@ -37,7 +38,7 @@ returns c =
     let a = start .args in
     let g = c .before .before .end .given in
     rw (c .refused .ensures)
-    (end-off (a .table .now) (a .line .now) (a .user) (a .name) 1 _ _ (at-to-end .to-end .ensures) (g .0 .0) (g .0 .1 .0) (g .1) (a .stop))
+    (end-off (a .table .now) (a .line .now) (a .user) (a .name) Own 1 _ _ (at-to-end .to-end .ensures) (g .0 .0) (g .0 .1 .0) (g .1) (a .stop))
 
 same-length-2 : tie.Need-same-length-2
 same-length-2 c = search needs
@@ -50,7 +51,7 @@ returns-2 c =
     let start = at-to-end .before .before .before .before in
     let a = start .args in
     let g = at-end2 .end2 .given in
-    end-at (a .table .now) (a .line .now) (a .user) (a .name) 1 _ _ (at-to-end .to-end .ensures) (g .0 .0) (g .0 .1 .0) (g .1) (a .stop) _ _
+    end-at (a .table .now) (a .line .now) (a .user) (a .name) Own 1 _ _ (at-to-end .to-end .ensures) (g .0 .0) (g .0 .1 .0) (g .1) (a .stop) _ _
     (c .before .before .dpr-at .ensures)
 
 pub dpr-spec : {M : Type 1} → statement M

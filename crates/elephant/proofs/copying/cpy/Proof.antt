@@ -2,6 +2,7 @@
 -- What follows there is the plan's making.
 use Rattle.paper.specs.Effect.{cpyPlan}
 use Rattle.elephant.proofs.Ends.{both-stops, both-reaches}
+use Rattle.words.specs.declared.begin.Begin.the-variants.{Own}
 use borrow.Author.Needs.{needs}
 use Rattle.elephant.proofs.copying.cpy.Statement.{statement}
 use Rattle.elephant.proofs.copying.cpy.Tie as tie
@@ -32,8 +33,8 @@ returns c =
     let a = start .args in
     let g = c .before .before .both .given in
     rw (c .refused .ensures)
-    (both-stops (a .table .now) (a .line .now) (a .user) (a .old) (a .new) _ _ (at-to-both .to-both .ensures) (a .stop) (g .0 .0) (g .0 .1 .0)
-    (g .0 .1 .1 .0) (g .1))
+    (both-stops (a .table .now) (a .line .now) (a .user) (a .from) (a .old) Own (a .new) _ _ (at-to-both .to-both .ensures)
+    (a .stop) (g .0 .0) (g .0 .1 .0) (g .0 .1 .1 .0) (g .1))
 
 same-length-2 : tie.Need-same-length-2
 same-length-2 c = search needs
@@ -46,9 +47,8 @@ returns-2 c =
     let start = at-to-both .before .before .before .before in
     let a = start .args in
     let g = at-both2 .both2 .given in
-    both-reaches (a .table .now) (a .line .now) (a .user) (a .old) (a .new) _ _ (at-to-both .to-both .ensures) (a .stop) (g .0 .0) (g .0 .1 .0) _ _
-    (g .1)
-    (c .before .before .cpy-in .ensures)
+    both-reaches (a .table .now) (a .line .now) (a .user) (a .from) (a .old) Own (a .new) _ _ (at-to-both .to-both .ensures)
+    (a .stop) (g .0 .0) (g .0 .1 .0) _ _ (g .1) (c .before .before .cpy-in .ensures)
 
 pub cpy-spec : {M : Type 1} → statement M
 cpy-spec =

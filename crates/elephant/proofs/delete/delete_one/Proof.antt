@@ -2,6 +2,7 @@
 -- On a fit table the file is there.
 use Rattle.elephant.proofs.Ends.{name-off, name-at, filed}
 use Rattle.paper.specs.Effect.{delPlan}
+use Rattle.words.specs.declared.begin.Begin.the-variants.{Own}
 use borrow.Author.Needs.{needs}
 use Rattle.elephant.proofs.delete.delete_one.Statement.{statement}
 use Rattle.elephant.proofs.delete.delete_one.Tie as tie
@@ -21,7 +22,7 @@ delete-at-requires c κs =
     let start = at-to-end .before .before .before .before in
     let a = start .args in
     let g = c .before .before .end2 .given in
-    filed (a .table .now) (a .line .now) (a .user) (a .p) _ (at-to-end .to-end .ensures) (start .pre) (g .0 .0) (g .0 .1 .0) (g .1)
+    filed (a .table .now) (a .line .now) (a .user) (a .p) Own _ (at-to-end .to-end .ensures) (start .pre) (g .0 .0) (g .0 .1 .0) (g .1)
 
 same-length : tie.Need-same-length
 same-length c = search needs
@@ -32,7 +33,7 @@ returns c =
     let start = c .before .before .before .before .before .before .before in
     let a = start .args in
     let g = c .before .end .given in
-    name-off (a .table .now) (a .line .now) (a .user) (a .p) (a .place) _ _ (c .before .before .before .to-end .ensures) (g .0 .0) (g .0 .1 .0) (g .1)
+    name-off (a .table .now) (a .line .now) (a .user) (a .p) Own (a .place) _ _ (c .before .before .before .to-end .ensures) (g .0 .0) (g .0 .1 .0) (g .1)
     (a .left)
 
 same-length-2 : tie.Need-same-length-2
@@ -46,7 +47,7 @@ returns-2 c =
     let start = at-to-end .before .before .before .before in
     let a = start .args in
     let g = at-end2 .end2 .given in
-    name-at (a .table .now) (a .line .now) (a .user) (a .p) (a .place) _ _ (at-to-end .to-end .ensures) (g .0 .0) (g .0 .1 .0) (g .1) (a .left) _ _
+    name-at (a .table .now) (a .line .now) (a .user) (a .p) Own (a .place) _ _ (at-to-end .to-end .ensures) (g .0 .0) (g .0 .1 .0) (g .1) (a .left) _ _
     (c .before .before .delete-at .ensures)
 
 pub delete-one-spec : {M : Type 1} → statement M

@@ -37,7 +37,7 @@ cpy-requires : tie.Need-cpy-requires
 cpy-requires c κs =
     let s = c .before .before .before .before .before .before .before .before in
     let g = c .before .before .asked4 .given in
-    cpy-ready (s .pre) (g .0 .0) (g .0 .1 .0) (g .0 .1 .1 .0) (g .0 .1 .1 .1 .0) (g .0 .1 .1 .1 .1 .0) (g .1)
+    cpy-ready (s .pre) (g .0 .0) (g .0 .1 .0) (g .0 .1 .1 .0) (g .0 .1 .1 .1 .0) (g .0 .1 .1 .1 .1 .0) (g .0 .1 .1 .1 .1 .1 .0) (g .1)
 
 enum-known-asked-5 : tie.Need-enum-known-asked-5
 enum-known-asked-5 c = search needs
@@ -46,7 +46,7 @@ dup-requires : tie.Need-dup-requires
 dup-requires c κs =
     let s = c .before .before .before .before .before .before .before .before in
     let g = c .before .before .asked5 .given in
-    dup-ready (s .pre) (g .0 .0) (g .0 .1 .0) (g .0 .1 .1 .0) (g .1)
+    dup-ready (s .pre) (g .0 .0) (g .0 .1 .0) (g .0 .1 .1 .0) (g .0 .1 .1 .1 .0) (g .0 .1 .1 .1 .1 .0) (g .1)
 
 enum-known-asked-6 : tie.Need-enum-known-asked-6
 enum-known-asked-6 c = search needs
@@ -124,7 +124,7 @@ returns-3 c =
     let at-asked = c .before .before .before .before .before .before in
     let s = at-asked .before .before .before .before .before .before in
     let g = at-asked .asked3 .given in
-    rds-done (s .pre) (s .args .reply .now) (s .args .stop) _ _ (g .0 .0) (g .1) (c .before .before .read .ensures)
+    rds-done (s .pre) (s .args .reply .now) (s .args .stop) _ _ (g .0 .0) (g .0 .1 .0) (g .1) (c .before .before .read .ensures)
 
 same-length-5 : tie.Need-same-length-5
 same-length-5 c = search needs
@@ -134,8 +134,8 @@ returns-4 c =
     let at-asked = c .before .before .before .before .before in
     let s = at-asked .before .before .before .before .before .before in
     let g = at-asked .asked4 .given in
-    cpy-done (s .pre) (s .args .reply .now) (s .args .stop) _ _ (g .0 .0) (g .0 .1 .0) (g .0 .1 .1 .0) (g .0 .1 .1 .1 .0) (g .0 .1 .1 .1 .1 .0) (g .1)
-    (c .before .before .cpy .ensures)
+    cpy-done (s .pre) (s .args .reply .now) (s .args .stop) _ _ (g .0 .0) (g .0 .1 .0) (g .0 .1 .1 .0) (g .0 .1 .1 .1 .0) (g .0 .1 .1 .1 .1 .0)
+    (g .0 .1 .1 .1 .1 .1 .0) (g .1) (c .before .before .cpy .ensures)
 
 same-length-6 : tie.Need-same-length-6
 same-length-6 c = search needs
@@ -145,7 +145,8 @@ returns-5 c =
     let at-asked = c .before .before .before .before .before in
     let s = at-asked .before .before .before .before .before .before in
     let g = at-asked .asked5 .given in
-    dup-done (s .pre) (s .args .reply .now) (s .args .stop) _ _ (g .0 .0) (g .0 .1 .0) (g .0 .1 .1 .0) (g .1) (c .before .before .dup .ensures)
+    dup-done (s .pre) (s .args .reply .now) (s .args .stop) _ _ (g .0 .0) (g .0 .1 .0) (g .0 .1 .1 .0) (g .0 .1 .1 .1 .0) (g .0 .1 .1 .1 .1 .0) (g .1)
+    (c .before .before .dup .ensures)
 
 same-length-7 : tie.Need-same-length-7
 same-length-7 c = search needs
@@ -188,7 +189,7 @@ returns-9 c =
     let at-asked = c .before .before .before .before .before .before in
     let s = at-asked .before .before .before .before .before .before in
     let g = at-asked .asked9 .given in
-    lst-done (s .pre) (s .args .reply .now) (s .args .stop) _ _ (g .0 .0) (g .1) (c .before .before .read2 .ensures)
+    lst-done (s .pre) (s .args .reply .now) (s .args .stop) _ _ (g .0 .0) (g .0 .1 .0) (g .1) (c .before .before .read2 .ensures)
 
 same-length-12 : tie.Need-same-length-12
 same-length-12 c = search needs

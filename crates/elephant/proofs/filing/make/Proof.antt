@@ -23,12 +23,12 @@ meet-requires c κs = search needs
 
 needed-requires : tie.Need-needed-requires
 needed-requires c κs =
-    let at-count-file = c .before .before .before .before .before .before .before in
+    let at-count-file = c .before .before .before .before .before .before in
     let start = at-count-file .before .before .before .before .before in
     rw (at-count-file .count-file .ensures) (file-count (start .args .file) (start .args .text .now) (start .pre .few))
 
-entry-refusal-requires : tie.Need-entry-refusal-requires
-entry-refusal-requires c κs = search needs
+refusal-requires : tie.Need-refusal-requires
+refusal-requires c κs = search needs
 
 refused-requires : tie.Need-refused-requires
 refused-requires c κs = search needs
@@ -38,8 +38,8 @@ same-length c = search needs
 
 returns : tie.Need-returns
 returns c =
-    let at-needed = c .before .before .before .before in
-    let at-meet = at-needed .before .before in
+    let at-needed = c .before .before .before .before .before in
+    let at-meet = at-needed .before in
     let at-room-at = at-meet .before in
     let at-find = at-room-at .before .before .before in
     let at-count-file = at-find .before .before in
@@ -47,9 +47,9 @@ returns c =
     let a = start .args in
     let n = at-count-file .count-file in
     let m = at-meet .meet in
-    let r = c .before .before .before .entry-refusal in
+    let r = c .before .before .before .refusal in
     rw (c .refused .ensures)
-    (ends-refused (a .table .now) (a .rooms .now) (a .name .now) (a .text .now) (a .named .0) (start .pre) (a .place) (a .d) (a .code .0) (a .file)
+    (ends-refused (a .table .now) (a .rooms .now) (a .name .now) (a .text .now) (a .named .0) (start .pre) (a .place) (a .to) (a .d) (a .code .0) (a .file)
     (at-room-at .room-at .result .0) (rw (n .ensures) at (at-room-at .room-at .ensures)) (a .stop)
     (m .result) (rw (at-find .find .ensures) at (m .ensures))
     (r .result) (rw (at-needed .needed .ensures, n .ensures) at (r .ensures))
@@ -70,8 +70,8 @@ place-entry-requires c κs = search needs
 count-stores-requires : tie.Need-count-stores-requires
 count-stores-requires c κs =
     let at-put-file = c .before .before .before .before .before .before .before in
-    let at-entry-refusal = at-put-file .before .before .before .before .before .before .before .before in
-    let at-meet = at-entry-refusal .before .before .before in
+    let at-refusal = at-put-file .before .before .before .before .before .before .before .before in
+    let at-meet = at-refusal .before .before .before in
     let at-find = at-meet .before .before .before .before in
     let at-count-file = at-find .before .before in
     let start = at-count-file .before .before .before .before .before in (
@@ -93,9 +93,9 @@ returns-2 c =
     let at-text-rooms = at-put-file .before .before in
     let at-laid = at-text-rooms .before .before .before in
     let at-if1 = at-laid .before in
-    let at-entry-refusal = at-if1 .before .before in
-    let at-needed = at-entry-refusal .before in
-    let at-meet = at-needed .before .before in
+    let at-refusal = at-if1 .before .before in
+    let at-needed = at-refusal .before .before in
+    let at-meet = at-needed .before in
     let at-room-at = at-meet .before in
     let at-find = at-room-at .before .before .before in
     let at-count-file = at-find .before .before in
@@ -103,12 +103,12 @@ returns-2 c =
     let a = start .args in
     let n = at-count-file .count-file in
     let m = at-meet .meet in
-    let r = at-entry-refusal .entry-refusal in
+    let r = at-refusal .refusal in
     let w = start .pre in
     let e = at-laid .laid in
     let p = at-place-entry .place-entry in
     rw (c .stored .ensures, c .before .count-stores .ensures, n .ensures)
-    (ends-stored (a .table .now) (a .rooms .now) (a .name .now) (a .text .now) (a .named .0) w (a .place) (a .d) (a .code .0) (a .file)
+    (ends-stored (a .table .now) (a .rooms .now) (a .name .now) (a .text .now) (a .named .0) w (a .place) (a .to) (a .d) (a .code .0) (a .file)
     (at-room-at .room-at .result .0) (rw (n .ensures) at (at-room-at .room-at .ensures)) (a .stop)
     (m .result) (rw (at-find .find .ensures) at (m .ensures))
     (r .result) (rw (at-needed .needed .ensures, n .ensures) at (r .ensures))
@@ -125,7 +125,7 @@ make-spec =
     room-at-requires
     meet-requires
     needed-requires
-    entry-refusal-requires
+    refusal-requires
     refused-requires
     same-length
     returns

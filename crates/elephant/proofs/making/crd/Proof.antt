@@ -16,9 +16,6 @@ or-else-requires-2 c κs = search needs
 laid-requires : tie.Need-laid-requires
 laid-requires c κs = search needs
 
-start-requires : tie.Need-start-requires
-start-requires c κs = search needs
-
 to-directory-requires : tie.Need-to-directory-requires
 to-directory-requires c κs = search needs
 
@@ -37,7 +34,7 @@ part-requires c κs = search needs
 file-in-requires : tie.Need-file-in-requires
 file-in-requires c κs =
     let at-to-directory = c .before .before .before .before .before in
-    let p = at-to-directory .before .before .before .before .before .before .before .before .pre in
+    let p = at-to-directory .before .before .before .before .before .before .before .pre in
     record { size = p .size; sound = p .sound; short = p .short; few = rw (c .part .ensures) (omega arith) }
 
 same-length : tie.Need-same-length
@@ -46,13 +43,12 @@ same-length c = search needs
 returns : tie.Need-returns
 returns c =
     let at-to-directory = c .before .before .before .before in
-    let at-start = at-to-directory .before in
-    let start = at-start .before .before .before .before .before .before .before in
+    let start = at-to-directory .before .before .before .before .before .before .before in
     let a = start .args in
     let g = c .before .before .walked .given in
     rw (c .refused .ensures)
     (crd-stops (a .table .now) (a .line .now) (a .user) (a .name) (a .stop) _ _ (g .0 .0) (g .0 .1 .0)
-    (sym (rw (at-start .start .ensures) at (at-to-directory .to-directory .ensures)) ∙ g .1))
+    (sym (at-to-directory .to-directory .ensures) ∙ g .1))
 
 same-length-2 : tie.Need-same-length-2
 same-length-2 c = search needs
@@ -61,15 +57,14 @@ returns-2 : tie.Need-returns-2
 returns-2 c =
     let at-walked2 = c .before .before .before .before .before .before in
     let at-to-directory = at-walked2 .before .before in
-    let at-start = at-to-directory .before in
-    let at-laid = at-start .before .before in
+    let at-laid = at-to-directory .before .before in
     let at-or-else2 = at-laid .before in
     let at-or-else = at-or-else2 .before in
     let start = at-or-else .before .before .before in
     let a = start .args in
     let g = at-walked2 .walked2 .given in
     crd-reaches (a .table .now) (a .line .now) (a .user) (a .name) (a .stop) _ _ (g .0 .0) _ _
-    (sym (rw (at-start .start .ensures) at (at-to-directory .to-directory .ensures)) ∙ g .1)
+    (sym (at-to-directory .to-directory .ensures) ∙ g .1)
     (rw (c .before .before .before .part .ensures, at-laid .laid .ensures, at-or-else2 .or-else2 .ensures, at-or-else .or-else .ensures) at
     (c .before .before .file-in .ensures))
 
@@ -80,7 +75,6 @@ crd-spec =
     or-else-requires
     or-else-requires-2
     laid-requires
-    start-requires
     to-directory-requires
     enum-known-walked
     refused-requires

@@ -6,9 +6,6 @@ use borrow.Author.Needs.{needs}
 use Rattle.elephant.proofs.making.dup.Statement.{statement}
 use Rattle.elephant.proofs.making.dup.Tie as tie
 
-or-else-requires : tie.Need-or-else-requires
-or-else-requires c κs = search needs
-
 to-both-requires : tie.Need-to-both-requires
 to-both-requires c κs = search needs
 
@@ -31,12 +28,12 @@ returns : tie.Need-returns
 unfolding dupPlan
 returns c =
     let at-to-both = c .before .before .before .before in
-    let start = at-to-both .before .before .before .before .before in
+    let start = at-to-both .before .before .before .before in
     let a = start .args in
     let g = c .before .before .both .given in
     rw (c .refused .ensures)
-    (both-stops (a .table .now) (a .line .now) (a .user) (a .old) (a .new) _ _ (at-to-both .to-both .ensures) (a .stop) (g .0 .0) (g .0 .1 .0)
-    (g .0 .1 .1 .0) (g .1))
+    (both-stops (a .table .now) (a .line .now) (a .user) (a .from) (a .old) (a .to) (a .new) _ _ (at-to-both .to-both .ensures)
+    (a .stop) (g .0 .0) (g .0 .1 .0) (g .0 .1 .1 .0) (g .1))
 
 same-length-2 : tie.Need-same-length-2
 same-length-2 c = search needs
@@ -46,19 +43,16 @@ unfolding dupPlan
 returns-2 c =
     let at-both2 = c .before .before .before .before .before in
     let at-to-both = at-both2 .before .before in
-    let at-or-else = at-to-both .before .before in
-    let start = at-or-else .before .before .before in
+    let start = at-to-both .before .before .before .before in
     let a = start .args in
     let g = at-both2 .both2 .given in
-    both-reaches (a .table .now) (a .line .now) (a .user) (a .old) (a .new) _ _ (at-to-both .to-both .ensures) (a .stop) (g .0 .0) (g .0 .1 .0) _ _
-    (g .1)
-    (rw (at-or-else .or-else .ensures) at (c .before .before .dup-in .ensures))
+    both-reaches (a .table .now) (a .line .now) (a .user) (a .from) (a .old) (a .to) (a .new) _ _ (at-to-both .to-both .ensures)
+    (a .stop) (g .0 .0) (g .0 .1 .0) _ _ (g .1) (c .before .before .dup-in .ensures)
 
 pub dup-spec : {M : Type 1} → statement M
 dup-spec =
     tie.close
     (tie.spec
-    or-else-requires
     to-both-requires
     enum-known-both
     refused-requires

@@ -1,5 +1,6 @@
 -- 14 is the plan's first check: it refuses, or the plan ends as without it.
 -- The entry followed is read before any store: the heading it names and its code are the plan's.
+use mathlib.Core.Path.{sym, _∙_}
 use native.Mathlib.Omega.{arith}
 use Rattle.elephant.proofs.Walking.{shut-refused, open-ends}
 use borrow.Author.Needs.{needs}
@@ -16,7 +17,10 @@ returns : tie.Need-returns
 returns c =
     let start = c .before .before .before .before .before .before in
     let a = start .args in
-    rw (c .refused .ensures) (shut-refused (a .table .now) (a .stop) _ (rw (c .before .before .inhibits-write .ensures) at (c .before .if1 .taken)))
+    rw (c .refused .ensures) (shut-refused (a .table .now) (a .stop) _ _ (rw (c .before .before .inhibits-write .ensures) at (c .before .if1 .taken)))
+
+or-else-requires : tie.Need-or-else-requires
+or-else-requires c κs = search needs
 
 heading-named-requires : tie.Need-heading-named-requires
 heading-named-requires c κs = search needs
@@ -40,15 +44,15 @@ make-requires : tie.Need-make-requires
 make-requires c κs =
     let at-free-rooms = c .before .before .before .before in
     let at-heading-named = at-free-rooms .before .before .before .before .before .before in
-    let start = at-heading-named .before .before .before .before .before .before .before in
-    let p = start .pre in
+    let start = at-heading-named .before .before .before .before .before .before .before .before in
+    let p = start .pre .named in
     let h = at-heading-named .heading-named in
     record {
       size = p .size;
       sound = p .sound;
       free = at-free-rooms .free-rooms .ensures;
-      short = rw (c .before .last-name .ensures) (p .short);
-      few = rw (c .part .ensures) (omega arith);
+      short = rw (c .before .before .before .last-name .ensures) (p .short);
+      few = rw (c .before .before .part .ensures) (omega arith);
       small = h .ensures .1;
     }
 
@@ -57,16 +61,24 @@ same-length c = search needs
 
 returns-2 : tie.Need-returns-2
 returns-2 c =
-    let at-last-name = c .before .before .before .before in
-    let at-joined = at-last-name .before .before .before .before .before .before in
+    let at-last-name = c .before .before .before .before .before .before in
+    let at-joined = at-last-name .before .before .before .before in
     let at-entry-code = at-joined .before in
     let at-heading-named = at-entry-code .before .before in
-    let at-if1 = at-heading-named .before .before in
+    let at-or-else = at-heading-named .before .before in
+    let at-if1 = at-or-else .before in
     let at-inhibits-write = at-if1 .before in
     let start = at-inhibits-write .before .before .before .before in
     let a = start .args in
-    open-ends (a .table .now) (a .stop) _ _ _ (rw (at-inhibits-write .inhibits-write .ensures) at (at-if1 .if1 .left))
-    (rw (at-last-name .last-name .ensures, at-joined .joined .ensures, at-entry-code .entry-code .ensures, at-heading-named .heading-named .ensures .0)
+    open-ends (a .table .now) (a .stop) _ _ _ _ (rw (at-inhibits-write .inhibits-write .ensures) at (at-if1 .if1 .left))
+    (rw (
+      at-last-name .last-name .ensures
+          ∙ sym (start .pre .last),
+      at-joined .joined .ensures,
+      at-entry-code .entry-code .ensures,
+      at-or-else .or-else .ensures,
+      at-heading-named .heading-named .ensures .0,
+    )
     at (c .before .before .make .ensures))
 
 pub dup-in-spec : {M : Type 1} → statement M
@@ -76,6 +88,7 @@ dup-in-spec =
     inhibits-write-requires
     refused-requires
     returns
+    or-else-requires
     heading-named-requires
     entry-code-requires
     joined-requires

@@ -1,5 +1,7 @@
 -- 14 is the plan's first check: it refuses, or the plan ends as without it.
 -- The code of the directory is what the walk joined.
+use mathlib.Core.List.{[]}
+use Rattle.paper.specs.Request.{own}
 use Rattle.elephant.proofs.Walking.{shut-refused, open-ends}
 use borrow.Author.Needs.{needs}
 use Rattle.elephant.proofs.making.file_in.Statement.{statement}
@@ -15,7 +17,7 @@ returns : tie.Need-returns
 returns c =
     let start = c .before .before .before .before .before .before .before in
     rw (c .refused .ensures)
-    (shut-refused (start .args .table .now) (start .args .stop) _ (rw (c .before .before .inhibits-write .ensures) at (c .before .if1 .taken)))
+    (shut-refused (start .args .table .now) (start .args .stop) _ [] (rw (c .before .before .inhibits-write .ensures) at (c .before .if1 .taken)))
 
 file-requires : tie.Need-file-requires
 file-requires c κs = search needs
@@ -28,7 +30,7 @@ returns-2 c =
     let at-if1 = c .before .before .before .before in
     let at-inhibits-write = at-if1 .before in
     let start = at-inhibits-write .before .before .before .before .before in
-    open-ends (start .args .table .now) (start .args .stop) _ _ _ (rw (at-inhibits-write .inhibits-write .ensures) at (at-if1 .if1 .left))
+    open-ends (start .args .table .now) (start .args .stop) _ own _ _ (rw (at-inhibits-write .inhibits-write .ensures) at (at-if1 .if1 .left))
     (c .before .before .file .ensures)
 
 pub file-in-spec : {M : Type 1} → statement M

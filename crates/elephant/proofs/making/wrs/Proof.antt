@@ -15,9 +15,6 @@ or-else-requires-2 c κs = search needs
 laid-requires : tie.Need-laid-requires
 laid-requires c κs = search needs
 
-start-requires : tie.Need-start-requires
-start-requires c κs = search needs
-
 to-directory-requires : tie.Need-to-directory-requires
 to-directory-requires c κs = search needs
 
@@ -39,13 +36,12 @@ same-length c = search needs
 returns : tie.Need-returns
 returns c =
     let at-to-directory = c .before .before .before .before in
-    let at-start = at-to-directory .before in
-    let start = at-start .before .before .before .before .before .before .before .before in
+    let start = at-to-directory .before .before .before .before .before .before .before .before in
     let a = start .args in
     let g = c .before .before .walked .given in
     rw (c .refused .ensures)
     (wrs-stops (a .table .now) (a .line .now) (a .user) (a .name) (a .stop) _ _ (a .text .now) (a .lifetime) (g .0 .0) (g .0 .1 .0)
-    (sym (rw (at-start .start .ensures) at (at-to-directory .to-directory .ensures)) ∙ g .1))
+    (sym (at-to-directory .to-directory .ensures) ∙ g .1))
 
 same-length-2 : tie.Need-same-length-2
 same-length-2 c = search needs
@@ -54,15 +50,14 @@ returns-2 : tie.Need-returns-2
 returns-2 c =
     let at-walked2 = c .before .before .before .before .before in
     let at-to-directory = at-walked2 .before .before in
-    let at-start = at-to-directory .before in
-    let at-laid = at-start .before .before in
+    let at-laid = at-to-directory .before .before in
     let at-or-else2 = at-laid .before in
     let at-or-else = at-or-else2 .before in
     let start = at-or-else .before .before .before .before in
     let a = start .args in
     let g = at-walked2 .walked2 .given in
     wrs-reaches (a .table .now) (a .line .now) (a .user) (a .name) (a .stop) _ _ (a .text .now) (a .lifetime) (g .0 .0) _ _
-    (sym (rw (at-start .start .ensures) at (at-to-directory .to-directory .ensures)) ∙ g .1)
+    (sym (at-to-directory .to-directory .ensures) ∙ g .1)
     (rw (at-laid .laid .ensures, at-or-else2 .or-else2 .ensures, at-or-else .or-else .ensures) at (c .before .before .file-in .ensures))
 
 pub wrs-spec : {M : Type 1} → statement M
@@ -72,7 +67,6 @@ wrs-spec =
     or-else-requires
     or-else-requires-2
     laid-requires
-    start-requires
     to-directory-requires
     enum-known-walked
     refused-requires

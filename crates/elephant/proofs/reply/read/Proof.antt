@@ -27,7 +27,7 @@ returns c =
     let a = start .args in
     let g = c .before .before .end .given in
     rw (c .refused .ensures)
-    (read-off (a .table .now) (a .line .now) (a .user) (a .name) 1 _ _ (at-to-end .to-end .ensures) (g .0 .0) (g .0 .1 .0) (g .1) (a .reply .now))
+    (read-off (a .table .now) (a .line .now) (a .user) (a .name) (a .from) 1 _ _ (at-to-end .to-end .ensures) (g .0 .0) (g .0 .1 .0) (g .1) (a .reply .now))
 
 same-length : tie.Need-same-length
 same-length c = search needs
@@ -39,7 +39,7 @@ returns-2 c =
     let start = at-to-end .before .before .before .before in
     let a = start .args in
     let g = at-end2 .end2 .given in
-    read-at (a .table .now) (a .line .now) (a .user) (a .name) 1 _ _ (at-to-end .to-end .ensures) (g .0 .0) (g .0 .1 .0) (g .1) (a .reply .now) _ _
+    read-at (a .table .now) (a .line .now) (a .user) (a .name) (a .from) 1 _ _ (at-to-end .to-end .ensures) (g .0 .0) (g .0 .1 .0) (g .1) (a .reply .now) _ _
     (c .before .before .read-at .ensures)
 
 pub read-spec : {M : Type 1} → statement M

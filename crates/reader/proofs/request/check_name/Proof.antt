@@ -1,9 +1,5 @@
--- In each arm the fault is known, and the test that
--- is called is the one that its check has.
-use mathlib.Core.Path.{sym, _∙_}
-use Rattle.paper.specs.Request.{malformed, illegal}
-use Rattle.words.specs.Place.{wordAt}
-use Rattle.reader.proofs.Verdicts.{check-holds, check-passes}
+-- In each arm the fault is known, and the check that
+-- is called is the one that it has.
 use borrow.Author.Needs.{needs}
 use Rattle.reader.proofs.request.check_name.Statement.{statement}
 use Rattle.reader.proofs.request.check_name.Tie as tie
@@ -11,71 +7,76 @@ use Rattle.reader.proofs.request.check_name.Tie as tie
 enum-told : tie.Need-enum-told
 enum-told c = search needs
 
-is-well-formed-requires : tie.Need-is-well-formed-requires
-is-well-formed-requires c κs = tt
-
-returns : tie.Need-returns
-returns c =
-    let test = c .before in
-    let args = test .before .before .before .before .args in
-    let w = wordAt (args .line .now) (args .p) in
-    rw (test .before .enum-told .given .1)
-    (sym (check-passes (malformed (args .place) w) (rw (← test .is-well-formed .ensures, c .if1 .taken))))
-
-first-wrong-requires : tie.Need-first-wrong-requires
-first-wrong-requires c κs = tt
-
-refused-requires : tie.Need-refused-requires
-refused-requires c κs = tt
+check-chain-requires : tie.Need-check-chain-requires
+check-chain-requires c κs = tt
 
 enum-told-2 : tie.Need-enum-told-2
 enum-told-2 c = search needs
 
-has-legal-base-requires : tie.Need-has-legal-base-requires
-has-legal-base-requires c κs = tt
+check-start-requires : tie.Need-check-start-requires
+check-start-requires c κs = tt
+
+enum-told-3 : tie.Need-enum-told-3
+enum-told-3 c = search needs
+
+is-take-requires : tie.Need-is-take-requires
+is-take-requires c κs = tt
+
+check-start-requires-2 : tie.Need-check-start-requires-2
+check-start-requires-2 c κs = tt
+
+enum-told-4 : tie.Need-enum-told-4
+enum-told-4 c = search needs
+
+is-take-within-requires : tie.Need-is-take-within-requires
+is-take-within-requires c κs = tt
+
+check-start-requires-3 : tie.Need-check-start-requires-3
+check-start-requires-3 c κs = tt
+
+enum-told-5 : tie.Need-enum-told-5
+enum-told-5 c = search needs
+
+is-give-requires : tie.Need-is-give-requires
+is-give-requires c κs = tt
+
+check-start-requires-4 : tie.Need-check-start-requires-4
+check-start-requires-4 c κs = tt
+
+returns : tie.Need-returns
+returns c = rw (c .before .enum-told .given .1) (c .check-chain .ensures)
 
 returns-2 : tie.Need-returns-2
-returns-2 c =
-    let test = c .before in
-    let args = test .before .before .before .before .args in
-    let w = wordAt (args .line .now) (args .p) in
-    rw (test .before .enum-told2 .given .1)
-    (sym (check-passes (illegal (args .place) w) (rw (← test .has-legal-base .ensures, c .if2 .taken))))
-
-refused-requires-2 : tie.Need-refused-requires-2
-refused-requires-2 c κs = tt
+returns-2 c = rw (c .before .enum-told2 .given .1) (c .check-start .ensures)
 
 returns-3 : tie.Need-returns-3
-returns-3 c =
-    let wrong = c .before in
-    let test = wrong .before .before in
-    let args = test .before .before .before .before .args in
-    let w = wordAt (args .line .now) (args .p) in
-    rw (test .before .enum-told .given .1)
-    (c .refused .ensures
-    ∙ rw (wrong .first-wrong .ensures)
-    (sym (check-holds (malformed (args .place) w) (rw (← test .is-well-formed .ensures, wrong .before .if1 .left)))))
+returns-3 c = rw (c .before .before .enum-told3 .given .1) (rw (c .before .is-take .ensures) at (c .check-start2 .ensures))
 
 returns-4 : tie.Need-returns-4
-returns-4 c =
-    let test = c .before .before in
-    let args = test .before .before .before .before .args in
-    let w = wordAt (args .line .now) (args .p) in
-    rw (test .before .enum-told2 .given .1)
-    (c .refused2 .ensures ∙ sym (check-holds (illegal (args .place) w) (rw (← test .has-legal-base .ensures, c .before .if2 .left))))
+returns-4 c = rw (c .before .before .enum-told4 .given .1) (rw (c .before .is-take-within .ensures) at (c .check-start3 .ensures))
+
+returns-5 : tie.Need-returns-5
+returns-5 c = rw (c .before .before .enum-told5 .given .1) (rw (c .before .is-give .ensures) at (c .check-start4 .ensures))
 
 pub check-name-spec : {M : Type 1} → statement M
 check-name-spec =
     tie.close
     (tie.spec
     enum-told
-    is-well-formed-requires
-    returns
-    first-wrong-requires
-    refused-requires
+    check-chain-requires
     enum-told-2
-    has-legal-base-requires
+    check-start-requires
+    enum-told-3
+    is-take-requires
+    check-start-requires-2
+    enum-told-4
+    is-take-within-requires
+    check-start-requires-3
+    enum-told-5
+    is-give-requires
+    check-start-requires-4
+    returns
     returns-2
-    refused-requires-2
     returns-3
-    returns-4)
+    returns-4
+    returns-5)

@@ -15,9 +15,6 @@ enum-known-end c = search needs
 enum-known-end-2 : tie.Need-enum-known-end-2
 enum-known-end-2 c = search needs
 
-start-requires : tie.Need-start-requires
-start-requires c κs = search needs
-
 to-directory-requires : tie.Need-to-directory-requires
 to-directory-requires c κs = search needs
 
@@ -30,25 +27,25 @@ enum-known-walked-2 c = search needs
 returns : tie.Need-returns
 returns c =
     let g = c .before .end .given in
-    both-old _ _ _ _ (g .0 .0) (g .0 .1 .0) (sym (c .before .before .before .to-end .ensures) ∙ g .1)
+    both-old _ _ _ _ _ (g .0 .0) (g .0 .1 .0) (sym (c .before .before .before .to-end .ensures) ∙ g .1)
 
 returns-2 : tie.Need-returns-2
 returns-2 c =
     let h = c .before .walked .given in
     let w = c .before .before .before in
-    let g = w .before .before .before .end2 .given in
-    let e = w .before .before .before .before .before .to-end in
-    both-new _ _ _ _ (g .0 .0) (g .0 .1 .0) (sym (e .ensures) ∙ g .1) (h .0 .0) (h .0 .1 .0)
-    (sym (rw (w .before .start .ensures) at (w .to-directory .ensures)) ∙ h .1)
+    let g = w .before .before .end2 .given in
+    let e = w .before .before .before .before .to-end in
+    both-new _ _ _ _ _ (g .0 .0) (g .0 .1 .0) (sym (e .ensures) ∙ g .1) (h .0 .0) (h .0 .1 .0)
+    (sym (w .to-directory .ensures) ∙ h .1)
 
 returns-3 : tie.Need-returns-3
 returns-3 c =
     let h = c .before .walked2 .given in
     let w = c .before .before .before in
-    let g = w .before .before .before .end2 .given in
-    let e = w .before .before .before .before .before .to-end in
-    both-at _ _ _ _ (g .0 .0) (g .0 .1 .0) (sym (e .ensures) ∙ g .1) (h .0 .0)
-    (sym (rw (w .before .start .ensures) at (w .to-directory .ensures)) ∙ h .1)
+    let g = w .before .before .end2 .given in
+    let e = w .before .before .before .before .to-end in
+    both-at _ _ _ _ _ (g .0 .0) (g .0 .1 .0) (sym (e .ensures) ∙ g .1) (h .0 .0)
+    (sym (w .to-directory .ensures) ∙ h .1)
 
 pub to-both-spec : {M : Type 1} → statement M
 to-both-spec =
@@ -57,7 +54,6 @@ to-both-spec =
     to-end-requires
     enum-known-end
     enum-known-end-2
-    start-requires
     to-directory-requires
     enum-known-walked
     enum-known-walked-2

@@ -6,9 +6,6 @@ use Rattle.walk.proofs.Ends.{ended-before, ended-last, ended-at}
 use Rattle.walk.proofs.end.to_end.Statement.{statement}
 use Rattle.walk.proofs.end.to_end.Tie as tie
 
-start-requires : tie.Need-start-requires
-start-requires c κs = search needs
-
 to-directory-requires : tie.Need-to-directory-requires
 to-directory-requires c κs = search needs
 
@@ -31,7 +28,7 @@ returns : tie.Need-returns
 returns c =
     let w = c .before .before .before in
     let g = c .before .first .given in
-    ended-before _ _ _ (g .0 .0) (g .0 .1 .0) (sym (rw (w .before .start .ensures) at (w .to-directory .ensures)) ∙ g .1)
+    ended-before _ _ _ (g .0 .0) (g .0 .1 .0) (sym (w .to-directory .ensures) ∙ g .1)
 
 returns-2 : tie.Need-returns-2
 returns-2 c =
@@ -39,7 +36,7 @@ returns-2 c =
     let h = c .before .last .given in
     let g = l .before .before .first2 .given in
     let w = l .before .before .before .before in
-    ended-last _ _ _ (g .0 .0) (sym (rw (w .before .start .ensures) at (w .to-directory .ensures)) ∙ g .1)
+    ended-last _ _ _ (g .0 .0) (sym (w .to-directory .ensures) ∙ g .1)
     (h .0 .0) (h .0 .1 .0) (sym (l .to-last .ensures) ∙ h .1)
 
 returns-3 : tie.Need-returns-3
@@ -48,13 +45,12 @@ returns-3 c =
     let h = c .before .last2 .given in
     let g = l .before .before .first2 .given in
     let w = l .before .before .before .before in
-    ended-at _ _ _ (g .0 .0) (sym (rw (w .before .start .ensures) at (w .to-directory .ensures)) ∙ g .1) (h .0 .0) (sym (l .to-last .ensures) ∙ h .1)
+    ended-at _ _ _ (g .0 .0) (sym (w .to-directory .ensures) ∙ g .1) (h .0 .0) (sym (l .to-last .ensures) ∙ h .1)
 
 pub to-end-spec : {M : Type 1} → statement M
 to-end-spec =
     tie.close
     (tie.spec
-    start-requires
     to-directory-requires
     enum-known-first
     enum-known-first-2

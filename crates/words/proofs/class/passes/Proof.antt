@@ -31,6 +31,12 @@ enum-told-5 c = search needs
 in-base-requires : tie.Need-in-base-requires
 in-base-requires c κs = tt
 
+enum-told-6 : tie.Need-enum-told-6
+enum-told-6 c = search needs
+
+is-digit-requires : tie.Need-is-digit-requires
+is-digit-requires c κs = tt
+
 returns : tie.Need-returns
 returns c = rw (c .enum-told .given .1)
 
@@ -46,6 +52,9 @@ returns-4 c = rw (c .before .enum-told4 .given .1) (c .in-name .ensures)
 returns-5 : tie.Need-returns-5
 returns-5 c = rw (c .before .enum-told5 .given .1) (c .in-base .ensures)
 
+returns-6 : tie.Need-returns-6
+returns-6 c = rw (c .before .enum-told6 .given .1) (c .is-digit .ensures)
+
 pub passes-spec : {M : Type 1} → statement M
 passes-spec =
     tie.close
@@ -59,8 +68,11 @@ passes-spec =
     in-name-requires
     enum-told-5
     in-base-requires
+    enum-told-6
+    is-digit-requires
     returns
     returns-2
     returns-3
     returns-4
-    returns-5)
+    returns-5
+    returns-6)
