@@ -1,8 +1,8 @@
 /*
  * The file box: nine functions and mending over a table that the caller lends (document 01, "Records, requests and replies of the file
- * box"), and the lamp, which files the sheets of a job and reads each back (document 02, request m). Link with libfilebox_c.a, which
- * `rt staticlib filebox_c` writes for x86-64; it keeps nothing between calls, allocates nothing, and needs of the C library at most
- * memcpy, memmove and memset.
+ * box") with gives and takes between users (document 02, request g), and the lamp, which files the sheets of a job and reads each back
+ * (request m). Link with libfilebox_c.a, which `rt staticlib filebox_c` writes for x86-64; it keeps nothing between calls, allocates
+ * nothing, and needs of the C library at most memcpy, memmove and memset.
  *
  * The functions are proved for every table, line, text, reply buffer, sheets, texts, read-back buffer, chain, user and stop number:
  * whatever the bytes are, a call returns, with one of the numbers below. The proof begins where C hands its arguments over, so these the
@@ -44,7 +44,7 @@ enum filebox_number {
     FILEBOX_FUNCTION = 5,        /* no such function, empty line */
     FILEBOX_COUNT = 6,           /* wrong count of arguments */
     FILEBOX_NAME = 7,            /* malformed name or chain */
-    FILEBOX_BASE_NAME = 8,       /* illegal base name (also CHN's link for a base file) */
+    FILEBOX_BASE_NAME = 8,       /* illegal base name (also CHN's link for a base file, a user's number out of place) */
     FILEBOX_DECLARATION = 9,     /* declaration malformed or unfit */
     FILEBOX_TEXT = 10,           /* WRS text above 24,000 bytes */
     FILEBOX_NOT_THERE = 11,      /* name not there */
@@ -52,7 +52,7 @@ enum filebox_number {
     FILEBOX_READ = 13,           /* read inhibited */
     FILEBOX_WRITE = 14,          /* write inhibited */
     FILEBOX_TYPE = 15,           /* RDS, CPY: not simple; LST: no directory */
-    FILEBOX_BORNE = 16,          /* CHN: new name borne by an entry there, itself included */
+    FILEBOX_BORNE = 16,          /* CHN: new name borne by an entry there, itself included; give: link taken */
     FILEBOX_FULL = 17,           /* directory or base list full, nothing displaced */
     FILEBOX_PEOPLED = 18,        /* file losing its last entry is a directory with entries */
     FILEBOX_ROOM = 19,           /* fewer free records than the request needs */
@@ -73,6 +73,16 @@ struct filebox_answer {
 
 /*
  * One request: the function and its arguments in line, a WRS's content in text, for a user, with a stop number.
+ *
+ * A chain begins in the user's own base files. Two forms begin in another's; .nnnnnn is a point and the six digits of that user's number:
+ *
+ *   DUP old .nnnnnn:link  a give: the file is entered in that user's .G. It never displaces: 16 where the link is taken.
+ *   RDS .nnnnnn:name      a take, as the first argument of RDS, LST, CPY and DUP: the chain begins at that user's .T. Bare, .nnnnnn is the
+ *                         file .T itself, in RDS, LST and CPY.
+ *
+ * Anywhere else .nnnnnn gets 8. Who is given a file, or takes it, has an entry of his own with no less inhibited than the old one has;
+ * unless that entry or the heading inhibits writing (DUP .R:SHEET .000777:SHEET .1), he may inhibit more of the file for everyone, by DPR,
+ * or, in a directory, write and delete.
  *
  * Granted (0): the whole job is done, exactly as document 01 has it, in table and reply.
  * Refused (1 to 21): table and reply are as lent, byte for byte. Only a DEL of several names keeps what the names before the refused

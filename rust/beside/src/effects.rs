@@ -9,6 +9,10 @@ use crate::request::{refusal, Listed, Refusal, Request};
 use crate::table::{blocks, List, Store, Table};
 use crate::walk::{to_directory, to_file, File};
 
+/// What `.nnnnnn` stands for: in a new name "that user's `.G`", in an old one "that user's `.T`".
+const GIVE: &[u8] = b".G";
+const TAKE: &[u8] = b".T";
+
 /// What a request comes to when it is not cut.
 #[derive(Debug, Default)]
 pub struct Outcome {
@@ -89,13 +93,15 @@ impl Outcome {
 impl Asked<'_> {
     /// Walk an old name to its file.
     fn old_name(&self, place: usize, chain: &Chain) -> Result<File, Refusal> {
-        to_file(self.table, self.user, chain).map_err(|number| refusal(number, place))
+        let (user, chain) = chain.begun(self.user, TAKE);
+        to_file(self.table, user, &chain).map_err(|number| refusal(number, place))
     }
 
     /// Walk a new name, "only to its directory".
     fn new_name<'n>(&self, place: usize, chain: &Chain<'n>) -> Result<NewName<'n>, Refusal> {
+        let (user, chain) = chain.begun(self.user, GIVE);
         let directory =
-            to_directory(self.table, self.user, chain).map_err(|number| refusal(number, place))?;
+            to_directory(self.table, user, &chain).map_err(|number| refusal(number, place))?;
         let borne = self.table.find(directory.list, chain.last);
         Ok(NewName {
             directory,
@@ -178,11 +184,14 @@ impl Asked<'_> {
         Ok(self.named(new, numbers, records))
     }
 
-    /// "DUP: entry, its code the old entry's joined with the declared one."
+    /// "DUP: entry, its code the old entry's joined with the declared one." "A give never displaces": 16 "where the
+    /// link is taken".
     fn dup(&self, old: &Chain, new: &Chain, digit: Option<u8>) -> Result<Outcome, Refusal> {
+        let gives = new.user().is_some();
         let old = self.old_name(1, old)?.entry;
         let new = self.new_name(2, new)?;
         check(new.directory.may_be_written(), 14, new.place)?;
+        check(!gives || new.displaced.is_none(), 16, new.place)?;
         let numbers = new.numbers(self.table, 0, Some(old.heading))?;
         let entry = new.entry(old.code | digit.unwrap_or(0), old.heading);
         Ok(self.named(&new, numbers, vec![Record::Entry(entry)]))

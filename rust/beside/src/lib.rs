@@ -1,6 +1,7 @@
-//! The file box once more: document 01 in plain Rust, to stand beside the proved box and be compared with it.
+//! The file box once more: document 01 in plain Rust, with the requests of document 02, to stand beside the proved box
+//! and be compared with it.
 //!
-//! Written from the document alone, for clarity and not for speed. A request is first worked out on a copy of
+//! Written from the documents alone, for clarity and not for speed. A request is first worked out on a copy of
 //! the table (`effects`), as a list of stores and an answer; then the first k stores are made (`answer`).
 //! Every public function is total: it answers for every table, line, text, user and stop number.
 
@@ -24,7 +25,7 @@ pub use answer::{mend, request, Answer};
 pub use declarations::{Declared, DeclaredLifetime, Guard};
 pub use lamp::{light, Light};
 pub use line::{words, Word};
-pub use names::{is_base_name, is_link_name, Chain};
+pub use names::{is_base_name, is_link_name, user_number, Chain};
 pub use program::{run, takes_text};
 pub use records::{Level, Lifetime, Type};
 pub use request::{read, Listed, Refusal, Request};

@@ -1,10 +1,12 @@
-//! Link names, base names and chains.
+//! Link names, base names, user numbers and chains.
 
 use crate::line::Word;
 use crate::records::LONGEST_NAME;
 
 /// "names joined by colons, at most 16".
 const MOST_NAMES: usize = 16;
+/// "`.nnnnnn` ... (six digits)".
+const USER_DIGITS: usize = 6;
 
 /// "A link name has 1 to 10 characters from 33..95 except `@` and `:`."
 pub fn is_link_name(name: &[u8]) -> bool {
@@ -20,6 +22,16 @@ pub fn is_base_name(name: &[u8]) -> bool {
         b".R" | b".W" | b".G" | b".T" => true,
         _ => name.starts_with(b".") && name.len() >= 3 && name.iter().all(letter_or_point),
     }
+}
+
+/// `.nnnnnn`, a point and six digits: the number of that user.
+pub fn user_number(name: &[u8]) -> Option<u32> {
+    let digits = name.strip_prefix(b".")?;
+    let all_digits = digits.iter().all(u8::is_ascii_digit);
+    (digits.len() == USER_DIGITS && all_digits).then(|| {
+        let joined = |number, digit: &u8| number * 10 + u32::from(digit - b'0');
+        digits.iter().fold(0, joined)
+    })
 }
 
 /// A chain with its `.W`, if that was put before it. Each name is a stretch of the lent line, but for that `.W`.
@@ -52,6 +64,25 @@ impl<'a> Chain<'a> {
     /// The first name, which the base list has to bear.
     pub fn base(&self) -> &'a [u8] {
         self.before.first().copied().unwrap_or(self.last)
+    }
+
+    /// The user whose shelf it starts at, if its first name is `.nnnnnn`.
+    pub fn user(&self) -> Option<u32> {
+        user_number(self.base())
+    }
+
+    /// The chain with the user from whose base list it is walked. `.nnnnnn` is one name: it stands for this shelf
+    /// of that user. Every other chain is the asking user's own.
+    pub fn begun(&self, asking: u32, shelf: &'a [u8]) -> (u32, Chain<'a>) {
+        let mut chain = self.clone();
+        let Some(user) = self.user() else {
+            return (asking, chain);
+        };
+        match chain.before.first_mut() {
+            Some(first) => *first = shelf,
+            None => chain.last = shelf,
+        }
+        (user, chain)
     }
 
     /// Does this chain name a base file? It does when it is a single name.

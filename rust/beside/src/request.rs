@@ -85,7 +85,14 @@ enum Function {
 /// What an argument is to be.
 #[derive(Debug, Clone, Copy, PartialEq, Eq)]
 enum Part {
+    /// A chain of the user's own.
     Name,
+    /// The same, or a take: what RDS, LST and CPY read.
+    Source,
+    /// DUP's old name: the same, but no bare `.nnnnnn`, "which would hand over the take directory itself".
+    Old,
+    /// DUP's new name: a chain of the user's own, or a give.
+    New,
     Link,
     Declaration,
 }
@@ -108,12 +115,13 @@ fn function(word: &Word) -> Option<Function> {
 
 /// The table of functions and arguments: the least count of arguments, and what each is to be.
 fn form(function: Function) -> (usize, &'static [Part]) {
-    use Part::{Declaration, Link, Name};
+    use Part::{Declaration, Link, Name, New, Old, Source};
     match function {
         Function::Crd => (1, &[Name, Declaration]),
         Function::Wrs => (2, &[Declaration, Name]),
-        Function::Rds | Function::Lst => (1, &[Name]),
-        Function::Cpy | Function::Dup => (2, &[Name, Name, Declaration]),
+        Function::Rds | Function::Lst => (1, &[Source]),
+        Function::Cpy => (2, &[Source, Name, Declaration]),
+        Function::Dup => (2, &[Old, New, Declaration]),
         Function::Chn => (2, &[Name, Link]),
         Function::Dpr => (2, &[Name, Declaration]),
         Function::Del => (1, &[Name; 8]),
@@ -124,9 +132,28 @@ fn form(function: Function) -> (usize, &'static [Part]) {
 fn is_well_formed(part: Part, word: &Word) -> bool {
     let dash = word.whole() == Some(b"-");
     match part {
-        Part::Name => !dash && Chain::of(word).is_well_formed(),
         Part::Link => !dash && word.whole().is_some_and(is_link_name),
         Part::Declaration => true,
+        _ => !dash && Chain::of(word).is_well_formed(),
+    }
+}
+
+/// May `.nnnnnn` stand first in this argument, with so many links after it? "In every other place it still gets 8; so
+/// does a bare `.nnnnnn` as DUP's old name ... and a give with no link or more than one".
+fn takes_user(part: Part, links: usize) -> bool {
+    match part {
+        Part::Source => true,
+        Part::Old => links >= 1,
+        Part::New => links == 1,
+        Part::Name | Part::Link | Part::Declaration => false,
+    }
+}
+
+/// Has this chain a first name that may stand first in this argument?
+fn begins_well(part: Part, chain: &Chain) -> bool {
+    match chain.user() {
+        Some(_) => takes_user(part, chain.before.len()),
+        None => is_base_name(chain.base()),
     }
 }
 
@@ -135,10 +162,10 @@ fn has_legal_base(function: Function, arguments: &[Word], part: Part, word: &Wor
     let lone_point = word.whole() == Some(b".");
     let old_is_base_file = || Chain::of(&arguments[0]).is_base_file();
     match part {
-        Part::Name if function == Function::Lst && lone_point => true,
-        Part::Name => is_base_name(Chain::of(word).base()),
         Part::Link => !old_is_base_file() || is_base_name(word.last),
         Part::Declaration => true,
+        _ if function == Function::Lst && lone_point => true,
+        _ => begins_well(part, &Chain::of(word)),
     }
 }
 

@@ -244,3 +244,20 @@ fn a_line_takes_a_text_when_its_first_word_is_wrs() {
     let long = [b"WRS ".as_slice(), &[b'A'; 1_000]].concat();
     assert!(takes_text(&long));
 }
+
+/// Document 02, g: the reader hands `.nnnnnn` out as it stands in the line; what it stands for is the walk's.
+#[test]
+fn a_users_number_is_read_as_it_stands() {
+    let give = Request::Dup {
+        old: chain(".000002:A"),
+        new: chain(".000777:B"),
+        digit: Some(1),
+    };
+    assert_eq!(read(b"DUP .000002:A .000777 : B .1", 0), Ok(give));
+    let name = chain(".000777");
+    assert_eq!(name.user(), Some(777));
+    assert_eq!(read(b"RDS .000777", 0), Ok(Request::Rds { name }));
+    for own in [".R", ".W:000777", ".R:.000777", ".00777", ".0000777"] {
+        assert_eq!(chain(own).user(), None, "{own}");
+    }
+}

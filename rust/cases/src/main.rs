@@ -1,8 +1,9 @@
 //! Writes random cases, worked out by the second program, as an antt module over the definitions of `crates/paper`:
-//! `cases SEED TABLES CASES [wrong]`. The checker accepts it only where the definitions give every answer, every byte of
-//! the table and of the reply alike. With `wrong`, one number of one expected answer is off by one: it must be refused.
+//! `cases SEED TABLES CASES [wrong | gives]`. The checker accepts it only where the definitions give every answer, every byte
+//! of the table and of the reply alike. With `wrong`, one number of one expected answer is off by one: it must be refused.
+//! With `gives`, two users give and take.
 
-use random::{lines, Random};
+use random::{lines, shelves, Random};
 use std::fmt::Write;
 
 const HEAD: &str = "-- Random cases: the second program's outcomes, held against the definitions.
@@ -13,6 +14,9 @@ use Prim.Native.Nat.{ℕ}
 use Rattle.paper.specs.Case.{Case, asks, mends, answer, holdAll}
 use Rattle.paper.proofs.Cases.{hold}
 ";
+
+/// The users who give and take.
+const SHIFTS: [u32; 2] = [1, 777];
 
 fn list(bytes: &[u8]) -> String {
     let mut shown = String::from("(");
@@ -32,6 +36,7 @@ fn six(a: beside::Answer, off: u32) -> String {
 
 /// The cases of one table: it grows by the requests, is damaged and mended on the way, and is cut by small stop numbers.
 struct Story {
+    gives: bool,
     table: Vec<u8>,
     cases: Vec<String>,
     met: [u32; 23],
@@ -52,11 +57,16 @@ impl Story {
 
     /// One request on the table, now and then damaged first; what it left is mended.
     fn request(&mut self, random: &mut Random) {
-        let line = lines::line(random);
+        let shift = self.gives.then(|| random.pick(&SHIFTS));
+        let line = match shift {
+            Some(user) => shelves::line(random, &self.table, &SHIFTS, user),
+            None => lines::line(random),
+        };
         let length = random.pick(&[0, 1, 5, 24, 25, 30, 48]);
         let text = random.bytes(length);
         let reply = vec![7; random.pick(&[0, 10, 40, 60, 80])];
-        let user = random.pick(&[1, 1, 1, 1, 1, 1, 1, 2, 0, 1_000_000]);
+        let anyone = || random.pick(&[1, 1, 1, 1, 1, 1, 1, 2, 0, 1_000_000]);
+        let user = shift.unwrap_or_else(anyone);
         let stop = if random.once_in(3) {
             random.below(6) as u32
         } else {
@@ -96,8 +106,8 @@ impl Story {
     }
 }
 
-/// A story on a table of few records, begun with up to four of the same requests.
-fn story(random: &mut Random, met: [u32; 23], off: u32) -> Story {
+/// A table of few records, begun with up to four of the same requests.
+fn few(random: &mut Random) -> Vec<u8> {
     let rooms = if random.once_in(8) {
         random.below(3)
     } else {
@@ -109,7 +119,36 @@ fn story(random: &mut Random, met: [u32; 23], off: u32) -> Story {
         // as far as there is room
         let _ = beside::request(&mut table, line.as_bytes(), b"sheet", &mut [], 1, 65_535);
     }
+    table
+}
+
+/// A table of a sheet and two users with their shelves, some of them missing, simple or inhibited.
+fn shelved(random: &mut Random) -> Vec<u8> {
+    let mut table = vec![0; (13 + random.below(6)) * 32];
+    let made = ["CRD", "CRD", "CRD", "CRD", "WRS M", "RDS"];
+    for line in ["CRD .R", "WRS M .R:A", "DUP .R:A .T:A"] {
+        for shelf in [".G", ".T"] {
+            let user = random.pick(&SHIFTS);
+            let shelf = match random.below(6) {
+                0 => format!("CRD {shelf} .{}", random.pick(&[1, 2])),
+                _ => format!("{} {shelf}", random.pick(&made)),
+            };
+            // granted or not, as it comes
+            let _ = beside::request(&mut table, shelf.as_bytes(), b"", &mut [], user, 65_535);
+        }
+        let _ = beside::request(&mut table, line.as_bytes(), b"sheet", &mut [], 1, 65_535);
+    }
+    table
+}
+
+/// A story on such a table.
+fn story(random: &mut Random, met: [u32; 23], gives: bool, off: u32) -> Story {
+    let table = match gives {
+        true => shelved(random),
+        false => few(random),
+    };
     Story {
+        gives,
         table,
         cases: Vec::new(),
         met,
@@ -123,14 +162,15 @@ fn main() {
         words
             .get(k)
             .and_then(|w| w.parse::<u64>().ok())
-            .expect("cases SEED TABLES CASES [wrong]")
+            .expect("cases SEED TABLES CASES [wrong | gives]")
     };
+    let said = |word: &str| words.get(3).is_some_and(|said| said == word);
     let mut random = Random::new(number(0));
     let mut met = [0; 23];
     println!("{HEAD}");
     for table in 0..number(1) {
-        let off = u32::from(table == 0 && words.len() > 3);
-        let mut story = story(&mut random, met, off);
+        let off = u32::from(table == 0 && said("wrong"));
+        let mut story = story(&mut random, met, said("gives"), off);
         while story.cases.len() < number(2) as usize {
             story.request(&mut random);
         }

@@ -46,12 +46,19 @@ fn heading(kind: u8, lifetime: u8, guard: Guard) -> String {
     format!("1 {kind} {level} {} {lifetime}", guard.digit.unwrap_or(0))
 }
 
+/// Where a chain starts, unless in one's own base list, and the chain: the shelf's letter and its user.
+fn begun(line: &[u8], shelf: char, chain: &Chain) -> String {
+    let begin = chain.user().map(|user| format!("{shelf}{user} "));
+    format!("{}{}", begin.unwrap_or_default(), start(line, chain))
+}
+
 fn made_of(line: &[u8]) -> String {
     let request = match beside::read(line, 0) {
         Err(refusal) => return format!("{} {}", refusal.number, refusal.place),
         Ok(request) => request,
     };
     let at = |chain: &Chain| start(line, chain);
+    let old = |chain: &Chain| begun(line, 'T', chain);
     match &request {
         Request::Crd { name, guard } => {
             format!(
@@ -74,28 +81,37 @@ fn made_of(line: &[u8]) -> String {
                 heading(1, life, *guard)
             )
         }
-        Request::Rds { name } => format!("0 RDS {}", at(name)),
+        Request::Rds { name } => format!("0 RDS {}", old(name)),
         Request::Cpy {
-            old,
+            old: name,
             new,
             lifetime: life,
             guard,
         } => {
             format!(
                 "0 CPY {} {} {} {}",
-                at(old),
+                old(name),
                 at(new),
                 shown(life.map(lifetime)),
                 guarded(*guard)
             )
         }
-        Request::Dup { old, new, digit } => {
-            format!("0 DUP {} {} {}", at(old), at(new), shown(*digit))
+        Request::Dup {
+            old: name,
+            new,
+            digit,
+        } => {
+            format!(
+                "0 DUP {} {} {}",
+                old(name),
+                begun(line, 'G', new),
+                shown(*digit)
+            )
         }
-        Request::Chn { old, link } => {
+        Request::Chn { old: name, link } => {
             format!(
                 "0 CHN {} {}",
-                at(old),
+                at(name),
                 place(line, link).expect("a link is a stretch of the line")
             )
         }
@@ -106,7 +122,7 @@ fn made_of(line: &[u8]) -> String {
         } => "0 LST .".to_string(),
         Request::Lst {
             listed: Listed::Directory(name),
-        } => format!("0 LST {}", at(name)),
+        } => format!("0 LST {}", old(name)),
     }
 }
 

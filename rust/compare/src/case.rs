@@ -1,5 +1,6 @@
 //! A case: one call, made by the proved library and by the second program, and compared byte for byte.
 
+use crate::handed::{broken, Handed};
 use crate::met::Met;
 
 /// The byte that fills a reply buffer before the call.
@@ -129,6 +130,8 @@ pub struct Difference {
 #[derive(Default)]
 pub struct Comparison {
     pub met: Met,
+    /// What gives and takes met.
+    pub handed: Handed,
     /// The requests of the stories.
     pub requests: u64,
     /// The calls made by both: these requests again and again, and mending.
@@ -150,7 +153,11 @@ impl Comparison {
             "the replies differ"
         } else {
             self.met.count(case, proved.number());
-            return Ok(proved);
+            self.handed.count(case, proved.answer);
+            return match broken(case, &proved) {
+                None => Ok(proved),
+                Some(wrong) => Err(must_not_be(case, wrong, &proved)),
+            };
         };
         Err(Box::new(Difference {
             case: case.clone(),

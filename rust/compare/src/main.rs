@@ -5,9 +5,13 @@
 //!
 //! `compare jobs [COUNT [SEED]]`: the same with the lamp, COUNT jobs, each cut at its stop numbers and mended; ends with
 //! status 1 also when a light was met fewer than a hundred times.
+//!
+//! `compare gives [COUNT [SEED]]`: COUNT requests of three users who give, take, list and read each other's shelves, cut and
+//! mended as the first; ends with status 1 also when a number was met fewer than a hundred times by gives, or by takes.
 
 mod case;
 mod cut;
+mod handed;
 mod job;
 mod jobs;
 mod lights;
@@ -27,6 +31,9 @@ use random::Random;
 use story::Story;
 use tables::Starts;
 
+/// Users who give and take: near each other in one of the three bytes, and the lowest and highest.
+const USERS: [[u32; 3]; 3] = [[1, 2, 777], [1, 257, 65_537], [0, 999_999, 999_743]];
+
 /// Stories, each a table that grows, until so many requests are made.
 fn run(comparison: &mut Comparison, count: u64, seed: u64) -> Result<(), Box<Difference>> {
     let mut random = Random::new(seed);
@@ -36,6 +43,21 @@ fn run(comparison: &mut Comparison, count: u64, seed: u64) -> Result<(), Box<Dif
         let start = starts.start(&mut random);
         let requests = start.requests.min(left);
         Story::new(comparison, &mut random, start).tell(requests)?;
+        left -= requests;
+    }
+    Ok(())
+}
+
+/// The same with three users who give and take.
+fn run_gives(comparison: &mut Comparison, count: u64, seed: u64) -> Result<(), Box<Difference>> {
+    let mut random = Random::new(seed);
+    let mut left = count;
+    while left > 0 {
+        let users = random.pick(&USERS);
+        let start = tables::shelves(&mut random, users);
+        let requests = start.requests.min(left);
+        let story = Story::new(comparison, &mut random, start);
+        story.among(users).tell(requests)?;
         left -= requests;
     }
     Ok(())
@@ -60,12 +82,24 @@ fn requests(count: u64, seed: u64) -> ExitCode {
     let start = Instant::now();
     let mut comparison = Comparison::default();
     let ended = run(&mut comparison, count, seed);
+    show(&comparison, seed, start);
+    verdict(ended, &comparison.met, &comparison.met.missed())
+}
+
+fn gives(count: u64, seed: u64) -> ExitCode {
+    let start = Instant::now();
+    let mut comparison = Comparison::default();
+    let ended = run_gives(&mut comparison, count, seed);
+    show(&comparison, seed, start);
+    verdict(ended, &comparison.handed, &comparison.handed.missed())
+}
+
+fn show(comparison: &Comparison, seed: u64, start: Instant) {
     let seconds = start.elapsed().as_secs_f64();
     println!(
         "seed {seed}: {} requests, {} calls compared, {} cut and mended, {seconds:.1} s",
         comparison.requests, comparison.calls, comparison.cuts
     );
-    verdict(ended, &comparison.met, &comparison.met.missed())
 }
 
 fn jobs(count: u64, seed: u64) -> ExitCode {
@@ -82,18 +116,19 @@ fn jobs(count: u64, seed: u64) -> ExitCode {
 
 fn main() -> ExitCode {
     let words: Vec<String> = std::env::args().skip(1).collect();
-    let (numbers, of_jobs) = match words.split_first() {
-        Some((first, rest)) if first == "jobs" => (rest, true),
-        _ => (&words[..], false),
+    let (what, numbers) = match words.split_first() {
+        Some((first, rest)) if ["jobs", "gives"].contains(&&first[..]) => (&first[..], rest),
+        _ => ("requests", &words[..]),
     };
     let number = |at: usize, otherwise: u64| {
         let word = numbers.get(at);
         word.map_or(otherwise, |word| {
-            word.parse().expect("compare [jobs] [COUNT [SEED]]")
+            word.parse().expect("compare [jobs | gives] [COUNT [SEED]]")
         })
     };
-    match of_jobs {
-        true => jobs(number(0, 12_000), number(1, 1971)),
-        false => requests(number(0, 100_000), number(1, 1971)),
+    match what {
+        "jobs" => jobs(number(0, 12_000), number(1, 1971)),
+        "gives" => gives(number(0, 40_000), number(1, 1971)),
+        _ => requests(number(0, 100_000), number(1, 1971)),
     }
 }

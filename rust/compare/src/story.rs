@@ -1,6 +1,6 @@
 //! A story: one table, the requests of several users on it, and what befalls it on the way.
 
-use random::{requests, Random};
+use random::{requests, shelves, Random};
 
 use crate::case::{must_not_be, Asked, Case, Comparison, Difference};
 use crate::cut::cut_everywhere;
@@ -17,8 +17,15 @@ pub struct Story<'a> {
     random: &'a mut Random,
     table: Vec<u8>,
     long_texts: bool,
-    /// Those who ask besides user 1.
-    others: [u32; 2],
+    cast: Cast,
+}
+
+/// Who asks, and about what.
+enum Cast {
+    /// Mostly user 1, and these besides, about anything.
+    Anything([u32; 2]),
+    /// These in turn, mostly about each other's shelves.
+    Shelves([u32; 3]),
 }
 
 impl<'a> Story<'a> {
@@ -29,8 +36,14 @@ impl<'a> Story<'a> {
             random,
             table: start.table,
             long_texts: start.long_texts,
-            others,
+            cast: Cast::Anything(others),
         }
+    }
+
+    /// The same with these users, who give and take.
+    pub fn among(self, users: [u32; 3]) -> Self {
+        let cast = Cast::Shelves(users);
+        Story { cast, ..self }
     }
 
     /// So many requests, one after the other.
@@ -49,13 +62,14 @@ impl<'a> Story<'a> {
         Ok(())
     }
 
-    /// What is asked next, mostly by user 1.
+    /// What is asked next, and by whom.
     fn asked(&mut self) -> Asked {
         let random = &mut *self.random;
-        let user = match random.below(40) {
-            0 => random.pick(&TOO_HIGH),
-            1..=12 => random.pick(&self.others),
-            _ => 1,
+        let user = match (random.below(40), &self.cast) {
+            (0, _) => random.pick(&TOO_HIGH),
+            (1..=12, Cast::Anything(others)) => random.pick(others),
+            (_, Cast::Anything(_)) => 1,
+            (_, Cast::Shelves(users)) => random.pick(users),
         };
         let length = match random.below(32) {
             0 => random.pick(&[24_000, 24_001, 24_024, 65_560]),
@@ -63,8 +77,12 @@ impl<'a> Story<'a> {
             1..=12 => random.pick(&[0, 1, 23, 24, 25, 48, 49]),
             _ => random.below(120),
         };
+        let line = match &self.cast {
+            Cast::Anything(_) => requests::line(random, &self.table, user),
+            Cast::Shelves(users) => shelves::line(random, &self.table, users, user),
+        };
         Asked {
-            line: requests::line(random, &self.table, user),
+            line,
             text: random.bytes(length),
             reply: random.pick(&[0, 10, 17, 33, 100, 24_000, 24_000, 24_000]),
             user,

@@ -1,14 +1,20 @@
 //! Tables to begin with, and what befalls a table.
 
+use filebox::NO_STOP;
 use random::damage::{damage, litter};
 use random::{requests, Random};
 
-/// Make these requests of user 1 on a table, each with this text; each must be granted.
-fn grow(table: &mut [u8], lines: impl IntoIterator<Item = String>, text: &[u8]) {
+/// Make these requests of a user on a table, each with this text; each must be granted.
+fn grow_for(user: u32, table: &mut [u8], lines: impl IntoIterator<Item = String>, text: &[u8]) {
     for line in lines {
-        let answer = beside::request(table, line.as_bytes(), text, &mut [], 1, filebox::NO_STOP);
+        let answer = beside::request(table, line.as_bytes(), text, &mut [], user, NO_STOP);
         assert_eq!(answer.number, 0, "{line}");
     }
+}
+
+/// Make these requests of user 1.
+fn grow(table: &mut [u8], lines: impl IntoIterator<Item = String>, text: &[u8]) {
+    grow_for(1, table, lines, text);
 }
 
 /// A directory with so many entries, most of them loops.
@@ -101,6 +107,51 @@ impl Starts {
     }
 }
 
+/// A user's shelf to begin with: mostly a directory, now and then inhibited, a simple file, or none.
+fn shelf(random: &mut Random, name: &str) -> Option<String> {
+    match random.below(16) {
+        0 => None,
+        1 | 2 => Some(format!("WRS M {name}")),
+        3 => Some(format!("CRD {name} .2")),
+        4 | 5 => Some(format!("CRD {name} .1")),
+        6 => Some(format!("CRD {name} .4")),
+        _ => Some(format!("CRD {name}")),
+    }
+}
+
+/// A table of three users with a sheet each and their shelves; sometimes the first one's `.G` is full, or nearly.
+pub fn shelves(random: &mut Random, users: [u32; 3]) -> Start {
+    let crowd = random.pick(&[0, 0, 110, 111, 112]);
+    let mut table = vec![0; (36 + crowd + random.below(40)) * 32];
+    for user in users {
+        let sheet = ["CRD .R", "WRS M .R:A"].map(String::from);
+        grow_for(user, &mut table, sheet, b"5.0 V");
+        let give = match (user == users[0], crowd) {
+            (true, 1..) => Some(String::from("CRD .G")),
+            _ => shelf(random, ".G"),
+        };
+        grow_for(user, &mut table, give, b"");
+        grow_for(user, &mut table, shelf(random, ".T"), b"");
+        let line = random.pick(&["DUP .R:A .T:A", "WRS M .T:B", "CRD .T:C", "DUP .R .T:AB"]);
+        // granted where there is such a shelf
+        let _ = beside::request(
+            &mut table,
+            line.as_bytes(),
+            b"4.9 V",
+            &mut [],
+            user,
+            NO_STOP,
+        );
+    }
+    let links = (0..crowd).map(|number| format!("DUP .R:A .G:N{number}"));
+    grow_for(users[0], &mut table, links, b"");
+    Start {
+        table,
+        requests: if crowd > 0 { 16 } else { 64 },
+        long_texts: false,
+    }
+}
+
 /// The same table with its records in another order: sound too, and with texts that do not stand by position.
 pub fn shuffled(random: &mut Random, table: &[u8]) -> Vec<u8> {
     let mut moved: Vec<usize> = (0..table.len() / 32).collect();
@@ -169,7 +220,7 @@ mod tests {
     #[test]
     fn full_lists_are_full() {
         let refused = |mut table: Vec<u8>, line: &[u8]| {
-            beside::request(&mut table, line, b"", &mut [], 1, filebox::NO_STOP).number == 17
+            beside::request(&mut table, line, b"", &mut [], 1, NO_STOP).number == 17
         };
         assert!(refused(crowded_directory(112), b"CRD .R:NEW"));
         assert!(!refused(crowded_directory(111), b"CRD .R:NEW"));

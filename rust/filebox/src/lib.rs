@@ -1,4 +1,4 @@
-//! The file box for a fixture's programmer: document 01's requests and mending and document 02's lamp, from
+//! The file box for a fixture's programmer: document 01's requests and mending and document 02's lamp and gives, from
 //! the proved static library.
 //!
 //! [`request`], [`mend`] and [`light`] are the library's three calls as they are: slices and numbers in, an [`Answer`] or a
@@ -38,6 +38,33 @@
 //! assert_eq!(red.to_string(), "red: sheet 1 was not filed: 11 name not there");
 //! table.ask(1, "CRD .R").unwrap();
 //! table.light(1, ".R", &job).expect("green");
+//! ```
+//!
+//! Give and take: `.000777` is user 777, in whose `.G` a new name of DUP enters a file, and at whose `.T` an old name begins.
+//! The digit 1 hands it over without the pen:
+//!
+//! ```
+//! use filebox::{Number, Refused, Table};
+//!
+//! fn main() -> Result<(), Refused> {
+//!     let (day, night) = (1, 777);
+//!     let mut table = Table::free(16);
+//!     table.ask(day, "CRD .R")?;
+//!     table.file(day, "M", ".R:SHEET", b"5.0 V")?;
+//!     table.ask(night, "CRD .G")?;
+//!     table.ask(day, "DUP .R:SHEET .000777:SHEET .1")?;
+//!     assert_eq!(table.sheet(night, ".G:SHEET")?, b"5.0 V");
+//!     let pen = table.ask(night, "DPR .G:SHEET .7").unwrap_err();
+//!     assert_eq!(pen.to_string(), "14: write inhibited (argument 1)");
+//!     let again = table.ask(day, "DUP .R:SHEET .000777:SHEET .1").unwrap_err();
+//!     assert_eq!(again.answer().number, Number::NameBorne);
+//!
+//!     table.ask(night, "CRD .T")?;
+//!     table.file(night, "M", ".T:KEYS", b"9 9 9")?;
+//!     assert_eq!(table.list(day, ".000777")?, b"FM.U0    KEYS\r\n");
+//!     assert_eq!(table.sheet(day, ".000777:KEYS")?, b"9 9 9");
+//!     Ok(())
+//! }
 //! ```
 //!
 //! A refusal says the number, the argument and why, and leaves the table as it was:

@@ -32,7 +32,7 @@ pub enum Number {
     WrongCount = 6,
     /// Malformed name or chain.
     MalformedName = 7,
-    /// Illegal base name (also CHN's link for a base file).
+    /// Illegal base name (also CHN's link for a base file, a user's number out of place).
     IllegalBaseName = 8,
     /// Declaration malformed or unfit.
     DeclarationUnfit = 9,
@@ -48,7 +48,7 @@ pub enum Number {
     WriteInhibited = 14,
     /// RDS, CPY: not simple; LST: no directory.
     WrongType = 15,
-    /// CHN: new name borne by an entry there, itself included.
+    /// CHN: new name borne by an entry there, itself included; give: link taken.
     NameBorne = 16,
     /// Directory or base list full, nothing displaced.
     ListFull = 17,
@@ -97,7 +97,7 @@ impl Number {
         self as u32
     }
 
-    /// What document 01's list says of it.
+    /// What document 01's list says of it, and of 8 and 16 document 02 too.
     fn given_when(self) -> &'static str {
         match self {
             Number::Done => "done",
@@ -108,7 +108,9 @@ impl Number {
             Number::NoSuchFunction => "no such function, empty line",
             Number::WrongCount => "wrong count of arguments",
             Number::MalformedName => "malformed name or chain",
-            Number::IllegalBaseName => "illegal base name (also CHN's link for a base file)",
+            Number::IllegalBaseName => {
+                "illegal base name (also CHN's link for a base file, a user's number out of place)"
+            }
             Number::DeclarationUnfit => "declaration malformed or unfit",
             Number::TextAbove => "WRS text above 24,000 bytes",
             Number::NameNotThere => "name not there",
@@ -116,7 +118,9 @@ impl Number {
             Number::ReadInhibited => "read inhibited",
             Number::WriteInhibited => "write inhibited",
             Number::WrongType => "RDS, CPY: not simple; LST: no directory",
-            Number::NameBorne => "CHN: new name borne by an entry there, itself included",
+            Number::NameBorne => {
+                "CHN: new name borne by an entry there, itself included; give: link taken"
+            }
             Number::ListFull => "directory or base list full, nothing displaced",
             Number::DirectoryWithEntries => {
                 "file losing its last entry is a directory with entries"

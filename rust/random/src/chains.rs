@@ -17,20 +17,37 @@ fn entries(table: &[u8], directory: usize, user: u32) -> Vec<&[u8]> {
     table.chunks_exact(32).filter(stands_there).collect()
 }
 
-/// A chain down from the user's base list, some way, by entries that are there; a base name where there is none.
-pub fn old(random: &mut Random, table: &[u8], user: u32) -> String {
-    let mut directory = BASE_FILE;
-    let mut names: Vec<String> = Vec::new();
-    for _ in 0..=random.below(5) {
+/// The name of an entry.
+fn name(entry: &[u8]) -> String {
+    let length = usize::from(entry[9]).min(10);
+    String::from_utf8_lossy(&entry[10..10 + length]).into_owned()
+}
+
+/// Up to so many names down from a directory, or from the user's base list, by entries that are there.
+fn down(
+    random: &mut Random,
+    table: &[u8],
+    mut directory: usize,
+    user: u32,
+    most: usize,
+) -> Vec<String> {
+    let mut names = Vec::new();
+    for _ in 0..most {
         let there = entries(table, directory, user);
         if there.is_empty() || random.once_in(40) {
             break;
         }
         let entry = random.pick(&there);
-        let length = usize::from(entry[9]).min(10);
-        names.push(String::from_utf8_lossy(&entry[10..10 + length]).into_owned());
+        names.push(name(entry));
         directory = two(entry, 4);
     }
+    names
+}
+
+/// A chain down from the user's base list, some way, by entries that are there; a base name where there is none.
+pub fn old(random: &mut Random, table: &[u8], user: u32) -> String {
+    let most = random.below(5) + 1;
+    let names = down(random, table, BASE_FILE, user, most);
     match names.is_empty() {
         true => base(random).to_string(),
         false => names.join(":"),
@@ -47,6 +64,20 @@ pub fn new(random: &mut Random, table: &[u8], user: u32) -> String {
         (4, _) => old,
         _ => format!("{old}:{link}"),
     }
+}
+
+/// A take: `.nnnnnn` and, mostly, names down from that user's `.T` by entries that are there, or one that may not be.
+pub fn taken(random: &mut Random, table: &[u8], user: u32) -> String {
+    let mut names = vec![format!(".{user:06}")];
+    let base = entries(table, BASE_FILE, user);
+    if let Some(shelf) = base.into_iter().find(|entry| name(entry) == ".T") {
+        let most = random.below(4);
+        names.extend(down(random, table, two(shelf, 4), user, most));
+    }
+    if random.once_in(8) || names.len() == 1 && !random.once_in(4) {
+        names.push(link(random).to_string());
+    }
+    names.join(":")
 }
 
 /// A link name, of few, so that they meet each other.

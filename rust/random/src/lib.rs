@@ -4,6 +4,7 @@ pub mod chains;
 pub mod damage;
 pub mod lines;
 pub mod requests;
+pub mod shelves;
 
 /// A small repeatable source of numbers (xorshift), from a seed.
 pub struct Random(u64);
@@ -59,6 +60,22 @@ mod tests {
         let mut met = [false; 23];
         (0..1_000).for_each(|_| met[random.below(23)] = true);
         assert_eq!(met, [true; 23]);
+    }
+
+    #[test]
+    fn a_take_goes_by_what_stands_on_the_shelf() {
+        // a directory, which is user 7's `.T`, and an entry A in it that names it too
+        let mut table = vec![0; 96];
+        table[0] = 1;
+        table[32..44].copy_from_slice(&[2, 0, 255, 255, 0, 0, 7, 0, 0, 2, b'.', b'T']);
+        table[64..75].copy_from_slice(&[2, 0, 0, 0, 0, 0, 0, 0, 0, 1, b'A']);
+        let mut random = Random::new(1);
+        let chains: Vec<String> = (0..100)
+            .map(|_| chains::taken(&mut random, &table, 7))
+            .collect();
+        assert!(chains.iter().all(|chain| chain.starts_with(".000007")));
+        assert!(chains.iter().any(|chain| chain == ".000007"));
+        assert!(chains.iter().any(|chain| chain == ".000007:A:A:A"));
     }
 
     #[test]

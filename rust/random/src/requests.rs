@@ -5,7 +5,7 @@ use crate::lines;
 use crate::Random;
 
 /// A declaration with this lifetime, now and then with a level, and with a digit that seldom inhibits.
-fn declaration(random: &mut Random, lifetime: &str) -> String {
+pub fn declaration(random: &mut Random, lifetime: &str) -> String {
     let level = random.pick(&["", "", "U", "P", "A", "S"]);
     let digit = match random.below(24) {
         0 => "1",
