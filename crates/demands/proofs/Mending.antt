@@ -1,6 +1,9 @@
 -- Where mending ends: it judges the uncut result first, so what it answers 0 or 22 on has a sound end, and a mend cut anywhere
 -- has the end of the table that it began with; a sound table has nothing to mend.
 pub mod Wipe
+pub mod Part
+pub mod Less
+pub mod Squeeze
 pub mod Debris
 pub mod Again
 use mathlib.Core.Bool.{true, false}

@@ -46,7 +46,8 @@ use Rattle.demands.proofs.SoundKept.Recoded.{recoded-like, length-recod
 use Rattle.demands.proofs.SoundKept.Renamed.{renamed-like, length-renamed}
 use Rattle.demands.proofs.SoundKept.Kept.{passed-sound, del-keeps}
 use Rattle.demands.proofs.SoundKept.Keeping.{entered}
-use Rattle.demands.proofs.Mending.Debris.{Goes, heading, text}
+use Rattle.demands.proofs.Mending.Debris as loose
+use Rattle.demands.proofs.Mending.Debris.{Loose}
 use Rattle.demands.proofs.PowerCut.Cut.{Litters}
 use Rattle.demands.proofs.PowerCut.Littering.{littering}
 
@@ -128,12 +129,12 @@ module _ (t : List ℕ) (c : Sound t) where
   first-laid : (d : Holder) (e : ℕ) (ss : List Store) → Every (Litters t) ss → Every (Lays (Laid t d e) (rooms t)) ss
   first-laid d e ss = every-imp (Litters t) (Lays (Laid t d e) (rooms t)) ss one
     where
-      debris : (i : ℕ) (r : List ℕ) → Goes t i r → byte r 0 ≢ 2
-      debris i r (heading q n) = λ (z : byte r 0 ≡ 2). omega arith
-      debris i r (text q n) = λ (z : byte r 0 ≡ 2). omega arith
+      debris : (r : List ℕ) → Loose t r → byte r 0 ≢ 2
+      debris r (loose.head q) = λ (z : byte r 0 ≡ 2). omega arith
+      debris r (loose.body q n) = λ (z : byte r 0 ≡ 2). omega arith
 
       one : (s : Store) → Litters t s → Lays (Laid t d e) (rooms t) s
-      one s l = record { within = l .within; size = l .size; holds = other (rw (l .holds .0) blank-none) (debris (s .at) (s .bytes) (l .holds .1)) }
+      one s l = record { within = l .within; size = l .size; holds = other (rw (l .holds .0) blank-none) (debris (s .bytes) (l .holds .1)) }
 
   -- a new entry, given that the stores before it are debris
   making-sets : (u : ℕ) (name : Aim) (m : Making) (thirteen fifteen : List Check) → (length (m .first) ≤ length (frees t) → Every (Litters t) (m .first))

@@ -8,6 +8,7 @@ use Rattle.paper.specs.Check.{Refusal}
 use Rattle.paper.specs.Request.{Request, crd, wrs, rds, cpy, dup, chn, del, dpr, lst, lstBase, request, asked}
 use Rattle.paper.specs.Effect.{listOf, begun, Planned, crdPlan, wrsPlan, rdsPlan, cpyPlan, dupPlan, chnPlan, dprPlan, lstPlan, lstBasePlan}
 use Rattle.paper.specs.Answer.{refusing, ran, single, deleting, granted, requested}
+use Rattle.laws.proofs.Entries.{link-short}
 use Rattle.demands.proofs.Sound.Clauses.{Sound, sound-clauses}
 use Rattle.demands.proofs.Request.Formed.{named-last}
 use Rattle.demands.proofs.Request.Begun.{list-most}
@@ -46,7 +47,7 @@ module _ (t line text reply : List ℕ) (u : ℕ) where
       by-plan (dupPlan t (listOf u from) (listOf u to) to (begun from old) (begun to new) code)
       (dup-safe t c (listOf u from) (listOf u to) to (begun from old) (begun to new) code (named-last (begun to new) (h .new) .short))
       (dup-keeps t c (listOf u from) (listOf u to) to (begun from old) (begun to new) code (list-most u to (begun to new) (h .gives) m) h)
-  tries c m (chn old link) a h = by-plan (chnPlan t u old link) (chn-safe t c u old link) (chn-kept t c u old link h)
+  tries c m (chn old link) a h = by-plan (chnPlan t u old link) (chn-safe t c u old link (link-short _ (h .link) .1)) (chn-kept t c u old link h)
   tries c m (del names) a h = by-names names a
   tries c m (dpr name code) a h =
       by-plan (dprPlan t u name code) (dpr-safe t c u name code) (dpr-keeps t u name code c (h .code))

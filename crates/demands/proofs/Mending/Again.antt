@@ -1,134 +1,81 @@
--- A mend cut anywhere and run again ends as an uncut one: clearing headings takes no name away, and clearing text no heading,
--- so what is left of the headings and the text to clear is what was to clear and is not cleared yet.
-use mathlib.Core.Bool.{Bool, true, false, cond}
+-- A mend of whose stores any have been made, in any order, and run again ends as an uncut one: each store clears a record that is free at
+-- the end, so every such table stands between the table and its end.
+use mathlib.Core.Bool.{Bool}
 use mathlib.Core.List.{List}
-use mathlib.Core.Logic.{_⊎_, inl, inr, by-cases}
+use mathlib.Core.Logic.{_⊎_, inl, inr, ⊎-elim}
 use mathlib.Core.Path.{_≡_, refl, sym, _∙_}
-use Prim.Native.Nat.{ℕ, _-_, _≤_, _<_}
-use native.Mathlib.Omega.{arith}
-use native.Mathlib.Decide.{decLt, decLe}
+use Prim.Native.Nat.{ℕ, _<_}
 use lib.ListN.{length, take}
-use lib.Seq.{take-append-le}
-use lib.Dec.{eqb}
-use borrow.Author.Tests.{eqb-true}
-use Rattle.paper.specs.Record.{byte, simple, names, headingOf, blank}
+use Rattle.paper.specs.Record.{blank}
 use Rattle.paper.specs.Table.{rooms, rec}
-use Rattle.paper.specs.Entry.{named}
-use Rattle.paper.specs.Store.{run}
-use Rattle.paper.specs.Mend.{orphan, stray, wiped, mendFirst, mendSecond, mendStores, mended}
-use Rattle.laws.proofs.Tests.{and-left}
-use Rattle.laws.proofs.Scans.{any-cong}
-use Rattle.laws.proofs.Lists.{take-past}
-use Rattle.laws.proofs.Lay.{Whole, rec-past}
-use Rattle.laws.proofs.Runs.{run-append, length-run, rooms-run, run-each}
-use Rattle.demands.proofs.Mending.Wipe.{rec-wiped, wiped-by, clears-none, Blanks, every-clears, cut-wipe}
-use Rattle.demands.proofs.Mending.Debris.{mended-is}
+use Rattle.paper.specs.Store.{Store, run}
+use Rattle.paper.specs.Mend.{orphan, stray, clears, wiped, mendFirst, mendSecond, mendStores, mended}
+use Rattle.laws.proofs.Lists.{Every, every-append, every-imp, every-take}
+use Rattle.laws.proofs.Lay.{Whole}
+use Rattle.laws.proofs.Runs.{Lays, run-each, length-run, rooms-run}
+use Rattle.demands.proofs.Mending.Wipe.{rec-wiped, Blanks, every-clears, mended-is}
+use Rattle.demands.proofs.Mending.Part.{equal, Below, stays, Less}
+use Rattle.demands.proofs.Mending.Less.{less-refl, less-free, after₁, less₂, mended-less}
+use Rattle.demands.proofs.Mending.Squeeze.{squeeze}
 
--- a is b with some records cleared that pass the test, all of them of kind c
-record Less (c : ℕ) (p : ℕ → Bool) (b a : List ℕ) : Type 0 where
-  long : length a ≡ length b
-  each : (i : ℕ) → i < rooms b → (rec a i ≡ rec b i) ⊎ Blanks p i (rec a i)
-  kind : (i : ℕ) → p i ≡ true → byte (rec b i) 0 ≡ c
-
-orphan-kind : (t : List ℕ) (i : ℕ) → orphan t i ≡ true → byte (rec t i) 0 ≡ 1
-orphan-kind t i e = eqb-true _ _ (and-left _ _ e)
-
-stray-kind : (t : List ℕ) (i : ℕ) → stray t i ≡ true → byte (rec t i) 0 ≡ 3
-stray-kind t i e = eqb-true _ _ (and-left _ _ e)
-
-rooms-by : (a b : List ℕ) → length a ≡ length b → rooms a ≡ rooms b
-rooms-by a b e = rw e
-
--- clearing what is no entry leaves every name
-named-less : (c : ℕ) (p : ℕ → Bool) (b a : List ℕ) → eqb c 2 ≡ false → Less c p b a → (h : ℕ) → named a h ≡ named b h
-unfolding named
-named-less c p b a n d h = rw (rooms-by a b (d .long)) (any-cong _ _ (rooms b) (λ i l. one i (d .each i l)))
+-- any of its records cleared
+pub again-any : (s x : List ℕ) → Whole s → length x ≡ length s
+    → ((i : ℕ) → i < rooms s → (rec x i ≡ rec s i) ⊎ (rec x i ≡ rec (mended s) i)) → mended x ≡ mended s
+again-any s x w long each = squeeze s x w less over
   where
-    one : (i : ℕ) → (rec a i ≡ rec b i) ⊎ Blanks p i (rec a i) → names h (rec a i) ≡ names h (rec b i)
-    one i (inl e) = rw e
-    one i (inr z) = unfold blank in rw (z .0, d .kind i (z .1), n)
+    less : Less s x
+    less = record { long = long; each = λ i l. go i (each i l) (mended-less s .each i l) }
+      where
+        go : (i : ℕ) → (rec x i ≡ rec s i) ⊎ (rec x i ≡ rec (mended s) i) → Below (rec s i) (rec (mended s) i) → Below (rec s i) (rec x i)
+        go i (inl e) y = stays (equal e)
+        go i (inr e) y = rw e y
 
--- clearing what is no heading leaves every simple-file heading
-simple-less : (c : ℕ) (p : ℕ → Bool) (b a : List ℕ) → eqb c 1 ≡ false → Whole b → Less c p b a
-    → (h : ℕ) → simple (rec a h) ≡ simple (rec b h)
-simple-less c p b a n w d h = by-cases (decLt h (rooms b)) (λ (l : h < rooms b). one (d .each h l)) outside
+    over : Less x (mended s)
+    over = record { long = mended-less s .long ∙ sym long; each = λ i l. at i (rw long at l) }
+      where
+        go : (i : ℕ) → (rec x i ≡ rec s i) ⊎ (rec x i ≡ rec (mended s) i) → Below (rec s i) (rec (mended s) i) → Below (rec x i) (rec (mended s) i)
+        go i (inl e) y = rw e y
+        go i (inr e) y = stays (equal (sym e))
+
+        at : (i : ℕ) → i < rooms s → Below (rec x i) (rec (mended s) i)
+        at i l = go i (each i l) (mended-less s .each i l)
+
+-- ---- the stores of a mend clear what is free at its end
+
+abbrev pub Clears : (s f : List ℕ) → Store → Type 0
+Clears s f = Lays (λ i r. (r ≡ blank) × (rec f i ≡ blank)) (rooms s)
+
+-- a step on u, which ends at f
+step-clears : (s u f : List ℕ) (p : ℕ → Bool) → rooms u ≡ rooms s → Less (wiped p u) f → Every (Clears s f) (clears p (rooms u))
+step-clears s u f p e d = every-imp (Lays (Blanks p) (rooms u)) (Clears s f) (clears p (rooms u)) one (every-clears p (rooms u))
   where
-    one : (rec a h ≡ rec b h) ⊎ Blanks p h (rec a h) → simple (rec a h) ≡ simple (rec b h)
-    one (inl e) = rw e
-    one (inr z) = unfold blank in rw (z .0, d .kind h (z .1), n)
+    one : (x : Store) → Lays (Blanks p) (rooms u) x → Clears s f x
+    one x h =
+        record {
+          within = rw (← e) (h .within);
+          size = h .size;
+          holds = (
+            h .holds .0,
+            less-free (wiped p u) f d (x .at) (rw (rooms-run u _) (h .within)) (rec-wiped u p (x .at) (h .within) ∙ rw (h .holds .1)),
+          );
+        }
 
-    outside : ¬ (h < rooms b) → simple (rec a h) ≡ simple (rec b h)
-    outside o = rw (rec-past b h w (omega arith), rec-past a h (rw (d .long) w) (rw (rooms-by a b (d .long)) (omega arith)))
-
--- what is left of the orphans is the orphans
-orphan-less : (s a : List ℕ) → Less 1 (orphan s) s a
-    → (i : ℕ) → i < rooms s → cond (orphan a i) blank (rec a i) ≡ cond (orphan s i) blank (rec s i)
-orphan-less s a d i l = one (d .each i l)
+pub mend-clears : (s : List ℕ) → Every (Clears s (mended s)) (mendStores s)
+unfolding mendStores
+mend-clears s =
+    every-append (Clears s (mended s)) (mendFirst s) (mendSecond (run s (mendFirst s)))
+    (step-clears s s (mended s) (orphan s) refl (unfold after₁ in less₂ s))
+    (step-clears s (run s (mendFirst s)) (mended s) (stray (run s (mendFirst s))) (rooms-run s (mendFirst s)) last)
   where
-    one : (rec a i ≡ rec s i) ⊎ Blanks (orphan s) i (rec a i) → cond (orphan a i) blank (rec a i) ≡ cond (orphan s i) blank (rec s i)
-    one (inl e) = rw (e, named-less 1 (orphan s) s a refl d i)
-    one (inr z) = unfold blank in rw (z .1, z .0)
+    last : Less (wiped (stray (run s (mendFirst s))) (run s (mendFirst s))) (mended s)
+    last = rw (mended-is s) (less-refl _)
 
--- what is left of the strays is the strays
-stray-less : (s a : List ℕ) → Whole s → Less 3 (stray s) s a
-    → (i : ℕ) → i < rooms s → cond (stray a i) blank (rec a i) ≡ cond (stray s i) blank (rec s i)
-stray-less s a w d i l = one (d .each i l)
-  where
-    one : (rec a i ≡ rec s i) ⊎ Blanks (stray s) i (rec a i) → cond (stray a i) blank (rec a i) ≡ cond (stray s i) blank (rec s i)
-    one (inl e) = rw (e, simple-less 3 (stray s) s a refl w d (headingOf (rec s i)))
-    one (inr z) = unfold blank in rw (z .1, z .0)
+-- any of its stores made, in any order
+pub again-run : (s : List ℕ) → Whole s → (ss : List Store) → Every (Clears s (mended s)) ss → mended (run s ss) ≡ mended s
+again-run s w ss h =
+    again-any s (run s ss) w (length-run s ss)
+    (λ i l. ⊎-elim (λ e. inl e) (λ p. inr (p .0 ∙ sym (p .1))) (run-each (λ i r. (r ≡ blank) × (rec (mended s) i ≡ blank)) s ss h i l))
 
-module _ (s : List ℕ) (w : Whole s) where
-  t₁ : List ℕ
-  t₁ = wiped (orphan s) s
-
-  whole₁ : Whole t₁
-  unfolding t₁
-  whole₁ = rw length-run w
-
-  -- cut in the first step
-  first-again : (a : List ℕ) → Less 1 (orphan s) s a → mended a ≡ mended s
-  first-again a d = mended-is a ∙ rw (wiped-by (orphan a) (orphan s) a s (d .long) w (orphan-less s a d)) (sym (mended-is s))
-
-  less₁ : Less 1 (orphan s) s t₁
-  unfolding t₁
-  less₁ =
-      record {
-        long = length-run s _;
-        each = run-each (Blanks (orphan s)) s _ (every-clears (orphan s) (rooms s));
-        kind = orphan-kind s;
-      }
-
-  -- no heading is left that no entry names
-  no-orphan₁ : (i : ℕ) → i < rooms t₁ → orphan t₁ i ≡ false
-  no-orphan₁ i l = go (orphan s i) refl (unfold t₁ in rec-wiped s (orphan s) i (rw rooms-run at l))
-    where
-      go : (b : Bool) → orphan s i ≡ b → rec t₁ i ≡ cond b blank (rec s i) → orphan t₁ i ≡ false
-      go true e z = unfold blank in rw z
-      go false e z = rw (z, named-less 1 (orphan s) s t₁ refl less₁ i) e
-
-  -- cut in the second step
-  second-again : (a : List ℕ) → Less 3 (stray t₁) t₁ a → mended a ≡ wiped (stray t₁) t₁
-  unfolding run
-  second-again a d =
-      mended-is a ∙
-      rw (clears-none (orphan a) (rooms a) none) (wiped-by (stray a) (stray t₁) a t₁ (d .long) whole₁ (stray-less t₁ a whole₁ d))
-    where
-      one : (i : ℕ) → i < rooms t₁ → (rec a i ≡ rec t₁ i) ⊎ Blanks (stray t₁) i (rec a i) → orphan a i ≡ false
-      one i l (inl e) = rw (e, named-less 3 (stray t₁) t₁ a refl d i) (no-orphan₁ i l)
-      one i l (inr z) = unfold blank in rw (z .0)
-
-      none : (i : ℕ) → i < rooms a → orphan a i ≡ false
-      none i l = let l₁ : i < rooms t₁ = rw (rooms-by a t₁ (d .long)) at l in one i l₁ (d .each i l₁)
-
-  pub again : (k : ℕ) → mended (run s (take k (mendStores s))) ≡ mended s
-  unfolding mendStores t₁
-  again k =
-      by-cases (decLe k (length (mendFirst s)))
-      (λ (l : k ≤ length (mendFirst s)).
-      rw (take-append-le k (mendFirst s))
-      (first-again _ (record { long = length-run s _; each = cut-wipe s (orphan s) k; kind = orphan-kind s })))
-      (λ (l : ¬ (k ≤ length (mendFirst s))).
-      rw (take-past k (mendFirst s) (mendSecond t₁) (omega arith), run-append)
-      (second-again _ (record { long = length-run t₁ _; each = cut-wipe t₁ (stray t₁) (k - length (mendFirst s)); kind = stray-kind t₁ })
-      ∙ sym (mended-is s)))
+-- cut after k stores
+pub again : (s : List ℕ) → Whole s → (k : ℕ) → mended (run s (take k (mendStores s))) ≡ mended s
+again s w k = again-run s w (take k (mendStores s)) (every-take _ k (mendStores s) (mend-clears s))

@@ -1,51 +1,30 @@
--- Mending takes away what a cut request left, and nothing else: debris names nothing and is no simple-file heading of the table
--- beneath it, so the two tests find exactly the debris, the headings in the first step and the text in the second.
-use mathlib.Core.Bool.{Bool, true, false, _&&_, not, cond}
+-- Mending takes away what a cut request left, and nothing else. Its two steps find the headings and the text of the debris, so it leaves of s
+-- no more than f: f stands between s and what mending leaves of s, and both mend to the same table.
+use mathlib.Core.Bool.{Bool, true, false, _&&_, not}
 use mathlib.Core.List.{List, []}
-use mathlib.Core.Logic.{by-cases}
-use mathlib.Core.Path.{_≡_, refl, _∙_}
+use mathlib.Core.Logic.{_⊎_, inl, inr, by-cases}
+use mathlib.Core.Path.{_≡_, refl, sym, _∙_}
 use Prim.Native.Nat.{ℕ, _<_}
 use native.Mathlib.Omega.{arith}
 use native.Mathlib.Decide.{decLt}
 use lib.ListN.{length}
 use borrow.Author.Tests.{eqb-true}
-use Rattle.paper.specs.Record.{byte, isKind, simple, names, headingOf, blank}
+use Rattle.paper.specs.Record.{byte, isKind, simple, names, headingNamed, headingOf, blank}
 use Rattle.paper.specs.Table.{rooms, rec}
 use Rattle.paper.specs.Entry.{named}
-use Rattle.paper.specs.Store.{run}
-use Rattle.paper.specs.Mend.{orphan, stray, wiped, mendFirst, mendSecond, mendStores, mended}
-use Rattle.laws.proofs.Tests.{and-left}
-use Rattle.laws.proofs.Scans.{any-cong}
-use Rattle.laws.proofs.Lay.{Whole, ext-table, rec-past}
-use Rattle.laws.proofs.Runs.{run-append, length-run, rooms-run}
+use Rattle.paper.specs.Mend.{orphan, stray, mendStores, mended}
+use Rattle.laws.proofs.Tests.{and-left, not-both, false-by}
+use Rattle.laws.proofs.Scans.{any-true}
+use Rattle.laws.proofs.Entries.{names-kind, names-heading}
+use Rattle.laws.proofs.Lay.{Whole, rec-past}
 use Rattle.demands.proofs.Sound.Clauses.{Sound, named-by}
-use Rattle.demands.proofs.Mending.Wipe.{rec-wiped, clears-none}
+use Rattle.demands.proofs.Mending.Wipe.{rec-wiped}
+use Rattle.demands.proofs.Mending.Part.{Alike, equal, heading, text, Part, own, loose, Parts, Kept, Below, free, stays, Less}
+use Rattle.demands.proofs.Mending.Less.{alike-is, alike-sym, below-trans, less-free, up-simple, after₁, in-steps, less₁, less₂, mended-less}
+use Rattle.demands.proofs.Mending.Squeeze.{quiet, still, squeeze}
 
--- the two clauses of soundness that mending looks after
-pub record Kept (t : List ℕ) : Type 0 where
-  pub headings : (i : ℕ) → i < rooms t → byte (rec t i) 0 ≡ 1 → named t i ≡ true
-  pub texts : (i : ℕ) → i < rooms t → byte (rec t i) 0 ≡ 3 → simple (rec t (headingOf (rec t i))) ≡ true
+-- ---- a table that keeps the clauses has nothing to mend
 
--- r, in record i, is debris in f
-pub data Goes (f : List ℕ) (i : ℕ) (r : List ℕ) : Type 0 where
-  heading : byte r 0 ≡ 1 → named f i ≡ false → Goes f i r
-  text : byte r 0 ≡ 3 → simple (rec f (headingOf r)) ≡ false → Goes f i r
-
--- record i holds f's own x, or debris r where f has a free record
-pub data Part (f : List ℕ) (i : ℕ) (x r : List ℕ) : Type 0 where
-  same : r ≡ x → Part f i x r
-  loose : x ≡ blank → Goes f i r → Part f i x r
-
--- after the first step: f's own, or text
-data After (f : List ℕ) (x r : List ℕ) : Type 0 where
-  same₁ : r ≡ x → After f x r
-  text₁ : x ≡ blank → byte r 0 ≡ 3 → simple (rec f (headingOf r)) ≡ false → After f x r
-
-pub mended-is : (t : List ℕ) → mended t ≡ wiped (stray (wiped (orphan t) t)) (wiped (orphan t) t)
-unfolding mended mendStores
-mended-is t = run-append t (mendFirst t) (mendSecond (run t (mendFirst t)))
-
--- a table that keeps the clauses has nothing to mend
 no-orphan : (t : List ℕ) → Kept t → (i : ℕ) → i < rooms t → orphan t i ≡ false
 no-orphan t k i l = go (isKind 1 (rec t i)) refl
   where
@@ -60,78 +39,120 @@ no-stray t k i l = go (isKind 3 (rec t i)) refl
     go true e = rw (k .texts i l (eqb-true _ _ e))
     go false e = refl
 
--- .. and takes no store
 pub nothing-to-mend : (t : List ℕ) → Kept t → mendStores t ≡ []
-unfolding mendStores run
-nothing-to-mend t k = rw (clears-none (orphan t) (rooms t) (no-orphan t k)) (clears-none (stray t) (rooms t) (no-stray t k))
+nothing-to-mend t k = quiet t (no-orphan t k) (no-stray t k)
 
 pub mended-kept : (t : List ℕ) → Kept t → mended t ≡ t
-unfolding mended run
-mended-kept t k = rw (nothing-to-mend t k)
+mended-kept t k = still t (nothing-to-mend t k)
 
 -- as a sound table does
 pub sound-keeps : (t : List ℕ) → Sound t → Kept t
-sound-keeps t c = record { headings = named-by t c; texts = λ i l k. and-left _ _ (c .texts i l k) }
+sound-keeps t c =
+    record { headings = named-by t c; entries = λ i l k. rw (c .targets i l k); texts = λ i l k. and-left _ _ (c .texts i l k) }
 
 pub mended-sound : (t : List ℕ) → Sound t → mended t ≡ t
 mended-sound t c = mended-kept t (sound-keeps t c)
 
-module _ (f s : List ℕ) (e : length s ≡ length f) (w : Whole f) (k : Kept f)
-    (part : (i : ℕ) → i < rooms f → Part f i (rec f i) (rec s i)) where
-  rooms-same : rooms s ≡ rooms f
-  rooms-same = rw e
+-- ---- mending leaves no more than f
 
-  names-same : (h i : ℕ) → Part f i (rec f i) (rec s i) → names h (rec s i) ≡ names h (rec f i)
-  unfolding blank
-  names-same h i (same p) = rw p
-  names-same h i (loose z (heading c n)) = rw (z, c)
-  names-same h i (loose z (text c n)) = rw (z, c)
+-- what the first step leaves of it is text
+abbrev Text : (f r : List ℕ) → Type 0
+Text f r = (byte r 0 ≡ 3) × (simple (rec f (headingOf r)) ≡ false)
 
-  named-same : (h : ℕ) → named s h ≡ named f h
+module _ (f s : List ℕ) (w : Whole f) (p : Parts f s) where
+  whole : Whole s
+  whole = rw (p .long) w
+
+  inside : (i : ℕ) → i < rooms f → i < rooms s
+  inside i l = rw (p .long) l
+
+  -- f is s with its debris cleared
+  part-less : Less s f
+  part-less = record { long = sym (p .long); each = λ i l. go i (p .each i (rw (p .long) at l)) }
+    where
+      go : (i : ℕ) → Part f s i (rec f i) (rec s i) → Below (rec s i) (rec f i)
+      go i (own x) = stays (alike-sym (rec f i) (rec s i) x)
+      go i (loose z g) = free z
+
+  -- after the first step: no more than f, but for text
+  under₁ : (i : ℕ) → i < rooms f → Part f s i (rec f i) (rec s i) → Below (rec f i) (rec (after₁ s) i) ⊎ Text f (rec s i)
+  under₁ i l (own x) = inl (below-trans (rec f i) (rec s i) (rec (after₁ s) i) (stays x) (less₁ s .each i (inside i l)))
+  under₁ i l (loose z (heading k n)) = inl (free (unfold after₁ in rec-wiped s (orphan s) i (inside i l) ∙ rw (k, n)))
+  under₁ i l (loose z (text k n)) = inr (k, n)
+
+  -- what is no simple file's heading in f is none here
+  simple₁ : (h : ℕ) → simple (rec f h) ≡ false → simple (rec (after₁ s) h) ≡ false
+  simple₁ h n = by-cases (decLt h (rooms f)) (λ (l : h < rooms f). go l (under₁ h l (p .each h l))) past
+    where
+      no : ((simple (rec (after₁ s) h) ≡ true) → ⊥) → simple (rec (after₁ s) h) ≡ false
+      no = false-by (simple (rec (after₁ s) h))
+
+      go : h < rooms f → Below (rec f h) (rec (after₁ s) h) ⊎ Text f (rec s h) → simple (rec (after₁ s) h) ≡ false
+      go l (inl b) = no (λ e. not-both (up-simple (rec f h) (rec (after₁ s) h) b e) n)
+      go l (inr q) = no (λ e. not-both (up-simple (rec s h) (rec (after₁ s) h) (less₁ s .each h (inside h l)) e) (rw (q .0)))
+
+      past : ¬ (h < rooms f) → simple (rec (after₁ s) h) ≡ false
+      past o = rw (rec-past (after₁ s) h (rw (less₁ s .long) whole) (rw (less₁ s .long, p .long) (omega arith)))
+
+  -- after the second
+  under₂ : (i : ℕ) → i < rooms f → Below (rec f i) (rec (after₁ s) i) ⊎ Text f (rec s i) → Below (rec f i) (rec (mended s) i)
+  under₂ i l = go
+    where
+      l₁ : i < rooms (after₁ s)
+      l₁ = rw (less₁ s .long) (inside i l)
+
+      goes : Text f (rec s i) → Below (rec s i) (rec (after₁ s) i) → rec (mended s) i ≡ blank
+      goes q (free e) = less-free (after₁ s) (mended s) (less₂ s) i l₁ e
+      goes q (stays y) =
+          rw (in-steps s)
+          (rec-wiped (after₁ s) (stray (after₁ s)) i l₁ ∙ rw (alike-is (rec s i) (rec (after₁ s) i) y, q .0, simple₁ (headingOf (rec s i)) (q .1)))
+
+      go : Below (rec f i) (rec (after₁ s) i) ⊎ Text f (rec s i) → Below (rec f i) (rec (mended s) i)
+      go (inl b) = below-trans (rec f i) (rec (after₁ s) i) (rec (mended s) i) b (less₂ s .each i l₁)
+      go (inr q) = free (goes q (less₁ s .each i (inside i l)))
+
+  mended-under : Less f (mended s)
+  mended-under = record { long = mended-less s .long ∙ p .long; each = λ i l. under₂ i l (under₁ i l (p .each i l)) }
+
+  -- whatever f is, both mend to the same table, which is f where f keeps the clauses
+  pub debris : Kept f → mended s ≡ f
+  debris k = sym (squeeze s f whole part-less mended-under) ∙ mended-kept f k
+
+-- ---- the debris of one request
+
+-- r is a heading, or text without a simple file's heading in f
+pub data Loose (f r : List ℕ) : Type 0 where
+  head : byte r 0 ≡ 1 → Loose f r
+  body : byte r 0 ≡ 3 → simple (rec f (headingOf r)) ≡ false → Loose f r
+
+pub data Left (f x r : List ℕ) : Type 0 where
+  ours : Alike x r → Left f x r
+  litter : x ≡ blank → Loose f r → Left f x r
+
+-- where f keeps the clauses no entry of s names a loose heading: its entries are f's, and those name headings of f
+module _ (f s : List ℕ) (k : Kept f) (e : length s ≡ length f) (h : (i : ℕ) → i < rooms f → Left f (rec f i) (rec s i)) where
+  unnamed : (i : ℕ) → rec f i ≡ blank → named s i ≡ false
   unfolding named
-  named-same h = rw rooms-same (any-cong _ _ (rooms f) (λ i l. names-same h i (part i l)))
-
-  -- after the first step
-  t₁ : List ℕ
-  t₁ = wiped (orphan s) s
-
-  first : (i : ℕ) → i < rooms f → rec t₁ i ≡ cond (orphan s i) blank (rec s i)
-  unfolding t₁
-  first i l = rec-wiped s (orphan s) i (rw rooms-same l)
-
-  after : (i : ℕ) → i < rooms f → Part f i (rec f i) (rec s i) → After f (rec f i) (rec t₁ i)
-  after i l (same p) = same₁ (first i l ∙ rw (p, named-same i, no-orphan f k i l))
-  after i l (loose z (heading c n)) = same₁ (first i l ∙ rw (c, named-same i, n, z))
-  after i l (loose z (text c n)) = rw (first i l, c) (text₁ z c n)
-
-  length₁ : length t₁ ≡ length f
-  unfolding t₁
-  length₁ = length-run s _ ∙ e
-
-  rooms₁ : rooms t₁ ≡ rooms f
-  rooms₁ = rw length₁
-
-  simple-same : (h : ℕ) → simple (rec t₁ h) ≡ simple (rec f h)
-  simple-same h = by-cases (decLt h (rooms f)) (λ (l : h < rooms f). inside l (after h l (part h l))) outside
+  unnamed i z =
+      false-by _ (λ y.
+      let x = any-true (λ j. names i (rec s j)) (rooms f) (rw e at y) in
+      at (x .0) (x .1) (x .2) (h (x .0) (x .1)))
     where
-      inside : h < rooms f → After f (rec f h) (rec t₁ h) → simple (rec t₁ h) ≡ simple (rec f h)
-      inside l (same₁ p) = rw p
-      inside l (text₁ z c n) = unfold blank in rw (c, z)
+      at : (j : ℕ) → j < rooms f → names i (rec s j) ≡ true → Left f (rec f j) (rec s j) → ⊥
+      at j l n (ours (equal q)) =
+          let m : names i (rec f j) ≡ true = rw q at n in
+          let g : isKind 1 (rec f (headingNamed (rec f j))) ≡ true = k .entries j l (names-kind i (rec f j) m) in
+          not-both g (rw (names-heading i (rec f j) m, z) (unfold blank in refl))
+      at j l n (litter b (head q)) = omega (arith, names-kind i (rec s j) n)
+      at j l n (litter b (body q g)) = omega (arith, names-kind i (rec s j) n)
 
-      outside : ¬ (h < rooms f) → simple (rec t₁ h) ≡ simple (rec f h)
-      outside n = rw (rec-past f h w (omega arith), rec-past t₁ h (rw length₁ w) (rw rooms₁ (omega arith)))
-
-  -- after the second step
-  second : (i : ℕ) → i < rooms f → After f (rec f i) (rec t₁ i) → cond (stray t₁ i) blank (rec t₁ i) ≡ rec f i
-  second i l (same₁ p) = rw (simple-same, p, no-stray f k i l)
-  second i l (text₁ z c n) = rw (simple-same, c, n, z)
-
-  pub debris : mended s ≡ f
-  unfolding t₁
-  debris = mended-is s ∙ ext-table (wiped (stray t₁) t₁) f (length-run t₁ _ ∙ length₁) (rw (length-run t₁ _, length₁) w) at-record
+  left-parts : Parts f s
+  left-parts = record { long = e; each = λ i l. go i (h i l) }
     where
-      at-record : (i : ℕ) → i < rooms (wiped (stray t₁) t₁) → rec (wiped (stray t₁) t₁) i ≡ rec f i
-      at-record i l =
-          let l₁ : i < rooms t₁ = rw (rooms-run t₁ _) at l in
-          let l₀ : i < rooms f = rw rooms₁ at l₁ in
-          rec-wiped t₁ (stray t₁) i l₁ ∙ second i l₀ (after i l₀ (part i l₀))
+      go : (i : ℕ) → Left f (rec f i) (rec s i) → Part f s i (rec f i) (rec s i)
+      go i (ours x) = own x
+      go i (litter z (head q)) = loose z (heading q (unnamed i z))
+      go i (litter z (body q g)) = loose z (text q g)
+
+  pub left-mends : Whole f → mended s ≡ f
+  left-mends w = debris f s w left-parts k

@@ -12,7 +12,7 @@ use Rattle.paper.specs.Scan.{joinBelow, listBelow}
 use Rattle.paper.specs.Record.{blank}
 use Rattle.paper.specs.Table.{rooms, rec, lay}
 use Rattle.paper.specs.Store.{Store, run, clear}
-use Rattle.paper.specs.Mend.{clears, wiped}
+use Rattle.paper.specs.Mend.{orphan, stray, clears, wiped, mendFirst, mendSecond, mendStores, mended}
 use Rattle.laws.proofs.Tests.{not-both}
 use Rattle.laws.proofs.Lists.{Every, every-map, every-imp, every-below, every-take}
 use Rattle.laws.proofs.Lay.{Whole, lay-same, lay-other, length-blank, ext-table}
@@ -96,3 +96,8 @@ every-clears p n =
 pub cut-wipe : (t : List ℕ) (p : ℕ → Bool) (k i : ℕ) → i < rooms t
     → (rec (run t (take k (clears p (rooms t)))) i ≡ rec t i) ⊎ Blanks p i (rec (run t (take k (clears p (rooms t)))) i)
 cut-wipe t p k = run-each (Blanks p) t _ (every-take _ k _ (every-clears p (rooms t)))
+
+-- the table after the two steps
+pub mended-is : (t : List ℕ) → mended t ≡ wiped (stray (wiped (orphan t) t)) (wiped (orphan t) t)
+unfolding mended mendStores
+mended-is t = run-append t (mendFirst t) (mendSecond (run t (mendFirst t)))

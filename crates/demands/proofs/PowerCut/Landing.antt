@@ -15,7 +15,7 @@ use Rattle.demands.proofs.Sound.Clauses.{Sound}
 use Rattle.demands.proofs.Request.Ended.{Passed, ran-by, passes}
 use Rattle.demands.proofs.SoundKept.Kept.{Keeps, passed-sound, del-keeps}
 use Rattle.demands.proofs.Mending.Debris.{sound-keeps, mended-sound}
-use Rattle.demands.proofs.PowerCut.Cut.{Cut}
+use Rattle.demands.proofs.PowerCut.Cut.{Shaped, Cut, power-cut}
 use Rattle.demands.proofs.PowerCut.Plans.{Safe, del-safe}
 
 -- x is the table after, of outcomes by stop number: at some stop number the answer is 0 and the table x
@@ -25,8 +25,11 @@ pub record Done (o : ℕ → Outcome) (x : List ℕ) : Type 0 where
   pub table : x ≡ o stop .table
 
 -- a plan of the right shape whose checks pass
-passed-cut : (t : List ℕ) (x : Planned) (p : Plan) → Safe t x → Keeps t x → Passed x p → (k : ℕ) → Cut t (p .stores) k
-passed-cut t x p h g v = let s : Safe t (plan p) = rw (v .plan) at h in s (v .checks) (sound-keeps _ (passed-sound t x p g v))
+pub passed-shaped : (t : List ℕ) (x : Planned) (p : Plan) → Safe t x → Passed x p → Shaped t (p .stores)
+passed-shaped t x p h v = let s : Safe t (plan p) = rw (v .plan) at h in s (v .checks)
+
+passed-cut : (t : List ℕ) → Sound t → (x : Planned) (p : Plan) → Safe t x → Keeps t x → Passed x p → (k : ℕ) → Cut t (p .stores) k
+passed-cut t c x p h g v = power-cut t (p .stores) (c .whole) (sound-keeps t c) (sound-keeps _ (passed-sound t x p g v)) (passed-shaped t x p h v)
 
 -- ---- one plan
 
@@ -53,7 +56,7 @@ module _ (t reply : List ℕ) (c : Sound t) (x : Planned) (safe : Safe t x) (sur
       ran-by (λ y. Either (mended (single t reply k y .table))) k x
       (λ f _. let z : mended t ≡ t = mended-sound t c in (rw z c, inl z))
       (λ p v l. landed _ p v (inr (mended-sound (run t (p .stores)) (passed-sound t x p sure v))))
-      (λ p v l. landed _ p v (passed-cut t x p safe sure v k))
+      (λ p v l. landed _ p v (passed-cut t c x p safe sure v k))
 
 -- ---- DEL, name by name
 
@@ -124,4 +127,4 @@ module _ (u : ℕ) (reply : List ℕ) where
           ran-by (λ y. Parted t u reply n made (w ∷ ws) (after y)) k x
           (λ f _. no-name t n made (w ∷ ws) _ c (mended-sound t c))
           (λ p v l. one-more t n made w p v ws _ (rest p (passed-sound t x p sure v) (k - length (p .stores)) (n + 1) (made + length (p .stores))))
-          (λ p v l. cut-here p v _ (passed-cut t x p (del-safe t c u (n + 1) w) sure v k))
+          (λ p v l. cut-here p v _ (passed-cut t c x p (del-safe t c u (n + 1) w) sure v k))

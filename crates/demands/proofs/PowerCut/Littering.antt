@@ -1,5 +1,5 @@
--- A new file's heading and text, before its entry stands, are debris: they lie in free records, no entry names a free record,
--- and the text's heading is a free record of the table before.
+-- A new file's heading and text, before its entry stands, are debris: they lie in free records, and the text's heading is a free record
+-- of the table before.
 use mathlib.Core.List.{List}
 use mathlib.Core.Logic.{inl, inr}
 use mathlib.Core.Path.{_≡_}
@@ -17,32 +17,28 @@ use Rattle.laws.proofs.Lay.{length-rec}
 use Rattle.laws.proofs.Runs.{Lays}
 use Rattle.laws.proofs.Rooms.{room-below, room-kind, free-blank}
 use Rattle.demands.proofs.Sound.Clauses.{Sound}
-use Rattle.demands.proofs.Sound.Points.{no-heading-unnamed}
-use Rattle.demands.proofs.SoundKept.Filed.{Roomy, Laid, each-laid, was-free, text-kind, small}
-use Rattle.demands.proofs.Mending.Debris.{Goes, heading, text}
+use Rattle.demands.proofs.SoundKept.Filed.{Roomy, Laid, each-laid, text-kind, small}
+use Rattle.demands.proofs.Mending.Debris.{Loose, head, body}
 use Rattle.demands.proofs.PowerCut.Cut.{Litters}
 
 module _ (t : List ℕ) (c : Sound t) where
   free : (m : ℕ) → m < length (frees t) → rec t (room t m) ≡ blank
   free m l = let b = room-below t m l in free-blank (rec t (room t m)) (length-rec t (room t m) b) (c .own (room t m) b .free (room-kind t m l))
 
-  pub littering : (head body : List ℕ) → Roomy t head body → Every (Litters t) (newFile t head body)
+  pub littering : (heading text : List ℕ) → Roomy t heading text → Every (Litters t) (newFile t heading text)
   unfolding blank
-  littering head body n = every-imp (Lays (Laid t head body n) (rooms t)) (Litters t) (newFile t head body) one (each-laid t head body n)
+  littering heading text n = every-imp (Lays (Laid t heading text n) (rooms t)) (Litters t) (newFile t heading text) one (each-laid t heading text n)
     where
-      at-room : (m : ℕ) → m ≤ blocks (length body) → rec t (room t m) ≡ blank
+      at-room : (m : ℕ) → m ≤ blocks (length text) → rec t (room t m) ≡ blank
       at-room m l = free m (omega (arith, n .room))
 
-      debris : (i : ℕ) (r : List ℕ) → Laid t head body n i r → (rec t i ≡ blank) × Goes t i r
-      debris i r (inl (e, q)) = (
-        rw e (at-room 0 (omega arith)),
-        heading (rw q (n .kind)) (rw e (no-heading-unnamed 65535 t c (room t 0) (omega (arith, was-free t head body n 0 (omega arith))))),
-      )
+      debris : (i : ℕ) (r : List ℕ) → Laid t heading text n i r → (rec t i ≡ blank) × Loose t r
+      debris i r (inl (e, q)) = (rw e (at-room 0 (omega arith)), head (rw q (n .kind)))
       debris i r (inr (p, l, e, q)) = (
         rw e (at-room (p + 1) (omega arith)),
-        text (rw q (text-kind t head body n p))
-            (rw (q, text-heading (room t 0) p (block body p) (small t head body n (c .few)), at-room 0 (omega arith))),
+        body (rw q (text-kind t heading text n p))
+            (rw (q, text-heading (room t 0) p (block text p) (small t heading text n (c .few)), at-room 0 (omega arith))),
       )
 
-      one : (s : Store) → Lays (Laid t head body n) (rooms t) s → Litters t s
+      one : (s : Store) → Lays (Laid t heading text n) (rooms t) s → Litters t s
       one s l = record { within = l .within; size = l .size; holds = debris (s .at) (s .bytes) (l .holds) }

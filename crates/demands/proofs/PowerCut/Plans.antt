@@ -1,40 +1,41 @@
 -- Each function's stores have the shape of the power cut: a new file first, then the entry, then what it displaced;
 -- an entry cleared, then its file; or one store alone. What the end checks let pass has the free records that it needs.
 use mathlib.Core.List.{List, [], _∷_, _++_}
-use mathlib.Core.Logic.{inl}
-use mathlib.Core.Path.{_≡_, refl}
-use Prim.Native.Nat.{ℕ, zero, suc, _≤_}
+use mathlib.Core.Path.{_≡_, refl, _∙_}
+use Prim.Native.Nat.{ℕ, _≤_, _<_}
 use native.Mathlib.Omega.{arith}
 use lib.ListN.{length}
 use borrow.Author.Tests.{ltb-false}
 use Rattle.paper.specs.Scan.{Found, at, nowhere}
-use Rattle.paper.specs.Record.{level, lifetime, blank, headingRecord}
-use Rattle.paper.specs.Table.{rec, frees, room}
+use Rattle.paper.specs.Record.{byte, level, lifetime, blank, headingRecord}
+use Rattle.paper.specs.Table.{rooms, rec, frees, room}
 use Rattle.paper.specs.Declaration.{Part, orElse}
 use Rattle.paper.specs.Line.{Word}
 use Rattle.paper.specs.Check.{Check, passed, verdict}
 use Rattle.paper.specs.Request.{Begin}
 use Rattle.paper.specs.Block.{fileText}
 use Rattle.paper.specs.Walk.{State, file, reached, toLast, lastName}
-use Rattle.paper.specs.Store.{Store, run}
+use Rattle.paper.specs.Store.{puts}
 use Rattle.paper.specs.Effect.{Planned, plan, halted, chainOf, toHolder, toEnd, Making, borne, placing, needed, readInhibited, writeInhibited, notSimple, making, filing, crdPlan, wrsPlan, cpyPlan, dupPlan, chnPlan, dprPlan, delPlan, rdsPlan, lstPlan, lstBasePlan}
 use Rattle.laws.proofs.Lists.{Every, every-parts}
-use Rattle.laws.proofs.Fields.{length-entry}
+use Rattle.laws.proofs.Fields.{entry-record-kind, length-entry}
 use Rattle.laws.proofs.Entries.{found-stands}
-use Rattle.laws.proofs.Lay.{length-blank}
+use Rattle.laws.proofs.Lay.{length-rec, length-blank, within}
+use Rattle.laws.proofs.Rooms.{room-below}
 use Rattle.demands.proofs.Sound.Clauses.{Sound}
 use Rattle.demands.proofs.Request.Fair.{Idle, verdict-idle}
 use Rattle.demands.proofs.Request.Steps.{last-looked, holder-by, end-by}
 use Rattle.demands.proofs.SoundKept.Filed.{roomy, length-file}
-use Rattle.demands.proofs.Mending.Debris.{Kept, sound-keeps, mended-sound}
-use Rattle.demands.proofs.PowerCut.Cut.{Litters, Cut, power-cut}
-use Rattle.demands.proofs.PowerCut.Losing.{losing-cut}
+use Rattle.demands.proofs.SoundKept.Recoded.{length-recoded, recoded-like}
+use Rattle.demands.proofs.SoundKept.Renamed.{length-renamed}
+use Rattle.demands.proofs.PowerCut.Cut.{Litters, Counts, entered, over, again, Shaped, none, phased}
+use Rattle.demands.proofs.PowerCut.Losing.{losing-shaped}
 use Rattle.demands.proofs.PowerCut.Littering.{littering}
 
--- a plan that a power cut leaves whole: the table before or the table after
+-- a plan whose stores have the shape where its checks pass
 abbrev pub Safe : List ℕ → Planned → Type 0
 Safe t (halted f) = Unit {0}
-Safe t (plan p) = verdict (p .checks) ≡ passed → Kept (run t (p .stores)) → (k : ℕ) → Cut t (p .stores) k
+Safe t (plan p) = verdict (p .checks) ≡ passed → Shaped t (p .stores)
 
 -- a walk to an argument's directory, or to its file, and what follows it
 holder-safe : (t : List ℕ) (u place : ℕ) (w : Word) (f : State → Planned) → ((d : State) → Safe t (f d)) → Safe t (toHolder t u place w f)
@@ -45,29 +46,25 @@ end-safe : (t : List ℕ) (u place : ℕ) (w : Word) (f : State → State → Pl
 end-safe t u place w f h = end-by (Safe t) place (λ _ _ _. tt) t u w f (λ d s _. h d s)
 
 module _ (t : List ℕ) (c : Sound t) where
-  -- no store
-  none-safe : (k : ℕ) → Cut t [] k
-  unfolding run
-  none-safe zero = inl (mended-sound t c)
-  none-safe (suc k) = inl (mended-sound t c)
-
   -- one store alone
-  one-safe : (s : Store) → Kept (run t (s ∷ [])) → (k : ℕ) → Cut t (s ∷ []) k
-  one-safe s d = power-cut t [] s [] (c .whole) (sound-keeps t c) d tt tt
+  one-shaped : (i : ℕ) (r : List ℕ) → i < rooms t → length r ≡ 32 → Counts (rec t i) r → Shaped t (puts i r ∷ [])
+  one-shaped i r l b q = phased [] (puts i r) [] refl tt (record { within = l; size = b; holds = q }) tt
 
   -- a new entry, given that the stores before it are debris
   making-safe : (m : Making) (thirteen fifteen : List Check) → (length (m .first) ≤ length (frees t) → Every (Litters t) (m .first))
-      → length (m .entry) ≡ 32 → Safe t (making t m thirteen fifteen)
+      → length (m .entry) ≡ 32 → byte (m .entry) 0 ≡ 2 → Safe t (making t m thirteen fifteen)
   unfolding making
-  making-safe m thirteen fifteen lit size e d =
+  making-safe m thirteen fifteen lit size kind e =
       let a = every-parts Idle (thirteen ++ writeInhibited (m .place) (m .directory) ∷ fifteen) _ (verdict-idle _ e) .1 in
-      go (borne t m) refl (ltb-false _ _ (a .1 .1 .0)) d
+      go (borne t m) refl (ltb-false _ _ (a .1 .1 .0))
     where
-      go : (x : Found) → borne t m ≡ x → needed m x ≤ length (frees t) → Kept (run t (placing t m x)) → (k : ℕ) → Cut t (placing t m x) k
-      go (at i) q enough d =
+      go : (x : Found) → borne t m ≡ x → needed m x ≤ length (frees t) → Shaped t (placing t m x)
+      go (at i) q enough =
           let f = found-stands t (m .directory .holder) (m .name) i q .1 in
-          losing-cut t c (m .first) (lit enough) i (m .entry) (f .kind) size d
-      go nowhere q enough d = power-cut t (m .first) _ [] (c .whole) (sound-keeps t c) d (lit (omega arith)) tt
+          losing-shaped t c (m .first) (lit enough) i (m .entry) (f .kind) size
+      go nowhere q enough =
+          phased (m .first) _ [] refl (lit (omega arith))
+          (record { within = room-below t (length (m .first)) (omega arith); size = size; holds = entered kind }) tt
 
   -- a new file under a name that fits its field
   filing-safe : (place : ℕ) (w : Word) (d : State) (type lev code life n : ℕ) (body : List ℕ) (thirteen fifteen : List Check)
@@ -77,6 +74,7 @@ module _ (t : List ℕ) (c : Sound t) where
       making-safe (filing t place w d code head body) thirteen fifteen
       (λ enough. littering t c head body (roomy t type lev code life n body (omega (arith, length-file t head body, enough))))
       (length-entry code (d .holder .heading) (room t 0) (d .holder .user) (lastName (chainOf w)) l)
+      (entry-record-kind code (d .holder .heading) (room t 0) (d .holder .user) (lastName (chainOf w)))
     where
       head : List ℕ
       head = headingRecord type lev code life n
@@ -109,29 +107,41 @@ module _ (t : List ℕ) (c : Sound t) where
   unfolding dupPlan
   dup-safe v u to old new code l =
       end-safe t v 1 old _ (λ _ f _. holder-safe t u 2 new _ (λ d.
-      making-safe _ [] _ (λ _. tt) (length-entry _ (d .holder .heading) (file t f) (d .holder .user) (lastName (chainOf new)) l)))
+      making-safe _ [] _ (λ _. tt) (length-entry _ (d .holder .heading) (file t f) (d .holder .user) (lastName (chainOf new)) l)
+      (entry-record-kind _ (d .holder .heading) (file t f) (d .holder .user) (lastName (chainOf new)))))
 
-  pub chn-safe : (u : ℕ) (old link : Word) → Safe t (chnPlan t u old link)
+  pub chn-safe : (u : ℕ) (old link : Word) → length (lastName (link .names)) ≤ 10 → Safe t (chnPlan t u old link)
   unfolding chnPlan
-  chn-safe u old link = end-safe t u 1 old _ (λ d f _ _. one-safe _)
+  chn-safe u old link l =
+      end-safe t u 1 old _ (λ d f q _.
+      let e = last-looked t d (chainOf old) f q in
+      one-shaped (f .entry) _ (e .within)
+      (length-renamed (rec t (f .entry)) (lastName (link .names)) (length-rec t (f .entry) (e .within)) (e .stands .kind) l)
+      (over (e .stands .kind)))
 
   pub dpr-safe : (u : ℕ) (name : Word) (code : ℕ) → Safe t (dprPlan t u name code)
   unfolding dprPlan
-  dpr-safe u name code = end-safe t u 1 name _ (λ d f _ _. one-safe _)
+  dpr-safe u name code =
+      end-safe t u 1 name _ (λ d f q _.
+      let e = last-looked t d (chainOf name) f q in
+      let k : byte (rec t (file t f)) 0 ≡ 1 = c .targets (f .entry) (e .within) (e .stands .kind) in
+      let i : file t f < rooms t = within t (file t f) (c .whole) (omega arith) in
+      let s : length (rec t (file t f)) ≡ 32 = length-rec t (file t f) i in
+      one-shaped (file t f) _ i (length-recoded (rec t (file t f)) code s k) (again k (recoded-like (rec t (file t f)) code s k .kind ∙ k)))
 
   pub del-safe : (u place : ℕ) (name : Word) → Safe t (delPlan t u place name)
   unfolding delPlan
   del-safe u place name =
-      end-safe t u place name _ (λ d f q _. losing-cut t c [] tt (f .entry) blank (last-looked t d (chainOf name) f q .stands .kind) length-blank)
+      end-safe t u place name _ (λ d f q _. losing-shaped t c [] tt (f .entry) blank (last-looked t d (chainOf name) f q .stands .kind) length-blank)
 
   pub rds-safe : (u : ℕ) (reply : List ℕ) (name : Word) → Safe t (rdsPlan t u reply name)
   unfolding rdsPlan
-  rds-safe u reply name = end-safe t u 1 name _ (λ d f _ _ _. none-safe)
+  rds-safe u reply name = end-safe t u 1 name _ (λ d f _ _. none refl)
 
   pub lst-safe : (u : ℕ) (reply : List ℕ) (name : Word) → Safe t (lstPlan t u reply name)
   unfolding lstPlan
-  lst-safe u reply name = end-safe t u 1 name _ (λ d f _ _ _. none-safe)
+  lst-safe u reply name = end-safe t u 1 name _ (λ d f _ _. none refl)
 
   pub lst-base-safe : (u : ℕ) (reply : List ℕ) → Safe t (lstBasePlan t u reply)
   unfolding lstBasePlan
-  lst-base-safe u reply _ _ = none-safe
+  lst-base-safe u reply _ = none refl

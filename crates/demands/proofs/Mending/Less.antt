@@ -1,0 +1,165 @@
+-- Mending is monotone. Clearing takes headings and names away and brings none, so each test that holds still holds when more is cleared:
+-- what goes still goes. So each step of a lesser table leaves a lesser table, and so does mending.
+use mathlib.Core.Bool.{Bool, true, false, not, cond}
+use mathlib.Core.List.{List}
+use mathlib.Core.Logic.{_⊎_, inl, inr, by-cases}
+use mathlib.Core.Path.{_≡_, refl, sym, _∙_}
+use Prim.Native.Nat.{ℕ, _<_}
+use native.Mathlib.Omega.{arith}
+use native.Mathlib.Decide.{decLt}
+use Rattle.paper.specs.Record.{isKind, simple, names, headingOf, blank}
+use Rattle.paper.specs.Table.{rooms, rec}
+use Rattle.paper.specs.Entry.{named}
+use Rattle.paper.specs.Mend.{orphan, stray, wiped, mended}
+use Rattle.laws.proofs.Tests.{truth, not-both, and-left, and-right, and-both, either}
+use Rattle.laws.proofs.Scans.{any-true, any-here}
+use Rattle.laws.proofs.Lay.{Whole, rec-past}
+use Rattle.laws.proofs.Runs.{length-run, rooms-run}
+use Rattle.demands.proofs.Mending.Wipe.{rec-wiped, mended-is}
+use Rattle.demands.proofs.Mending.Part.{Alike, equal, Below, free, stays, Less}
+
+-- ---- the order
+
+pub alike-is : (x r : List ℕ) → Alike x r → r ≡ x
+alike-is x r (equal e) = e
+
+pub alike-sym : (x r : List ℕ) → Alike x r → Alike r x
+alike-sym x r (equal e) = equal (sym e)
+
+pub alike-trans : (x y z : List ℕ) → Alike x y → Alike y z → Alike x z
+alike-trans x y z (equal p) (equal q) = equal (q ∙ p)
+
+-- a free record is like no other
+pub is-blank : (r : List ℕ) → Alike blank r → r ≡ blank
+is-blank r (equal e) = e
+
+pub below-trans : (x y z : List ℕ) → Below x y → Below y z → Below x z
+below-trans x y z p (free e) = free e
+below-trans x y z (free e) (stays b) = free (is-blank z (rw e at b))
+below-trans x y z (stays a) (stays b) = stays (alike-trans x y z a b)
+
+pub less-refl : (s : List ℕ) → Less s s
+less-refl s = record { long = refl; each = λ i l. stays (equal refl) }
+
+pub less-trans : (s a b : List ℕ) → Less s a → Less a b → Less s b
+less-trans s a b p q =
+    record {
+      long = q .long ∙ p .long;
+      each = λ i l. below-trans (rec s i) (rec a i) (rec b i) (p .each i l) (q .each i (rw (p .long) l));
+    }
+
+-- both ways round: alike
+pub less-both : (s a : List ℕ) → Less s a → Less a s → (i : ℕ) → i < rooms s → Alike (rec s i) (rec a i)
+less-both s a p q i l = go (p .each i l) (q .each i (rw (p .long) l))
+  where
+    go : Below (rec s i) (rec a i) → Below (rec a i) (rec s i) → Alike (rec s i) (rec a i)
+    go (stays x) y = x
+    go (free e) (free f) = equal (e ∙ sym f)
+    go (free e) (stays y) = equal (e ∙ sym (is-blank (rec s i) (rw e at y)))
+
+-- what is free stays free
+pub less-free : (s a : List ℕ) → Less s a → (i : ℕ) → i < rooms s → rec s i ≡ blank → rec a i ≡ blank
+less-free s a d i l e = go (d .each i l)
+  where
+    go : Below (rec s i) (rec a i) → rec a i ≡ blank
+    go (free z) = z
+    go (stays x) = is-blank (rec a i) (rw e at x)
+
+-- ---- a test that a blank record does not pass: what passes it passed before
+
+up : (q : List ℕ → Bool) → q blank ≡ false → (x r : List ℕ) → Below x r → q r ≡ true → q x ≡ true
+up q z x r (free e) t = absurd (not-both t (rw e z))
+up q z x r (stays (equal e)) t = rw e at t
+
+pub up-simple : (x r : List ℕ) → Below x r → simple r ≡ true → simple x ≡ true
+up-simple = up simple (unfold blank in refl)
+
+up-names : (h : ℕ) (x r : List ℕ) → Below x r → names h r ≡ true → names h x ≡ true
+up-names h = up (names h) (unfold blank in refl)
+
+not-down : (a b : Bool) → (a ≡ true → b ≡ true) → not b ≡ true → not a ≡ true
+not-down a true h e = absurd (not-both e refl)
+not-down true false h e = absurd (not-both (h refl) refl)
+not-down false false h e = refl
+
+module _ (s a : List ℕ) (w : Whole s) (d : Less s a) where
+  -- past the table both have nothing
+  pub below : (h : ℕ) → Below (rec s h) (rec a h)
+  below h =
+      by-cases (decLt h (rooms s)) (d .each h)
+      (λ (n : ¬ (h < rooms s)). stays (equal (rec-past a h (rw (d .long) w) (rw (d .long) (omega arith)) ∙ sym (rec-past s h w (omega arith)))))
+
+  pub up-named : (h : ℕ) → named a h ≡ true → named s h ≡ true
+  unfolding named
+  up-named h e =
+      let x = any-true (λ j. names h (rec a j)) (rooms s) (rw (d .long) at e) in
+      any-here (λ j. names h (rec s j)) (rooms s) (x .0) (x .1) (up-names h (rec s (x .0)) (rec a (x .0)) (below (x .0)) (x .2))
+
+  -- ---- what goes still goes
+
+  orphan-still : (i : ℕ) → Alike (rec s i) (rec a i) → orphan s i ≡ true → orphan a i ≡ true
+  orphan-still i x g =
+      rw (alike-is (rec s i) (rec a i) x) (and-both (isKind 1 (rec s i)) _ (and-left (isKind 1 (rec s i)) _ g)
+      (not-down (named a i) (named s i) (up-named i) (and-right (isKind 1 (rec s i)) _ g)))
+
+  stray-still : (i : ℕ) → Alike (rec s i) (rec a i) → stray s i ≡ true → stray a i ≡ true
+  stray-still i x g =
+      let h : ℕ = headingOf (rec s i) in
+      rw (alike-is (rec s i) (rec a i) x) (and-both (isKind 3 (rec s i)) _ (and-left (isKind 3 (rec s i)) _ g)
+      (not-down (simple (rec a h)) (simple (rec s h)) (up-simple (rec s h) (rec a h) (below h)) (and-right (isKind 3 (rec s i)) _ g)))
+
+-- ---- a step
+
+free-either : (b : Bool) → cond b blank blank ≡ blank
+free-either true = refl
+free-either false = refl
+
+wiped-less : (t : List ℕ) (p : ℕ → Bool) → Less t (wiped p t)
+wiped-less t p = record { long = length-run t _; each = λ i l. rw (rec-wiped t p i l) (go i (p i)) }
+  where
+    go : (i : ℕ) (b : Bool) → Below (rec t i) (cond b blank (rec t i))
+    go i true = free refl
+    go i false = stays (equal refl)
+
+wiped-mono : (s a : List ℕ) (p q : ℕ → Bool) → Less s a → ((i : ℕ) → Alike (rec s i) (rec a i) → p i ≡ true → q i ≡ true)
+    → Less (wiped p s) (wiped q a)
+wiped-mono s a p q d h = record { long = rw (length-run s _, length-run a _) (d .long); each = at }
+  where
+    go : (i : ℕ) → Below (rec s i) (rec a i) → (p i ≡ true) ⊎ (p i ≡ false) → Below (cond (p i) blank (rec s i)) (cond (q i) blank (rec a i))
+    go i (free e) c = rw e (free (free-either (q i)))
+    go i (stays x) (inl c) = rw (c, h i x c) (free refl)
+    go i (stays x) (inr c) = rw c (either (λ (r : List ℕ). Below (rec s i) r) (q i) blank (rec a i) (free refl) (stays x))
+
+    at : (i : ℕ) → i < rooms (wiped p s) → Below (rec (wiped p s) i) (rec (wiped q a) i)
+    at i l =
+        let m : i < rooms s = rw (rooms-run s _) at l in
+        rw (rec-wiped s p i m, rec-wiped a q i (rw (d .long) m)) (go i (d .each i m) (truth (p i)))
+
+-- ---- the two steps, and mending
+
+unfoldable pub after₁ : List ℕ → List ℕ
+after₁ t = wiped (orphan t) t
+
+pub in-steps : (t : List ℕ) → mended t ≡ wiped (stray (after₁ t)) (after₁ t)
+unfolding after₁
+in-steps t = mended-is t
+
+pub less₁ : (t : List ℕ) → Less t (after₁ t)
+unfolding after₁
+less₁ t = wiped-less t (orphan t)
+
+pub less₂ : (t : List ℕ) → Less (after₁ t) (mended t)
+less₂ t = rw (in-steps t) (wiped-less (after₁ t) (stray (after₁ t)))
+
+pub mended-less : (t : List ℕ) → Less t (mended t)
+mended-less t = less-trans t (after₁ t) (mended t) (less₁ t) (less₂ t)
+
+pub mended-mono : (s a : List ℕ) → Whole s → Less s a → Less (mended s) (mended a)
+mended-mono s a w d =
+    rw (in-steps s, in-steps a) (wiped-mono (after₁ s) (after₁ a) (stray (after₁ s)) (stray (after₁ a)) d₁ (stray-still (after₁ s) (after₁ a) w₁ d₁))
+  where
+    w₁ : Whole (after₁ s)
+    w₁ = rw (less₁ s .long) w
+
+    d₁ : Less (after₁ s) (after₁ a)
+    d₁ = unfold after₁ in wiped-mono s a (orphan s) (orphan a) d (orphan-still s a w d)
