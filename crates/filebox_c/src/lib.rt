@@ -1,11 +1,14 @@
 // The file box for C: include/filebox.h says what a caller owes and gets.
 use answers::Answer;
 use lamp::Light;
+use records::bytes::Room;
 ghost use mathlib.Core.List.{[]};
+ghost use mathlib.Core.Path.{_≡_};
 ghost use Rattle.paper.specs.Answer.{requested, mending};
 ghost use Rattle.elephant.specs.Promised.{Promised};
 ghost use Rattle.job.specs.Lamp.{lit};
 ghost use Rattle.lamp.specs.Shown.{Lighted};
+ghost use Rattle.disk.specs.Phase.{phase};
 
 // One request on a lent table.
 #[no_mangle]
@@ -46,4 +49,12 @@ pub extern "C" fn filebox_lamp(
         r (now (table .exit)) (now (back .exit)) ⌝ }
 {
     lamp::run_job(table, sheets, texts, back, chain, user, stop)
+}
+
+// The phase in which a record is written to a disk, by the tables before and after a request.
+#[no_mangle]
+pub extern "C" fn filebox_disk_phase(before: &[u8], after: &[u8], place: usize) -> u8
+    ensures { λ r. ⌜ r ≡ phase (now (before .entry)) (now (after .entry)) place ⌝ }
+{
+    phases::phase(before, after, Room(place))
 }

@@ -1,0 +1,48 @@
+-- What a disk may hold when the power fails, the phases written in order: any part of the one that was not flushed yet.
+use mathlib.Core.List.{List, [], _∷_}
+use mathlib.Core.Logic.{_⊎_}
+use mathlib.Core.Path.{_≡_}
+use Prim.Native.Nat.{ℕ, _<_}
+use lib.ListN.{length}
+use Rattle.paper.specs.Table.{rooms, rec}
+use Rattle.paper.specs.Line.{Word}
+use Rattle.paper.specs.Request.{del, request, asked}
+use Rattle.paper.specs.Answer.{requested, deleting}
+use Rattle.disk.specs.Phase.{first, entry, last, phase}
+
+-- u is "the table after a granted request" on t, or, "for DEL: after one name", whichever of its names that is
+pub data Granted (t u : List ℕ) : Type 0 where
+  whole : (line text reply : List ℕ) (user stop : ℕ) → ((names : List Word) → asked line text ≡ request (del names) → ⊥)
+      → requested t line text reply user stop .answer .number ≡ 0 → u ≡ requested t line text reply user stop .table → Granted t u
+  name : (user stop done made : ℕ) (w : Word) → deleting t user [] stop done made (w ∷ []) .answer .number ≡ 0
+      → u ≡ deleting t user [] stop done made (w ∷ []) .table → Granted t u
+
+-- tables one after the other, each granted on the one before, the first on t; and the last of them
+abbrev pub Steps : List ℕ → List (List ℕ) → Type 0
+Steps t [] = Unit {0}
+Steps t (a ∷ more) = Granted t a × Steps a more
+
+unfoldable pub ending : List ℕ → List (List ℕ) → List ℕ
+ending t [] = t
+ending t (a ∷ more) = ending a more
+
+-- x "agrees record by record with t or" u
+pub record Agrees (t u x : List ℕ) : Type 0 where
+  pub long : length x ≡ length t
+  pub each : (i : ℕ) → i < rooms t → (rec x i ≡ rec t i) ⊎ (rec x i ≡ rec u i)
+
+-- no record of phase p is written; every one is
+abbrev pub None : (t u x : List ℕ) → ℕ → Type 0
+None t u x p = (i : ℕ) → i < rooms t → phase t u i ≡ p → rec x i ≡ rec t i
+
+abbrev pub All : (t u x : List ℕ) → ℕ → Type 0
+All t u x p = (i : ℕ) → i < rooms t → phase t u i ≡ p → rec x i ≡ rec u i
+
+-- "so that phases go in order"
+pub data InOrder (t u x : List ℕ) : Type 0 where
+  -- "some first-phase records of" u "and nothing else of" u
+  inFirst : Agrees t u x → None t u x entry → None t u x last → InOrder t u x
+  -- "all of the first and perhaps the entry"
+  atEntry : Agrees t u x → All t u x first → None t u x last → InOrder t u x
+  -- "all of those and some of the last"
+  inLast : Agrees t u x → All t u x first → All t u x entry → InOrder t u x

@@ -1,0 +1,14 @@
+-- ---- the theorems over the definitions of `disk`, each in a file
+-- "mending x answers 0 and gives t or t', byte for byte, and it is t' once the entry is there": `on-disk`, `one-entry`
+pub mod OnDisk
+-- DEL of several names, "name by name": `del-steps`
+pub mod ByName
+-- "The same for mending itself: any part of its stores, in any order, mended again, ends as the whole": `mend-any`
+pub mod MendAny
+-- fewer flushes fail, computed: `first-flush`, `entry-flush`, `del-flush`
+pub mod Flushes
+-- ---- what they stand on
+-- each record's turn, and its phase
+pub mod Turns
+-- a table in order, mended
+pub mod Mended
