@@ -165,6 +165,29 @@ struct filebox_lamp filebox_lamp(uint8_t *table, size_t table_length, const uint
                                  size_t texts_length, uint8_t *back, size_t back_length, const uint8_t *chain, size_t chain_length,
                                  uint32_t user, uint32_t stop);
 
+/*
+ * The table on a disk that keeps writes back until it is flushed, and may make them in any order: when to write which record. Lend a
+ * request a copy of the table, and if it is granted (0) write the records that differ by their phases:
+ *
+ *   every record of phase 1, a flush, the record of phase 2 (there is at most one), a flush, every record of phase 3, a flush.
+ *
+ * Within a phase any order will do. Whatever part of the unflushed phase is on the disk when the power fails, filebox_mend then answers 0
+ * and gives, byte for byte, the table before the request or the table after it: after it once the record of phase 2 is there. A phase
+ * without records needs no flush. A DEL of several names is written name by name; a mend writes what it clears in any order.
+ */
+enum filebox_disk_phase {
+    FILEBOX_SAME = 0,  /* nothing to write */
+    FILEBOX_FIRST = 1, /* free before, and no entry after: a new file's heading and text */
+    FILEBOX_ENTRY = 2, /* an entry before or after, or, for DPR, the heading: the write that counts */
+    FILEBOX_LAST = 3   /* free after: what was displaced or deleted */
+};
+
+/*
+ * The phase of record number record (from 0), by the table before and the table after. It is 0 for two tables of different lengths, and
+ * for a record that is not wholly there. before and after are only read, and may overlap.
+ */
+uint8_t filebox_disk_phase(const uint8_t *before, size_t before_length, const uint8_t *after, size_t after_length, size_t record);
+
 #ifdef __cplusplus
 }
 #endif

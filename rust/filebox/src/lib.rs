@@ -1,8 +1,8 @@
 //! The file box for a fixture's programmer: document 01's requests and mending and document 02's lamp and gives, from
 //! the proved static library.
 //!
-//! [`request`], [`mend`] and [`light`] are the library's three calls as they are: slices and numbers in, an [`Answer`] or a
-//! [`Light`] out. [`Table`] holds the bytes of a table, owned or lent, and has a method for each thing that a fixture asks.
+//! [`request`], [`mend`] and [`light`] are three of the library's calls as they are: slices and numbers in, an [`Answer`] or a
+//! [`Light`] out; [`disk::phase`] is the fourth, for a host that keeps a table in a file. [`Table`] holds the bytes of a table, owned or lent, and has a method for each thing that a fixture asks.
 //! Every call ends and answers, for every table, line, text, user and stop number. A box keeps nothing between calls but
 //! the table's bytes.
 //!
@@ -97,6 +97,7 @@
 #![deny(unsafe_code)]
 
 mod answer;
+pub mod disk;
 mod lamp;
 mod library;
 mod number;

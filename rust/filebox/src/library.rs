@@ -1,4 +1,4 @@
-//! The three functions of the static library, and the only unsafe code.
+//! The four functions of the static library, and the only unsafe code.
 //!
 //! The declarations are those of the library's C interface: a lent slice is a pointer and a length, the answer comes by
 //! value. Nothing but reading checks them against the library.
@@ -35,6 +35,13 @@ extern "C" {
         user: u32,
         stop: u32,
     ) -> Light;
+    fn filebox_disk_phase(
+        before: *const u8,
+        before_len: usize,
+        after: *const u8,
+        after_len: usize,
+        record: usize,
+    ) -> u8;
 }
 
 /// Do the request of a line for a user: the table is changed, the text is read, the reply buffer is written. Exactly the
@@ -138,6 +145,20 @@ pub fn light(
             chain.len(),
             user,
             stop,
+        )
+    }
+}
+
+/// The number of a record's phase: 0 same, 1 first, 2 entry, 3 last.
+pub(crate) fn disk_phase(before: &[u8], after: &[u8], record: usize) -> u8 {
+    // Sound: as above; both slices are only read.
+    unsafe {
+        filebox_disk_phase(
+            before.as_ptr(),
+            before.len(),
+            after.as_ptr(),
+            after.len(),
+            record,
         )
     }
 }

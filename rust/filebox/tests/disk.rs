@@ -1,0 +1,53 @@
+//! What a host relies on in the phases of a record: each request's, and that what is no record has none.
+
+use filebox::disk::{phase, Phase};
+use filebox::{request, Number, Table, NO_STOP, RECORD_BYTES};
+
+/// The phases of the records of a table over one request, a letter each: `F`irst, `E`ntry, `L`ast, `-` for the same.
+fn phases(table: &mut Table, line: &str, text: &[u8]) -> String {
+    let before = table.clone();
+    let answer = request(table.as_mut(), line.as_bytes(), text, &mut [], 1, NO_STOP);
+    assert_eq!(answer.number, Number::Done, "{line}");
+    let letter = |record| match phase(before.as_ref(), table.as_ref(), record) {
+        Phase::Same => '-',
+        Phase::First => 'F',
+        Phase::Entry => 'E',
+        Phase::Last => 'L',
+    };
+    let records = before.as_ref().len() / RECORD_BYTES;
+    (0..records).map(letter).collect()
+}
+
+#[test]
+fn each_request_has_its_phases() {
+    let mut table = Table::free(7);
+    assert_eq!(phases(&mut table, "CRD .R", b""), "FE-----");
+    assert_eq!(phases(&mut table, "WRS M .R:A", b"1"), "--FFE--");
+    assert_eq!(phases(&mut table, "WRS M .R:A", b"2"), "--LLEFF");
+    assert_eq!(phases(&mut table, "DUP .R:A .R:B", b""), "--E----");
+    assert_eq!(phases(&mut table, "CHN .R:B C", b""), "--E----");
+    assert_eq!(phases(&mut table, "DPR .R:A .2", b""), "-----E-");
+    assert_eq!(phases(&mut table, "DEL .R:C", b""), "--E----");
+    assert_eq!(phases(&mut table, "DEL .R:A", b""), "----ELL");
+}
+
+#[test]
+fn a_request_that_changes_nothing_has_nothing_to_write() {
+    let mut table = Table::free(3);
+    assert_eq!(phases(&mut table, "WRS M .R", b""), "FE-");
+    assert_eq!(phases(&mut table, "DUP .R .R", b""), "---");
+    assert_eq!(phases(&mut table, "RDS .R", b""), "---");
+}
+
+#[test]
+fn what_is_no_record_of_both_is_the_same() {
+    let (zeros, nines) = ([0; 64], [9; 64]);
+    assert_eq!(phase(&zeros, &nines, 1), Phase::First);
+    assert_eq!(phase(&nines, &zeros, 1), Phase::Last);
+    assert_eq!(phase(&zeros, &nines, 2), Phase::Same);
+    assert_eq!(phase(&zeros, &nines, usize::MAX), Phase::Same);
+    assert_eq!(phase(&zeros[..63], &nines[..63], 1), Phase::Same);
+    assert_eq!(phase(&zeros[..63], &nines[..63], 0), Phase::First);
+    assert_eq!(phase(&zeros, &nines[..32], 0), Phase::Same);
+    assert_eq!(phase(&[], &[], 0), Phase::Same);
+}
