@@ -7,13 +7,17 @@
 //! (`pass`: the pass), to count its instructions with
 //! `valgrind --tool=callgrind --toggle-collect='*counted*' target/release/bench count rds 2048 10`: what is collected is
 //! the calls alone, without setting the table right.
+//!
+//! `bench host [FOLDER [TURNS]]` measures the host of `rust/host` on a file in memory and on the disk of that folder.
 
+mod host;
 mod lamp;
 mod names;
 mod operations;
 mod tables;
 
 use std::hint::black_box;
+use std::path::PathBuf;
 use std::process::ExitCode;
 
 use operations::{named, Operation, Ready, OPERATIONS};
@@ -105,12 +109,26 @@ fn count(name: &str, records: usize, times: usize) -> Option<()> {
     Some(())
 }
 
+/// The host, in this folder, so many turns.
+fn hosted(words: &[&str]) -> Option<ExitCode> {
+    let folder = words.first().map_or_else(std::env::temp_dir, PathBuf::from);
+    let turns = words.get(1).map_or(Some(9), |word| word.parse().ok())?;
+    match host::bench(&folder, turns) {
+        Ok(()) => Some(ExitCode::SUCCESS),
+        Err(error) => {
+            eprintln!("{}: {error}", folder.display());
+            Some(ExitCode::FAILURE)
+        }
+    }
+}
+
 fn main() -> ExitCode {
     let words: Vec<String> = std::env::args().skip(1).collect();
     let words: Vec<&str> = words.iter().map(String::as_str).collect();
     let number = |word: &str| word.parse::<usize>().ok();
     let ended = match words[..] {
         [] => Some(bench(1000)),
+        ["host", ref rest @ ..] => hosted(rest),
         [turns] => number(turns).map(bench),
         ["count", name, records, times] => number(records)
             .zip(number(times))
@@ -121,7 +139,7 @@ fn main() -> ExitCode {
     ended.unwrap_or_else(|| {
         let names: Vec<&str> = OPERATIONS.iter().map(|operation| operation.name).collect();
         eprintln!(
-            "bench [TURNS], or bench count OPERATION RECORDS TIMES; operations: pass {}",
+            "bench [TURNS], bench host [FOLDER [TURNS]], or bench count OPERATION RECORDS TIMES; operations: pass {}",
             names.join(" ")
         );
         ExitCode::FAILURE

@@ -17,6 +17,8 @@ use crate::wire::{received, ANSWER_BYTES};
 const RECORDS: usize = 256;
 /// Requests sent before a kill; fewer bytes than a pipe holds, so that sending never waits.
 const SENT: usize = 12;
+/// The longest text that is sent, in bytes.
+const LONGEST_TEXT: usize = 1_600;
 /// Kills on one table, before a new one is begun.
 const KILLS: u64 = 40;
 /// Microseconds from the last answer that is waited for to the kill: some long requests take as long.
@@ -83,7 +85,7 @@ impl Fixture<'_> {
     /// One host: started, asked, killed; then the file.
     fn kill_once(&mut self) -> Checked {
         let left = self.left()?;
-        let sent = requests(&mut self.random, &self.table, SENT);
+        let sent = requests(&mut self.random, &self.table, SENT, LONGEST_TEXT);
         let answers = self
             .run(&sent)
             .map_err(|error| format!("the host: {error}"))?;

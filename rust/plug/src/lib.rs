@@ -4,9 +4,17 @@
 //! What is cut is the host, by SIGKILL: the file keeps every write that was made. A store is one write of one record,
 //! which is what document 01 asks of the machine below.
 
+//!
+//! The second half drives the host of `rust/host` itself: its writing over a disk that keeps writes back and lets any of them
+//! land ([`reorder`](reorder::reorder)), and the program under fourteen clients, whole or killed ([`crowd`]).
+
+pub mod crowd;
 pub mod fixture;
 pub mod host;
+mod journal;
 mod kept;
+pub mod machine;
+pub mod reorder;
 mod seen;
 mod sent;
 mod wire;

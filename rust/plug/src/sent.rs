@@ -4,9 +4,6 @@ use random::{requests, Random};
 
 use crate::wire::Asked;
 
-/// The longest text that is sent, in bytes.
-const LONGEST_TEXT: usize = 1_600;
-
 /// A request that was sent, and what it must come to.
 pub struct Sent {
     pub asked: Asked,
@@ -42,13 +39,13 @@ impl Sent {
     }
 }
 
-/// So many requests of two users, each for the table after those before.
-pub fn requests(random: &mut Random, table: &[u8], count: usize) -> Vec<Sent> {
+/// So many requests of two users, each for the table after those before, with texts of fewer bytes than this.
+pub fn requests(random: &mut Random, table: &[u8], count: usize, longest: usize) -> Vec<Sent> {
     let mut table = table.to_vec();
     let mut sent = Vec::new();
     for _ in 0..count {
         let user = random.pick(&[1, 1, 2]);
-        let length = random.below(LONGEST_TEXT);
+        let length = random.below(longest);
         let asked = Asked {
             user,
             line: requests::granted(random, &table, user).into_bytes(),

@@ -1,0 +1,52 @@
+//! One step of a request on the disk: what may land together, and where a flush stands between.
+
+use std::io;
+
+use filebox::disk::{phase, Phase};
+use filebox::RECORD_BYTES;
+
+use crate::disk::Disk;
+
+/// Write what differs between the tables before and after one step: a request, or one name of a DEL, or one sheet of a job.
+/// First the records that were free, then the entry, then the records that are freed, a flush after each; a phase without
+/// a record has no flush. Cut anywhere, with any part of what was not flushed on the disk, mending gives one of the two
+/// tables.
+pub fn write(disk: &mut impl Disk, before: &[u8], after: &[u8]) -> io::Result<()> {
+    let records = after.chunks(RECORD_BYTES).enumerate();
+    let differing: Vec<(Phase, usize, &[u8])> = records
+        .map(|(number, record)| (phase(before, after, number), number, record))
+        .filter(|(phase, ..)| *phase != Phase::Same)
+        .collect();
+    for now in [Phase::First, Phase::Entry, Phase::Last] {
+        let of_now = differing.iter().filter(|(phase, ..)| *phase == now);
+        write_all(disk, of_now.map(|(_, number, record)| (*number, *record)))?;
+    }
+    Ok(())
+}
+
+/// Write what mending changed, which may land in any order: one flush.
+pub fn write_mended(disk: &mut impl Disk, before: &[u8], after: &[u8]) -> io::Result<()> {
+    let old = before.chunks(RECORD_BYTES);
+    let new = after.chunks(RECORD_BYTES);
+    let differing = new
+        .enumerate()
+        .zip(old)
+        .filter(|((_, new), old)| new != old);
+    write_all(disk, differing.map(|(new, _)| new))
+}
+
+/// Write these records, and flush if there is one.
+pub fn write_all<'a>(
+    disk: &mut impl Disk,
+    records: impl Iterator<Item = (usize, &'a [u8])>,
+) -> io::Result<()> {
+    let mut written = false;
+    for (number, record) in records {
+        disk.write(number, record)?;
+        written = true;
+    }
+    match written {
+        true => disk.flush(),
+        false => Ok(()),
+    }
+}

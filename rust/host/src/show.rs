@@ -1,0 +1,32 @@
+//! A picture of a table, for a person.
+
+mod map;
+mod records;
+mod tree;
+
+use std::path::Path;
+
+use filebox::{mend, Number, NO_STOP, RECORD_BYTES};
+
+use crate::kept::Wrong;
+use crate::open::{look, wrong};
+use crate::tools::print;
+
+/// Draw the table in this file: what mending would leave, as trees; what is there, as a map.
+pub fn show(path: &Path) -> Result<u8, String> {
+    let table = look(path)?;
+    let mut mended = table.clone();
+    let refused = match mend(&mut mended, NO_STOP).number {
+        Number::Done => None,
+        Number::TableLength => Some(Wrong::Length(table.len())),
+        _ => Some(Wrong::NotSound),
+    };
+    if let Some(refused) = refused {
+        return Err(wrong(path, &refused));
+    }
+    let records = table.len() / RECORD_BYTES;
+    let head = format!("{}: {records} records\n\n", path.display());
+    let picture = head + &tree::trees(&mended) + &map::map(&table, &mended);
+    print(picture.as_bytes())?;
+    Ok(0)
+}

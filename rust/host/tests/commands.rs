@@ -1,0 +1,244 @@
+//! `ask`, `job`, `mend`, `show` and `--help`.
+
+mod common;
+
+use common::{held, run, table, Folder};
+
+#[test]
+fn ask_does_one_request() {
+    let folder = Folder::new();
+    let path = folder.file("line.table", &table(16, &[]));
+    let sheet = folder.file("limits", b"5.0 V\n");
+    let ran = run(&["ask", &path, "1", "CRD .R"]);
+    assert_eq!(
+        (ran.status, ran.out().as_str(), ran.err.as_str()),
+        (0, "0 0 1 0 0 2\n", "")
+    );
+    assert_eq!(
+        run(&["ask", &path, "1", "WRS M .R:A", &sheet]).out(),
+        "0 0 1 0 0 3\n"
+    );
+    assert_eq!(
+        run(&["ask", &path, "1", "RDS .R:A"]).out(),
+        "0 0 1 0 6 0\n5.0 V\n"
+    );
+    assert_eq!(
+        run(&["ask", &path, "1", "WRS M .R:B"]).out(),
+        "0 0 1 0 0 2\n"
+    );
+    let refused = run(&["ask", &path, "2", "RDS .R:A"]);
+    assert_eq!(
+        (refused.status, refused.out().as_str()),
+        (1, "11 1 0 0 0 0\n")
+    );
+    assert_eq!(refused.err, "11: name not there (argument 1)\n");
+}
+
+#[test]
+fn ask_takes_a_text_that_is_too_long_to_the_box() {
+    let folder = Folder::new();
+    let path = folder.file("line.table", &table(16, &[]));
+    for long in [
+        folder.file("long", &[b'x'; 24_001]),
+        "/dev/zero".to_string(),
+    ] {
+        assert_eq!(
+            run(&["ask", &path, "1", "WRS M .R", &long]).out(),
+            "10 0 0 0 0 0\n"
+        );
+    }
+}
+
+#[test]
+fn the_lamp_is_green() {
+    let folder = Folder::new();
+    let path = folder.file("line.table", &table(16, &[("CRD .R", b"")]));
+    let sheets = [
+        folder.file("limits", b"5.0 V"),
+        folder.file("BOARD7", b"4.9 V"),
+    ];
+    let ran = run(&["job", &path, "1", ".R", &sheets[0], &sheets[1]]);
+    assert_eq!(
+        (ran.status, ran.out().as_str()),
+        (0, "green: sheets filed and read back: 2, stores: 6\n")
+    );
+    let expected = [
+        ("CRD .R", &b""[..]),
+        ("WRS M .R:LIMITS", b"5.0 V"),
+        ("WRS M .R:BOARD7", b"4.9 V"),
+    ];
+    assert_eq!(held(&path), table(16, &expected));
+    assert_eq!(
+        run(&["job", &path, "1", ".R"]).out(),
+        "green: sheets filed and read back: 0, stores: 0\n"
+    );
+}
+
+#[test]
+fn the_lamp_is_red() {
+    let folder = Folder::new();
+    let requests: [(&str, &[u8]); 3] = [("CRD .R", b""), ("CRD .R:B", b""), ("CRD .R:B:C", b"")];
+    let path = folder.file("line.table", &table(16, &requests));
+    let sheets = [folder.file("a", b"1"), folder.file("b", b"2")];
+    let ran = run(&["job", &path, "1", ".R", &sheets[0], &sheets[1]]);
+    let red = "red: sheet 2 was not filed: 18 file losing its last entry is a directory with entries (B)\n";
+    assert_eq!((ran.status, ran.out().as_str()), (1, red));
+    assert_eq!(
+        run(&["ask", &path, "1", "RDS .R:A"]).out(),
+        "0 0 1 0 1 0\n1"
+    );
+}
+
+#[test]
+fn the_lamp_refuses() {
+    let folder = Folder::new();
+    let before = table(16, &[("CRD .R", b"")]);
+    let path = folder.file("line.table", &before);
+    let (one, long) = (
+        folder.file("limits", b"5.0 V"),
+        folder.file("eleven.char", b"4.9 V"),
+    );
+    let twice = run(&["job", &path, "1", ".R", &one, &one]);
+    assert_eq!(
+        (twice.status, twice.out().as_str()),
+        (2, "refused: sheet 2: name twice (LIMITS)\n")
+    );
+    let long = run(&["job", &path, "1", ".R", &one, &long]);
+    assert_eq!(
+        long.out(),
+        "refused: sheet 2: a name of 11 bytes, above 10 (ELEVEN.CHAR)\n"
+    );
+    assert_eq!(long.status, 2);
+    assert_eq!(held(&path), before);
+    run(&["job", &path, "1", ".R", &folder.at("missing")])
+        .fails(&["missing", "the sheet cannot be read"]);
+}
+
+#[test]
+fn mend_mends_and_says_what() {
+    let folder = Folder::new();
+    let before = table(16, &[("CRD .R", b"")]);
+    let mut cut = before.clone();
+    let answer = filebox::request(&mut cut, b"WRS M .R:A", b"x", &mut [], 1, 1);
+    assert_eq!(answer.stores, 1);
+    let path = folder.file("cut", &cut);
+    let ran = run(&["mend", &path]);
+    assert_eq!(
+        ran.out(),
+        format!("{path}: 16 records, mended: 1 record of a request that was cut is cleared\n")
+    );
+    assert_eq!(held(&path), before);
+    assert_eq!(
+        run(&["mend", &path]).out(),
+        format!("{path}: 16 records, nothing to mend\n")
+    );
+}
+
+#[test]
+fn ask_and_job_mend_first_and_say_so() {
+    let folder = Folder::new();
+    let mut cut = table(16, &[("CRD .R", b"")]);
+    let answer = filebox::request(&mut cut, b"WRS M .R:A", b"x", &mut [], 1, 2);
+    assert_eq!(answer.stores, 2);
+    for words in [["ask", "1", "LST .R"], ["job", "1", ".R"]] {
+        let path = folder.file("cut", &cut);
+        let ran = run(&[words[0], &path, words[1], words[2]]);
+        assert_eq!(ran.status, 0);
+        assert!(ran.err.contains("mended: 2 records"), "{ran:?}");
+    }
+}
+
+#[test]
+fn show_draws_trees_loops_and_a_map() {
+    let folder = Folder::new();
+    let requests: [(&str, &[u8]); 6] = [
+        ("CRD .R .P4", b""),
+        ("WRS L.A1 .R:AUDIT", &[b'x'; 30]),
+        ("DUP .R:AUDIT .R:SAME .2", b""),
+        ("DUP .R .R:UP", b""),
+        ("DUP .R .G", b""),
+        ("CRD .R:LAST", b""),
+    ];
+    let mut bytes = table(20, &requests);
+    let mut of_two = filebox::Table::of(&mut bytes[..]);
+    of_two.ask(2, "CRD .T").unwrap();
+    let cut = filebox::request(&mut bytes, b"WRS M .R:CUT", b"x", &mut [], 1, 2);
+    assert_eq!(cut.stores, 2);
+    let path = folder.file("line.table", &bytes);
+    let picture = "\
+user 1
+  .G                             DM.P4 directory, code of the file 4
+    AUDIT                        FL.A1 bytes 30, code of the file 1
+    LAST                         DM.U0 directory
+    SAME                         FL.A3 bytes 30, code of the file 1
+    UP                           DM.P4 directory, code of the file 4, a loop: it is above, on the way here
+  .R                             DM.P4 directory, code of the file 4, drawn above
+
+user 2
+  .T                             DM.U0 directory
+
+   0 DeFtteeeeDeDexx.....
+
+. free 5, D directories 3, F files 1, e entries 7, t text 2, x mending would clear 2
+";
+    let ran = run(&["show", &path]);
+    assert_eq!(ran.out(), format!("{path}: 20 records\n\n{picture}"));
+    assert_eq!(held(&path), bytes);
+}
+
+#[test]
+fn show_draws_a_loop_that_no_base_file_reaches_and_an_empty_table() {
+    let folder = Folder::new();
+    let requests: [(&str, &[u8]); 4] = [
+        ("CRD .R", b""),
+        ("DUP .R .R:A", b""),
+        ("CRD .R:B", b""),
+        ("DEL .R", b""),
+    ];
+    let path = folder.file("lost", &table(70, &requests));
+    let drawn = run(&["show", &path]).out();
+    assert!(drawn.contains("no user has a file\n"), "{drawn}");
+    let lost = "no base file reaches the directory in record 0\n    A                            DM.U0 directory, a loop";
+    assert!(drawn.contains(lost), "{drawn}");
+    assert!(
+        drawn.contains("    B                            DM.U0 directory\n"),
+        "{drawn}"
+    );
+    assert!(drawn.contains("\n  64 ......\n"), "{drawn}");
+    let empty = folder.file("empty", b"");
+    assert!(run(&["show", &empty]).out().contains("0 records"));
+}
+
+#[test]
+fn help_says_every_command_and_its_examples_work() {
+    let help = run(&["--help"]);
+    assert_eq!((help.status, help.err.as_str()), (0, ""));
+    assert_eq!(run(&["serve", "--help"]).out(), help.out());
+    for word in [
+        "serve",
+        "ask",
+        "job",
+        "mend",
+        "show",
+        "--records",
+        "--user",
+        "--journal",
+        "--fixture",
+        "DPR",
+        "Status",
+    ] {
+        assert!(help.out().contains(word), "{word}");
+    }
+    assert!(help.out().lines().all(|line| line.len() <= 160));
+    let folder = Folder::new();
+    let path = folder.at("line1.table");
+    assert_eq!(run(&["serve", &path]).status, 0);
+    let limits = folder.file("limits", b"5.0 V\n");
+    assert_eq!(run(&["ask", &path, "1", "CRD .R"]).out(), "0 0 1 0 0 2\n");
+    assert_eq!(run(&["job", &path, "1", ".R", &limits]).status, 0);
+    assert_eq!(
+        run(&["ask", &path, "1", "RDS .R:LIMITS"]).out(),
+        "0 0 1 0 6 0\n5.0 V\n"
+    );
+    assert!(run(&["show", &path]).out().contains("LIMITS"));
+}

@@ -1,0 +1,298 @@
+//! The writing over a disk that notes what is asked of it, and fails when it is told to.
+
+mod common;
+
+use std::cell::RefCell;
+use std::io::{self, BufRead, BufReader};
+use std::net::TcpListener;
+use std::rc::Rc;
+use std::sync::atomic::{AtomicBool, Ordering};
+use std::sync::{Arc, Mutex};
+use std::thread;
+
+use common::{table, Connection};
+use filebox::{Number, Sheet};
+use host::desk::{Desk, Place};
+use host::fixtures::{serve_all, Fixture};
+use host::line::Unended;
+use host::serve::{serve, Stopped};
+use host::{Disk, Job, Kept, Request, Wrong};
+
+/// A disk in memory, and a word for each call: the record written, or a bar for a flush.
+#[derive(Clone, Default)]
+struct Noted {
+    bytes: Rc<RefCell<Vec<u8>>>,
+    calls: Rc<RefCell<Vec<String>>>,
+    /// The call that fails, counted from now, if one does.
+    fails: Rc<RefCell<Option<usize>>>,
+}
+
+impl Noted {
+    fn call(&self, word: String) -> io::Result<()> {
+        let mut fails = self.fails.borrow_mut();
+        if *fails == Some(0) {
+            *fails = None;
+            return Err(io::Error::other("out of order"));
+        }
+        *fails = fails.map(|calls| calls - 1);
+        self.calls.borrow_mut().push(word);
+        Ok(())
+    }
+}
+
+impl Disk for Noted {
+    fn read(&mut self) -> io::Result<Vec<u8>> {
+        Ok(self.bytes.borrow().clone())
+    }
+
+    fn write(&mut self, record: usize, bytes: &[u8]) -> io::Result<()> {
+        self.call(record.to_string())?;
+        self.bytes.borrow_mut()[record * 32..][..32].copy_from_slice(bytes);
+        Ok(())
+    }
+
+    fn flush(&mut self) -> io::Result<()> {
+        self.call("|".to_string())
+    }
+}
+
+/// A host over a noted disk with this table.
+fn kept(table: &[u8]) -> (Kept<Noted>, Noted) {
+    let disk = Noted::default();
+    *disk.bytes.borrow_mut() = table.to_vec();
+    let (kept, _) = Kept::open(disk.clone()).unwrap();
+    disk.calls.borrow_mut().clear();
+    (kept, disk)
+}
+
+fn ask(kept: &mut Kept<Noted>, line: &str, text: &[u8]) -> Result<filebox::Answer, Wrong> {
+    let request = Request {
+        user: 1,
+        line: line.as_bytes(),
+        text,
+    };
+    kept.request(request, &mut [0; 24_000])
+}
+
+/// The calls of a request on a table of 12 records in which `.R` is in 0 and 1 and `.R:A`, of 30 bytes, in 2 to 5.
+fn calls(line: &str, text: &[u8]) -> (Number, String) {
+    let (mut kept, disk) = kept(&table(12, &[("CRD .R", b""), ("WRS M .R:A", &[b'x'; 30])]));
+    let answer = ask(&mut kept, line, text).unwrap();
+    assert_eq!(&disk.bytes.borrow()[..], kept.table());
+    let calls = disk.calls.borrow().join(" ");
+    (answer.number, calls)
+}
+
+#[test]
+fn three_phases_a_flush_after_each_and_none_for_an_empty_one() {
+    let done = |calls: &str| (Number::Done, calls.to_string());
+    assert_eq!(calls("CRD .R:B", b""), done("6 | 7 |"));
+    assert_eq!(calls("WRS M .R:B", &[b'y'; 25]), done("6 7 8 | 9 |"));
+    assert_eq!(
+        calls("WRS M .R:A", &[b'y'; 25]),
+        done("6 7 8 | 5 | 2 3 4 |")
+    );
+    assert_eq!(calls("CPY .R:A .R:A", b""), done("6 7 8 | 5 | 2 3 4 |"));
+    assert_eq!(calls("DUP .R:A .R:B", b""), done("6 |"));
+    assert_eq!(calls("CHN .R:A B", b""), done("5 |"));
+    assert_eq!(calls("DPR .R:A .4", b""), done("2 |"));
+    assert_eq!(calls("DEL .R:A", b""), done("5 | 2 3 4 |"));
+    assert_eq!(calls("RDS .R:A", b""), done(""));
+    assert_eq!(calls("LST .R", b""), done(""));
+    assert_eq!(calls("DUP .R:A .R:A", b""), done(""));
+    assert_eq!(
+        calls("CRD .T:B", b""),
+        (Number::NameNotThere, String::new())
+    );
+}
+
+#[test]
+fn a_del_goes_name_by_name() {
+    let requests: [(&str, &[u8]); 4] = [
+        ("CRD .R", b""),
+        ("WRS M .R:A", b"1"),
+        ("DUP .R:A .R:B", b""),
+        ("CRD .R:C", b""),
+    ];
+    let before = table(12, &requests);
+    let deleted = |line| {
+        let (mut kept, disk) = kept(&before);
+        let answer = ask(&mut kept, line, b"").unwrap();
+        let calls = disk.calls.borrow().join(" ");
+        (answer.numbers(), calls)
+    };
+    assert_eq!(
+        deleted("DEL .R:A .R:B .R:C"),
+        ([0, 0, 3, 0, 0, 6], "4 | 5 | 2 3 | 7 | 6 |".to_string())
+    );
+    assert_eq!(
+        deleted("DEL .R:C .R:B .R : A .R"),
+        (
+            [0, 0, 4, 0, 0, 8],
+            "7 | 6 | 5 | 4 | 2 3 | 1 | 0 |".to_string()
+        )
+    );
+    assert_eq!(
+        deleted("DEL .R:A .R:B .R:B .R:C"),
+        ([11, 3, 2, 0, 0, 4], "4 | 5 | 2 3 |".to_string())
+    );
+}
+
+#[test]
+fn a_job_goes_sheet_by_sheet() {
+    let (mut kept, disk) = kept(&table(12, &[("CRD .R", b"")]));
+    let sheets = [
+        Sheet {
+            name: "A",
+            text: b"1",
+        },
+        Sheet {
+            name: "B",
+            text: b"2",
+        },
+    ];
+    let job = Job {
+        user: 1,
+        chain: ".R",
+        sheets: &sheets,
+    };
+    assert_eq!(kept.job(job).unwrap().unwrap().stores, 6);
+    assert_eq!(disk.calls.borrow().join(" "), "2 3 | 4 | 5 6 | 7 |");
+    let expected: [(&str, &[u8]); 3] =
+        [("CRD .R", b""), ("WRS M .R:A", b"1"), ("WRS M .R:B", b"2")];
+    assert_eq!(kept.table(), table(12, &expected));
+}
+
+#[test]
+fn opening_flushes_what_it_found_before_it_clears() {
+    let mut cut = table(6, &[("CRD .R", b"")]);
+    let answer = filebox::request(&mut cut, b"WRS M .R:A", b"x", &mut [], 1, 2);
+    assert_eq!(answer.stores, 2);
+    let disk = Noted::default();
+    *disk.bytes.borrow_mut() = cut;
+    let (kept, answer) = Kept::open(disk.clone()).unwrap();
+    assert_eq!(answer.stores, 2);
+    assert_eq!(kept.table(), table(6, &[("CRD .R", b"")]));
+    assert_eq!(disk.calls.borrow().join(" "), "0 1 2 3 4 5 | 2 3 |");
+}
+
+#[test]
+fn after_a_disk_error_the_table_is_read_again_and_mended() {
+    let before = table(12, &[("CRD .R", b""), ("WRS M .R:A", &[b'x'; 30])]);
+    for fails in 0..9 {
+        let (mut kept, disk) = kept(&before);
+        *disk.fails.borrow_mut() = Some(fails);
+        let Err(Wrong::Disk(error)) = ask(&mut kept, "WRS M .R:A", &[b'y'; 25]) else {
+            panic!("answered, though call {fails} failed");
+        };
+        assert_eq!(error.to_string(), "out of order");
+        disk.calls.borrow_mut().clear();
+        let answer = ask(&mut kept, "RDS .R:A", b"").unwrap();
+        // the entry is the fifth write
+        assert_eq!(
+            answer.bytes,
+            if fails <= 4 { 30 } else { 25 },
+            "call {fails}"
+        );
+        assert!(disk
+            .calls
+            .borrow()
+            .join(" ")
+            .starts_with("0 1 2 3 4 5 6 7 8 9 10 11 |"));
+        assert_eq!(&disk.bytes.borrow()[..], kept.table());
+    }
+}
+
+#[test]
+fn a_disk_that_goes_on_failing_gives_no_answer() {
+    let (mut kept, disk) = kept(&table(4, &[]));
+    for _ in 0..3 {
+        *disk.fails.borrow_mut() = Some(0);
+        assert!(ask(&mut kept, "CRD .R", b"").is_err());
+    }
+    assert_eq!(ask(&mut kept, "CRD .R", b"").unwrap().stores, 2);
+}
+
+#[test]
+fn on_standard_input_a_disk_error_ends_without_an_answer() {
+    let (kept, disk) = kept(&table(8, &[]));
+    let desk = Mutex::new(Desk::new("line.table".to_string(), kept, None));
+    *disk.fails.borrow_mut() = Some(4);
+    let mut output = Vec::new();
+    let place = Place {
+        fixture: 0,
+        user: 1,
+    };
+    let served = serve(
+        &desk,
+        place,
+        Unended::Line,
+        &mut &b"CRD .R\nCRD .R:A\nLST .\n"[..],
+        &mut output,
+    );
+    let Err(stopped @ Stopped::NoAnswer(_)) = served else {
+        panic!("{served:?}");
+    };
+    let said = "line.table: the disk failed: out of order. This request has no answer, and may be done or not";
+    assert_eq!(stopped.to_string(), said);
+    assert_eq!(output, b"0 0 1 0 0 2\n");
+}
+
+/// A disk in memory of which every call fails while it is told to.
+struct Failing(Vec<u8>, Arc<AtomicBool>);
+
+impl Failing {
+    fn call(&self) -> io::Result<()> {
+        match self.1.load(Ordering::SeqCst) {
+            true => Err(io::Error::other("out of order")),
+            false => Ok(()),
+        }
+    }
+}
+
+impl Disk for Failing {
+    fn read(&mut self) -> io::Result<Vec<u8>> {
+        Ok(self.0.clone())
+    }
+
+    fn write(&mut self, record: usize, bytes: &[u8]) -> io::Result<()> {
+        self.call()?;
+        self.0[record * 32..][..32].copy_from_slice(bytes);
+        Ok(())
+    }
+
+    fn flush(&mut self) -> io::Result<()> {
+        self.call()
+    }
+}
+
+#[test]
+fn a_fixture_is_told_of_a_disk_error_and_the_host_goes_on() {
+    let fails = Arc::new(AtomicBool::new(false));
+    let disk = Failing(table(8, &[]), Arc::clone(&fails));
+    let kept = Kept::open(disk)
+        .map_err(|wrong| wrong.to_string())
+        .unwrap()
+        .0;
+    let desk = Arc::new(Mutex::new(Desk::new("line.table".to_string(), kept, None)));
+    let listener = TcpListener::bind("127.0.0.1:0").unwrap();
+    let address = listener.local_addr().unwrap();
+    let place = Place {
+        fixture: 1,
+        user: 1,
+    };
+    thread::spawn(move || serve_all(&desk, vec![Fixture { listener, place }]));
+    let (mut one, mut other) = (Connection::to(address), Connection::to(address));
+    assert_eq!(other.ask("CRD .R"), "0 0 1 0 0 2\n");
+    fails.store(true, Ordering::SeqCst);
+    one.send(b"CRD .R:A\n");
+    let mut said = String::new();
+    BufReader::new(&one.stream).read_line(&mut said).unwrap();
+    assert!(
+        said.starts_with("no answer: line.table: the disk failed: out of order"),
+        "{said}"
+    );
+    fails.store(false, Ordering::SeqCst);
+    assert_eq!(other.ask("LST .R"), "0 0 1 0 0 0\n");
+    assert_eq!(other.ask("CRD .R:A"), "0 0 1 0 0 2\n");
+}

@@ -1,0 +1,50 @@
+//! The host of `rust/host` with its plug pulled: over a disk that lets any of its writes land, and under fourteen clients.
+
+use std::path::Path;
+
+use plug::crowd;
+use plug::reorder::reorder;
+
+fn program() -> &'static Path {
+    Path::new(env!("CARGO_BIN_EXE_plug"))
+}
+
+#[test]
+fn any_part_of_what_was_not_flushed_is_mended_to_the_table_before_or_after() {
+    let tried = reorder(4_000, 1971, None).expect("every pull");
+    println!("{tried:?}");
+    assert!(
+        tried.halves > 10_000 && tried.mends > 10_000 && tried.errors > 20,
+        "{tried:?}"
+    );
+    assert!(tried.flushes <= 3 * tried.changing, "{tried:?}");
+}
+
+#[test]
+fn one_flush_fewer_is_found() {
+    let wrong = [
+        "mending does not make it sound",
+        "the mended table is not what it should be",
+    ];
+    for flush in [0, 1] {
+        let found = reorder(2_000, 1971, Some(flush)).expect_err("found");
+        println!("without flush {flush}: {found}");
+        assert!(wrong.iter().any(|wrong| found.contains(wrong)), "{found}");
+    }
+}
+
+#[test]
+fn fourteen_clients_get_the_second_programs_answers_in_the_order_in_which_they_were_taken() {
+    let counts = crowd::whole(program(), 500, 1971).expect("every answer");
+    println!("{counts:?}");
+    assert_eq!((counts.taken, counts.answered), (7_000, 7_000));
+    assert!(counts.numbers[0] > 1_000, "{counts:?}");
+}
+
+#[test]
+fn a_host_killed_under_fourteen_clients_keeps_what_it_answered() {
+    let counts = crowd::killed(program(), 40, 1971).expect("every kill");
+    println!("{counts:?}");
+    assert_eq!(counts.kills, 40);
+    assert!(counts.answered > 40, "{counts:?}");
+}
