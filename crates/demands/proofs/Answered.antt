@@ -3,7 +3,7 @@
 pub mod Numbered
 pub mod ByName
 pub mod Ways
-use mathlib.Core.Bool.{cond, true≢false}
+use mathlib.Core.Bool.{true, cond, true≢false}
 use mathlib.Core.List.{List}
 use mathlib.Core.Logic.{_≢_}
 use mathlib.Core.Path.{_≡_, refl, _∙_, subst}
@@ -21,7 +21,7 @@ use Rattle.paper.specs.Store.{Store, run}
 use Rattle.paper.specs.Effect.{Plan, Planned, delPlan}
 use Rattle.paper.specs.Answer.{Outcome, plain, refusing, done, stores, ran, single, deleting, requested}
 use Rattle.laws.proofs.Runs.{length-run}
-use Rattle.demands.proofs.Request.Fair.{placeless, Fair, verdict-idle}
+use Rattle.demands.proofs.Request.Fair.{placeless, answers, Fair, fair-some, fair-uncut, fair-answers, verdict-idle}
 use Rattle.demands.proofs.Request.Ended.{Passed, ran-by, passes, cuts}
 use Rattle.demands.proofs.Answered.Numbered.{FairPlan, FairPlanned, fair-delPlan, fair-refused}
 use Rattle.demands.proofs.Answered.Ways.{Came, lent, planned, deletes, came}
@@ -29,7 +29,7 @@ use Rattle.demands.proofs.Answered.ByName.{Deleted, whole, halts, stops
 
 -- what every outcome keeps: the table and the reply that were lent, and the answer's numbers
 pub record Answered (t reply : List ℕ) (k : ℕ) (o : Outcome) : Type 0 where
-  pub number : o .answer .number ≤ 22
+  pub number : answers (o .answer .number) ≡ true
   pub place : eqb (o .answer .place) 0 ≡ placeless (o .answer .number)
   pub displaced : o .answer .number ≢ 0 → o .answer .displaced ≡ 0
   pub bytes : o .answer .number ≢ 0 → o .answer .bytes ≡ 0
@@ -40,7 +40,7 @@ pub record Answered (t reply : List ℕ) (k : ℕ) (o : Outcome) : Type 0 where
   pub size : length (o .reply) ≡ length reply
   pub table : length (o .table) ≡ length t
 
-answered-plain : (t t₁ reply : List ℕ) (k number place names stores : ℕ) → number ≤ 22 → eqb place 0 ≡ placeless number → stores ≤ k
+answered-plain : (t t₁ reply : List ℕ) (k number place names stores : ℕ) → answers number ≡ true → eqb place 0 ≡ placeless number → stores ≤ k
     → length t₁ ≡ length t → Answered t reply k (record { answer = plain number place names stores; table = t₁; reply = reply })
 answered-plain t t₁ reply k number place names stores l e m f =
     record {
@@ -56,7 +56,7 @@ answered-plain t t₁ reply k number place names stores l e m f =
     }
 
 answered-refusing : (t reply : List ℕ) (k : ℕ) (f : Refusal) → Fair f → Answered t reply k (refusing t reply f)
-answered-refusing t reply k f h = answered-plain t t reply k (f .number) (f .place) 0 0 (omega (arith, h .most)) (h .place) (omega arith) refl
+answered-refusing t reply k f h = answered-plain t t reply k (f .number) (f .place) 0 0 (fair-answers f h) (h .place) (omega arith) refl
 
 -- every function but DEL: a refusal is fair; what is done writes no more than fits; a cut is 22
 answered-single : (t reply : List ℕ) (k : ℕ) (P : Planned) → FairPlanned reply P → Answered t reply k (single t reply k (ran k P))
@@ -64,14 +64,14 @@ answered-single t reply k P h =
     ran-by (λ x. Answered t reply k (single t reply k x)) k P
     (λ f e. answered-refusing t reply k f (fair-refused reply P f h e))
     finishes
-    (λ p _ _. answered-plain t (run t (take k (p .stores))) reply k 22 0 0 k (omega arith) refl (omega arith) (length-run t (take k (p .stores))))
+    (λ p _ _. answered-plain t (run t (take k (p .stores))) reply k 22 0 0 k refl refl (omega arith) (length-run t (take k (p .stores))))
   where
     finishes : (p : Plan) → Passed P p → length (p .stores) ≤ k → Answered t reply k (single t reply k (done p))
     finishes p v l =
         let g : FairPlan reply p = subst (FairPlanned reply) (v .plan) h in
         let fits = g .fits (verdict-idle (p .checks) (v .checks)) in
         record {
-          number = omega arith;
+          number = refl;
           place = refl;
           displaced = λ n. absurd (n refl);
           bytes = λ n. absurd (n refl);
@@ -85,12 +85,12 @@ answered-single t reply k P h =
 answered-deleted : (t : List ℕ) (u : ℕ) (reply : List ℕ) (k n made : ℕ) (ws : List Word) (o : Outcome) → Deleted t u reply k n made ws o
     → Answered t reply (made + k) o
 answered-deleted t u reply k n made ws o (whole t₁ made₁ h q) =
-    rw q (answered-plain t t₁ reply (made + k) 0 0 (n + length ws) made₁ (omega arith) refl (h .room) (h .size))
+    rw q (answered-plain t t₁ reply (made + k) 0 0 (n + length ws) made₁ refl refl (h .room) (h .size))
 answered-deleted t u reply k n made ws o (halts m t₁ made₁ w rest f h d r q) =
     let g = fair-refused reply (delPlan t₁ u (n + m + 1) w) f (fair-delPlan t₁ reply u (n + m + 1) w (omega arith)) r in
-    rw q (answered-plain t t₁ reply (made + k) (f .number) (f .place) (n + m) made₁ (omega (arith, g .most)) (g .place) (h .room) (h .size))
+    rw q (answered-plain t t₁ reply (made + k) (f .number) (f .place) (n + m) made₁ (fair-answers f g) (g .place) (h .room) (h .size))
 answered-deleted t u reply k n made ws o (stops m t₁ made₁ w rest p h d r l q) =
-    rw q (answered-plain t _ reply (made + k) 22 0 (n + m) (made + k) (omega arith) refl (omega arith)
+    rw q (answered-plain t _ reply (made + k) 22 0 (n + m) (made + k) refl refl (omega arith)
     (length-run t₁ (take (made + k - made₁) (p .stores)) ∙ h .size))
 
 -- demand 1: for every table, line, text, reply buffer, user and stop number
@@ -128,7 +128,7 @@ abbrev pub CountsOne : Outcome → Type 0
 CountsOne o = o .answer .names ≡ cond (eqb (o .answer .number) 0) 1 0
 
 counts-none : (t reply : List ℕ) (f : Refusal) → Fair f → CountsOne (refusing t reply f)
-counts-none t reply f h = rw (ne-eqb (f .number) 0 (λ (z : f .number ≡ 0). omega (arith, h .some)))
+counts-none t reply f h = rw (ne-eqb (f .number) 0 (λ (z : f .number ≡ 0). omega (arith, fair-some f h)))
 
 pub names-done : (t line text reply : List ℕ) (u k : ℕ) → NoDel line text → CountsOne (requested t line text reply u k)
 names-done t line text reply u k d = go (came t line text reply u)
@@ -153,11 +153,11 @@ pub stop-cuts : (t line text reply : List ℕ) (u k : ℕ) → NoDel line text �
 stop-cuts t line text reply u k d n = go (came t line text reply u)
   where
     go : Came t line text reply u → Stopped t line text reply u k
-    go (lent f h e) = let g : f .number ≡ 22 = rw (e k) at n in let z : ⊥ = omega (arith, h .most) in absurd z
+    go (lent f h e) = let g : f .number ≡ 22 = rw (e k) at n in absurd (fair-uncut f h g)
     go (deletes ws q e) = absurd (d ws q)
     go (planned r q x P h e) =
         ran-by (λ y. single t reply k y .answer .number ≡ 22 → Stopped t line text reply u k) k P
-        (λ f c m. let g = fair-refused reply P f h c in let z : ⊥ = omega (arith, g .most, m) in absurd z)
+        (λ f c m. absurd (fair-uncut f (fair-refused reply P f h c) m))
         (λ p _ _ m. let z : ⊥ = omega arith in absurd z)
         (λ p v l m. record {
           stores = p .stores;
@@ -192,5 +192,5 @@ pub del-stops : (t line text reply : List ℕ) (u k : ℕ) (ws : List Word) → 
     → requested t line text reply u k .answer .number ≡ 22 → DelStopped t u reply k ws (requested t line text reply u k)
 del-stops t line text reply u k ws q =
     del-came (λ o. o .answer .number ≡ 22 → DelStopped t u reply k ws o) t line text reply u k ws q
-    (λ f h n. let z : ⊥ = omega (arith, h .most) in absurd z)
+    (λ f h n. absurd (fair-uncut f h n))
     (λ n. deleted-stops t u reply k ws _ n (deleted t u reply k 0 0 ws))

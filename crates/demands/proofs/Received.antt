@@ -34,7 +34,7 @@ use Rattle.laws.proofs.Lay.{length-blank, lay-same, lay-other, rooms-lay, withi
 use Rattle.laws.proofs.Runs.{Lays, run-each}
 use Rattle.laws.proofs.Rooms.{room-below, room-kind}
 use Rattle.demands.proofs.Sound.Clauses.{Sound, sound-clauses, entry-code}
-use Rattle.demands.proofs.Request.Fair.{Idle, verdict-idle}
+use Rattle.demands.proofs.Request.Fair.{Idle, fair-some, verdict-idle}
 use Rattle.demands.proofs.Request.Formed.{named-last, within-else}
 use Rattle.demands.proofs.Request.Read.{Told, DupRead}
 use Rattle.demands.proofs.Request.Course.{Course, untried, tried, course}
@@ -224,7 +224,7 @@ dup-hands t c v u to old new code x =
     short = named-last new (x .new) .short
 
     makes : (g f d : State) → toDirectory t 1 (start v) (chainOf old) ≡ reached g → toLast t g (chainOf old) ≡ reached f
-        → Hands t v old to (making t (linking t f d new code) [] (linkTaken t to (linking t f d new code)))
+        → Hands t v old to (making t (linking t f d new code) [] (linkTaken t to (linking t f d new code)) [])
     makes g f d q r e =
         let a = every-parts Idle (writeInhibited 2 d ∷ linkTaken t to m) _ (verdict-idle _ e) in
         go (borne t m) refl (a .0 .1) (ltb-false _ _ (a .1 .1 .1 .0))
@@ -285,7 +285,7 @@ nobody-more t line text reply u k from old to new code a z = go (course t line t
         ran-by (λ y. single t reply k y .answer .number ≡ 0 → Received t (listOf u from) (begun from old) to (single t reply k y .table)) k x
         (λ f v n.
         let g = fair-refused reply x f (fair-dupPlan t reply (listOf u to) (listOf u from) to (begun from old) (begun to new) code) v in
-        let o : ⊥ = omega (arith, g .some, n) in absurd o)
+        let o : ⊥ = omega (arith, fair-some _ g, n) in absurd o)
         (λ p v _ _. let s : Hands t (listOf u from) (begun from old) to (plan p) = rw (v .plan) at h in s (v .checks))
         (λ p v _ n. let o : ⊥ = omega arith in absurd o)
 
@@ -298,7 +298,7 @@ nobody-more t line text reply u k from old to new code a z = go (course t line t
         rw y (ends (dup-hands t c (listOf u from) (listOf u to) to (begun from old) (begun to new) code s) (rw y at z))
 
     go : Course t line text reply u → Received t (listOf u from) (begun from old) to (requested t line text reply u k .table)
-    go (untried f h e) = let n : f .number ≡ 0 = rw (e k) at z in let o : ⊥ = omega (arith, h .some) in absurd o
+    go (untried f h e) = let n : f .number ≡ 0 = rw (e k) at z in let o : ⊥ = omega (arith, fair-some f h) in absurd o
     go (tried r h e) =
         let q = sym (h .asked) ∙ a in
         let s : r ≡ dup from old to new code = cc in

@@ -21,7 +21,7 @@ use Rattle.paper.specs.Entry.{Holder, baseList, stands}
 use Rattle.paper.specs.Block.{blocksOf, fileText}
 use Rattle.paper.specs.Walk.{State, start, file, reached, toDirectory, lastName}
 use Rattle.paper.specs.Store.{Store, clear, run}
-use Rattle.paper.specs.Effect.{listOf, begun, Plan, Planned, plan, halted, chainOf, Making, borne, placing, needed, freed, lost, settled, readInhibited, writeInhibited, notSimple, linking, making, entryIn, filing, recoded, crdPlan, wrsPlan, cpyPlan, dupPlan, chnPlan, dprPlan, delPlan, rdsPlan, lstPlan, lstBasePlan}
+use Rattle.paper.specs.Effect.{listOf, begun, Plan, Planned, plan, halted, chainOf, Making, borne, placing, needed, freed, lost, settled, readInhibited, writeInhibited, notSimple, tooLow, linking, making, entryIn, filing, recoded, crdPlan, wrsPlan, cpyPlan, dupPlan, chnPlan, dprPlan, delPlan, rdsPlan, lstPlan, lstBasePlan}
 use Rattle.paper.specs.Answer.{Outcome, ran, single, oneName, deleting, granted, requested}
 use Rattle.laws.proofs.Tests.{either}
 use Rattle.laws.proofs.Lists.{Every, every-append, every-each, every-imp, every-parts, every-take}
@@ -137,11 +137,11 @@ module _ (t : List ℕ) (c : Sound t) where
       one s l = record { within = l .within; size = l .size; holds = other (rw (l .holds .0) blank-none) (debris (s .bytes) (l .holds .1)) }
 
   -- a new entry, given that the stores before it are debris
-  making-sets : (u : ℕ) (name : Aim) (m : Making) (thirteen fifteen : List Check) → (length (m .first) ≤ length (frees t) → Every (Litters t) (m .first))
+  making-sets : (u : ℕ) (name : Aim) (m : Making) (thirteen fifteen late : List Check) → (length (m .first) ≤ length (frees t) → Every (Litters t) (m .first))
       → length (m .entry) ≡ 32 → Stands (m .directory .holder) (m .entry) → Comes t u name (m .directory .holder)
-      → Sets t u name (making t m thirteen fifteen)
+      → Sets t u name (making t m thirteen fifteen late)
   unfolding making
-  making-sets u name m thirteen fifteen lit size st w v =
+  making-sets u name m thirteen fifteen late lit size st w v =
       let a = every-parts Idle (thirteen ++ writeInhibited (m .place) (m .directory) ∷ fifteen) _ (verdict-idle _ v) .1 in
       go (borne t m) refl (ltb-false _ _ (a .1 .1 .0))
     where
@@ -185,11 +185,11 @@ module _ (t : List ℕ) (c : Sound t) where
         user = entry-user code (d .holder .heading) h (d .holder .user) name (omega (arith, x .fields .users));
       }
 
-  filing-sets : (u place : ℕ) (w : Word) (d : State) (type lev code life n : ℕ) (body : List ℕ) (thirteen fifteen : List Check)
+  filing-sets : (u place : ℕ) (w : Word) (d : State) (type lev code life n : ℕ) (body : List ℕ) (thirteen fifteen late : List Check)
       → Entered t (d .holder) code (lastName (chainOf w)) → Comes t u (mine w) (d .holder)
-      → Sets t u (mine w) (making t (filing t place w d code (headingRecord type lev code life n) body) thirteen fifteen)
-  filing-sets u place w d type lev code life n body thirteen fifteen x o =
-      making-sets u (mine w) (filing t place w d code head body) thirteen fifteen
+      → Sets t u (mine w) (making t (filing t place w d code (headingRecord type lev code life n) body) thirteen fifteen late)
+  filing-sets u place w d type lev code life n body thirteen fifteen late x o =
+      making-sets u (mine w) (filing t place w d code head body) thirteen fifteen late
       (λ enough. littering t c head body (roomy t type lev code life n body (omega (arith, length-file t head body, enough))))
       (length-entry code (d .holder .heading) (room t 0) (d .holder .user) (lastName (chainOf w)) (link-short _ (x .fields .legal) .1))
       (stands-new d code (room t 0) (lastName (chainOf w)) x) o
@@ -208,7 +208,7 @@ module _ (t : List ℕ) (c : Sound t) where
     unfolding crdPlan
     crd-sets name lev code h =
         holder-by (Sets t u (mine name)) 1 (λ _ _ _. tt) t u name _ (λ d q.
-        filing-sets u 1 name d 0 (orElse lev 0) (orElse code 0) 1 0 [] [] []
+        filing-sets u 1 name d 0 (orElse lev 0) (orElse code 0) 1 0 [] [] [] []
         (entered t c u name d (orElse code 0) most (h .name) (at-most 7 0 code (h .code) (omega arith)) q) (walked d q refl))
 
     wrs-sets : (body : List ℕ) (life : ℕ) (lev code : Part) (name : Word) → WrsRead body life lev code name
@@ -216,7 +216,7 @@ module _ (t : List ℕ) (c : Sound t) where
     unfolding wrsPlan
     wrs-sets body life lev code name h =
         holder-by (Sets t u (mine name)) 2 (λ _ _ _. tt) t u name _ (λ d q.
-        filing-sets u 2 name d 1 (orElse lev 0) (orElse code 0) life (length body) body [] []
+        filing-sets u 2 name d 1 (orElse lev 0) (orElse code 0) life (length body) body [] [] []
         (entered t c u name d (orElse code 0) most (h .name) (at-most 7 0 code (h .code) (omega arith)) q) (walked d q refl))
 
     cpy-sets : (v : ℕ) (old new : Word) (life lev code : Part) → CpyRead old new life lev code → Sets t u (mine new) (cpyPlan t v u old new life lev code)
@@ -226,7 +226,7 @@ module _ (t : List ℕ) (c : Sound t) where
         let source : List ℕ = rec t (file t f) in
         let body : List ℕ = fileText t (file t f) in
         filing-sets u 2 new d 1 (orElse lev (level source)) (orElse code 0) (orElse life (lifetime source)) (length body) body
-        (readInhibited 1 f ∷ []) (notSimple 1 t f ∷ [])
+        (readInhibited 1 f ∷ []) (notSimple 1 t f ∷ []) (tooLow 3 lev source ∷ [])
         (entered t c u new d (orElse code 0) most (h .new) (at-most 7 0 code (h .code) (omega arith)) q) (walked d q refl)))
 
     -- a new name of DUP, one's own or a give
@@ -252,7 +252,7 @@ module _ (t : List ℕ) (c : Sound t) where
         let j : ℕ = joined (entryCode (rec t (f .entry))) (orElse code 0) in
         let b = joined-code _ _ (entry-code (rec t (f .entry)) (s .own)) (at-most 7 0 code (h .code) (omega arith)) in
         let x = entered t c (listOf u to) (begun to new) d j (list-most u to (begun to new) (h .gives) most) (h .new) b q in
-        making-sets u (aim to new) (linking t f d (begun to new) code) [] _ (λ _. tt)
+        making-sets u (aim to new) (linking t f d (begun to new) code) [] _ _ (λ _. tt)
         (length-entry j (d .holder .heading) (file t f) (d .holder .user) (lastName (chainOf (begun to new))) (link-short _ (x .fields .legal) .1))
         (stands-new d j (file t f) (lastName (chainOf (begun to new))) x) (dup-comes to new (h .gives) d q)))
 

@@ -5,6 +5,8 @@ pub mod PenStays
 pub mod ClearedLast
 -- nobody learns a byte of a file that is read-inhibited in its heading: `seal-stays`, `seal-gone`
 pub mod SealStays
+-- "Copies must not drop a level": `no-copy-drops`, `level-kept`
+pub mod LevelKept
 -- the tables between the stores of a call are those after it is cut: `between-stores`, `heads-between`
 pub mod BetweenStores
 -- ---- one call

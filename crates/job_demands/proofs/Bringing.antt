@@ -18,7 +18,7 @@ use Rattle.paper.specs.Effect.{listOf, begun, Plan, Planned, inward, chainOf, r
 use Rattle.paper.specs.Answer.{Outcome, Ran, refusedBy, done, cut, ran, refusing, single, granted, entrance, requested}
 use Rattle.laws.proofs.Tests.{clash}
 use Rattle.laws.proofs.Lists.{Every, every-append, every-parts}
-use Rattle.demands.proofs.Request.Fair.{Idle, Fair, verdict-idle, verdict-fair, fair-line}
+use Rattle.demands.proofs.Request.Fair.{Idle, Fair, fair-some, verdict-idle, verdict-fair, fair-line}
 use Rattle.demands.proofs.Request.Read.{read-right}
 use Rattle.demands.proofs.Request.Ended.{Passed, ran-by, passes}
 use Rattle.demands.proofs.Answered.Numbered.{fair-refused, fair-rdsPlan}
@@ -146,12 +146,12 @@ read-again t chain link text b s u k n e x c j l = go (came t chain link u)
         rw (passes j (rdsPlan t o c w) (writes (y .0) s) (y .1) (omega arith))
 
     go : Came t line u → requested t line x c u j ≡ bringing t s c
-    go (lent f h q) = let z : f .number ≡ 0 = rw (q text b k) at n in let o : ⊥ = omega (arith, h .some) in absurd o
+    go (lent f h q) = let z : f .number ≡ 0 = rw (q text b k) at n in let o : ⊥ = omega (arith, fair-some f h) in absurd o
     go (tried o w q) =
         rw (q x c j)
         (ran-by (λ y. single t b k y .answer .number ≡ 0 → take (single t b k y .answer .bytes) (single t b k y .reply) ≡ s
         → single t c j (ran j (rdsPlan t o c w)) ≡ bringing t s c) k (rdsPlan t o b w)
-        (λ f v m _. let g = fair-refused b (rdsPlan t o b w) f (fair-rdsPlan t b o w) v in let z : ⊥ = omega (arith, g .some, m) in absurd z)
+        (λ f v m _. let g = fair-refused b (rdsPlan t o b w) f (fair-rdsPlan t b o w) v in let z : ⊥ = omega (arith, fair-some f g, m) in absurd z)
         (λ p v h m f. whole o w p v (sym (take-append-seam (p .reply) (drop (length (p .reply)) b)) ∙ f))
         (λ p v h m f. let z : ⊥ = omega arith in absurd z)
         (rw (q text b k) at n) (rw (q text b k) at e))

@@ -114,9 +114,19 @@ coded code entry = 2 ∷ code ∷ drop 2 entry
 abbrev pub lent : List ℕ
 lent = headingR ++ coded 4 entryR ++ headingR ++ nights 71 2
 
--- the simple file `.R` of user 1, without text, and the directory `.T` of user 777
+-- a simple file without text, of this level; `.R` of user 1, such a file, and the directory `.T` of user 777
+abbrev pub sheet : (level : ℕ) → List ℕ
+sheet level = 1 ∷ 1 ∷ level ∷ 0 ∷ 1 ∷ replicate 27 0
+
 abbrev pub desk : List ℕ
-desk = (1 ∷ 1 ∷ 0 ∷ 0 ∷ 1 ∷ replicate 27 0) ++ entryR ++ headingR ++ nights 84 2
+desk = sheet 0 ++ entryR ++ headingR ++ nights 84 2
+
+-- `CPY .R .G .` and the letter of a level; the entry of `.G` that it makes
+abbrev pub cpyRG : (letter : ℕ) → List ℕ
+cpyRG letter = 67 ∷ 80 ∷ 89 ∷ 32 ∷ dotR ++ 32 ∷ 46 ∷ 71 ∷ 32 ∷ 46 ∷ letter ∷ []
+
+abbrev pub entryG : List ℕ
+entryG = 2 ∷ 0 ∷ 255 ∷ 255 ∷ 2 ∷ 0 ∷ 1 ∷ 0 ∷ 0 ∷ 2 ∷ 46 ∷ 71 ∷ replicate 20 0
 
 unfoldable pub cases : List Case
 cases =
@@ -170,4 +180,9 @@ cases =
     -- "In every other place it still gets 8"
     ∷ asks [] (67 ∷ 82 ∷ 68 ∷ 32 ∷ night ++ link) [] [] 1 9 (answer 8 1 0 0 0 0) [] []
     ∷ asks (desk ++ pair) (67 ∷ 80 ∷ 89 ∷ 32 ∷ dotR ++ 32 ∷ night ++ link) [] [] 1 9 (answer 8 2 0 0 0 0) (desk ++ pair) []
+    -- "With U lowest, then P, A, S, a copy's level must be at least its source's": A from P, A from A; P from A gets 25, and 19 before it
+    ∷ asks (sheet 1 ++ entryR ++ pair) (cpyRG 65) [] [] 1 9 (answer 0 0 1 0 0 2) (sheet 1 ++ entryR ++ sheet 2 ++ entryG) []
+    ∷ asks (sheet 2 ++ entryR ++ pair) (cpyRG 65) [] [] 1 9 (answer 0 0 1 0 0 2) (sheet 2 ++ entryR ++ sheet 2 ++ entryG) []
+    ∷ asks (sheet 2 ++ entryR ++ pair) (cpyRG 80) [] [] 1 9 (answer 25 3 0 0 0 0) (sheet 2 ++ entryR ++ pair) []
+    ∷ asks (sheet 2 ++ entryR) (cpyRG 80) [] [] 1 9 (answer 19 0 0 0 0 0) (sheet 2 ++ entryR) []
     ∷ []

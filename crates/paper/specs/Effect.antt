@@ -146,19 +146,23 @@ tooShort out reply = check (ltb (length reply) (length out)) 20 0
 abbrev pub lacking : ℕ → ℕ → ℕ → Check
 lacking place new old = check (lacks new old) 21 place
 
+-- 25: "level too low": "With U lowest, then P, A, S, a copy's level must be at least its source's"
+abbrev pub tooLow : ℕ → Part → List ℕ → Check
+tooLow place lev source = check (ltb (orElse lev (level source)) (level source)) 25 place
+
 -- "A give never displaces."
 abbrev pub linkTaken : List ℕ → Begin → Making → List Check
 linkTaken t own m = []
 linkTaken t (takeOf n) m = []
 linkTaken t (giveTo n) m = taken (m .place) (borne t m) ∷ []
 
--- a new entry's plan, with the checks of the old name, 13 and 15, where there is one, or a give's 16
-unfoldable pub making : List ℕ → Making → List Check → List Check → Planned
-making t m thirteen fifteen =
+-- a new entry's plan, with the checks of the old name, 13, 15 and those after 19, where there is one, or a give's 16
+unfoldable pub making : List ℕ → Making → List Check → List Check → List Check → Planned
+making t m thirteen fifteen late =
     plan (record {
       checks =
           thirteen ++ writeInhibited (m .place) (m .directory) ∷ fifteen
-          ++ fullUp t m ∷ stillPeopled (m .place) (displacing t (borne t m) (m .entry)) ∷ noRoom t m ∷ [];
+          ++ fullUp t m ∷ stillPeopled (m .place) (displacing t (borne t m) (m .entry)) ∷ noRoom t m ∷ late;
       stores = placing t m (borne t m);
       displaced = isFound (borne t m);
       reply = [];
@@ -189,14 +193,14 @@ filing t place w d code heading text =
 unfoldable pub crdPlan : List ℕ → ℕ → Word → Part → Part → Planned
 crdPlan t u name level code =
     toHolder t u 1 name
-    (λ d. making t (filing t 1 name d (orElse code 0) (headingRecord 0 (orElse level 0) (orElse code 0) 1 0) []) [] [])
+    (λ d. making t (filing t 1 name d (orElse code 0) (headingRecord 0 (orElse level 0) (orElse code 0) 1 0) []) [] [] [])
 
 -- "WRS, CPY: heading, text by position, entry."
 unfoldable pub wrsPlan : List ℕ → ℕ → List ℕ → ℕ → Part → Part → Word → Planned
 wrsPlan t u text lifetime level code name =
     toHolder t u 2 name
     (λ d.
-    making t (filing t 2 name d (orElse code 0) (headingRecord 1 (orElse level 0) (orElse code 0) lifetime (length text)) text) [] [])
+    making t (filing t 2 name d (orElse code 0) (headingRecord 1 (orElse level 0) (orElse code 0) lifetime (length text)) text) [] [] [])
 
 -- a copy's heading: "CPY may have M or L, else takes the source's. Level: given, else U (CPY: the source's). Code: given, else 0."
 abbrev pub copyHeading : List ℕ → Part → Part → Part → ℕ → List ℕ
@@ -211,7 +215,7 @@ cpyPlan t v u old new life lev code =
     (λ d.
     let text = fileText t (file t f) in
     making t (filing t 2 new d (orElse code 0) (copyHeading (rec t (file t f)) life lev code (length text)) text)
-    (readInhibited 1 f ∷ []) (notSimple 1 t f ∷ [])))
+    (readInhibited 1 f ∷ []) (notSimple 1 t f ∷ []) (tooLow 3 lev (rec t (file t f)) ∷ [])))
 
 -- the entry of DUP, in d, of the file that f came to
 abbrev pub linking : List ℕ → State → State → Word → Part → Making
@@ -229,7 +233,7 @@ unfoldable pub dupPlan : List ℕ → ℕ → ℕ → Begin → Word → Word �
 dupPlan t v u to old new code =
     toEnd t v 1 old
     (λ _ f. toHolder t u 2 new
-    (λ d. making t (linking t f d new code) [] (linkTaken t to (linking t f d new code))))
+    (λ d. making t (linking t f d new code) [] (linkTaken t to (linking t f d new code)) []))
 
 -- a plan that displaces nothing and writes nothing
 abbrev pub storing : List Check → List Store → Planned

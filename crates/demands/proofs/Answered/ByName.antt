@@ -13,6 +13,7 @@ use Rattle.paper.specs.Store.{run}
 use Rattle.paper.specs.Effect.{Plan, Planned, delPlan}
 use Rattle.paper.specs.Answer.{Outcome, plain, ran, oneName, deleting}
 use Rattle.laws.proofs.Runs.{length-run}
+use Rattle.demands.proofs.Request.Fair.{fair-uncut}
 use Rattle.demands.proofs.Request.Ended.{Refused, Passed, ran-by, passes}
 use Rattle.demands.proofs.Answered.Numbered.{fair-refused, fair-delPlan}
 
@@ -127,7 +128,7 @@ module _ (t : List ℕ) (u : ℕ) (reply : List ℕ) (k : ℕ) (ws : List Word) 
   deleted-stops n (halts m t₁ made₁ w rest f h d r e) =
       let g = fair-refused reply (delPlan t₁ u (0 + m + 1) w) f (fair-delPlan t₁ reply u (0 + m + 1) w (omega arith)) r in
       let c : f .number ≡ 22 = rw e at n in
-      let z : ⊥ = omega (arith, g .most) in absurd z
+      absurd (fair-uncut f g c)
   deleted-stops n (stops m t₁ made₁ w rest p h d r l e) =
       let b = h .room in
       rw e (record {

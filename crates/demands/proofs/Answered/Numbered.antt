@@ -47,33 +47,34 @@ module _ (t reply : List ℕ) (u : ℕ) where
       → FairPlanned reply (toHolder t u place w f)
   fair-holder place w f l g = holder-by (FairPlanned reply) place (fair-walk reply place l) t u w f (λ d _. g d)
 
-  -- a new entry: 14, 17 and 18 at its place, 19 of the whole; and 13 and 15 of the old name
-  fair-making : (m : Making) (thirteen fifteen : List Check) → 1 ≤ m .place → Every FairCheck thirteen → Every FairCheck fifteen
-      → FairPlanned reply (making t m thirteen fifteen)
+  -- a new entry: 14, 17 and 18 at its place, 19 of the whole; 13 and 15 of the old name, and what is tried after 19
+  fair-making : (m : Making) (thirteen fifteen late : List Check) → 1 ≤ m .place → Every FairCheck thirteen → Every FairCheck fifteen
+      → Every FairCheck late → FairPlanned reply (making t m thirteen fifteen late)
   unfolding making
-  fair-making m thirteen fifteen l a b =
+  fair-making m thirteen fifteen late l a b c =
       record {
         checks =
             every-append FairCheck (thirteen ++ writeInhibited (m .place) (m .directory) ∷ fifteen) _
             (every-append FairCheck thirteen _ a (fair-at 14 (m .place) 0 refl l, b))
-            (fair-at 17 (m .place) 0 refl l, (fair-at 18 (m .place) 0 refl l, (fair-line 19 0 refl, tt)));
+            (fair-at 17 (m .place) 0 refl l, (fair-at 18 (m .place) 0 refl l, (fair-line 19 0 refl, c)));
         fits = λ h. omega arith;
       }
 
   pub fair-crdPlan : (w : Word) (level code : Part) → FairPlanned reply (crdPlan t u w level code)
   unfolding crdPlan
-  fair-crdPlan w level code = fair-holder 1 w _ (omega arith) (λ d. fair-making _ [] [] (omega arith) tt tt)
+  fair-crdPlan w level code = fair-holder 1 w _ (omega arith) (λ d. fair-making _ [] [] [] (omega arith) tt tt tt)
 
   pub fair-wrsPlan : (text : List ℕ) (lifetime : ℕ) (level code : Part) (w : Word) → FairPlanned reply (wrsPlan t u text lifetime level code w)
   unfolding wrsPlan
-  fair-wrsPlan text lifetime level code w = fair-holder 2 w _ (omega arith) (λ d. fair-making _ [] [] (omega arith) tt tt)
+  fair-wrsPlan text lifetime level code w = fair-holder 2 w _ (omega arith) (λ d. fair-making _ [] [] [] (omega arith) tt tt tt)
 
   pub fair-cpyPlan : (v : ℕ) (old new : Word) (life lev code : Part) → FairPlanned reply (cpyPlan t v u old new life lev code)
   unfolding cpyPlan
   fair-cpyPlan v old new life lev code =
       fair-end t reply v 1 old _ (omega arith) (λ _ f.
       fair-holder 2 new _ (omega arith) (λ d.
-      fair-making _ _ _ (omega arith) (fair-at 13 1 0 refl (omega arith), tt) (fair-at 15 1 0 refl (omega arith), tt)))
+      fair-making _ _ _ _ (omega arith) (fair-at 13 1 0 refl (omega arith), tt) (fair-at 15 1 0 refl (omega arith), tt)
+      (fair-at 25 3 0 refl (omega arith), tt)))
 
   -- a give: 16 at its place
   fair-taken : (to : Begin) (m : Making) → 1 ≤ m .place → Every FairCheck (linkTaken t to m)
@@ -85,7 +86,7 @@ module _ (t reply : List ℕ) (u : ℕ) where
   unfolding dupPlan
   fair-dupPlan v to old new code =
       fair-end t reply v 1 old _ (omega arith) (λ _ f.
-      fair-holder 2 new _ (omega arith) (λ d. fair-making _ [] _ (omega arith) tt (fair-taken to (linking t f d new code) (omega arith))))
+      fair-holder 2 new _ (omega arith) (λ d. fair-making _ [] _ [] (omega arith) tt (fair-taken to (linking t f d new code) (omega arith)) tt))
 
   -- a plan of two checks that writes nothing
   pub fair-chnPlan : (old link : Word) → FairPlanned reply (chnPlan t u old link)

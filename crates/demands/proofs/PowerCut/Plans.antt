@@ -16,7 +16,7 @@ use Rattle.paper.specs.Request.{Begin}
 use Rattle.paper.specs.Block.{fileText}
 use Rattle.paper.specs.Walk.{State, file, reached, toLast, lastName}
 use Rattle.paper.specs.Store.{puts}
-use Rattle.paper.specs.Effect.{Planned, plan, halted, chainOf, toHolder, toEnd, Making, borne, placing, needed, readInhibited, writeInhibited, notSimple, making, filing, crdPlan, wrsPlan, cpyPlan, dupPlan, chnPlan, dprPlan, delPlan, rdsPlan, lstPlan, lstBasePlan}
+use Rattle.paper.specs.Effect.{Planned, plan, halted, chainOf, toHolder, toEnd, Making, borne, placing, needed, readInhibited, writeInhibited, notSimple, tooLow, making, filing, crdPlan, wrsPlan, cpyPlan, dupPlan, chnPlan, dprPlan, delPlan, rdsPlan, lstPlan, lstBasePlan}
 use Rattle.laws.proofs.Lists.{Every, every-parts}
 use Rattle.laws.proofs.Fields.{entry-record-kind, length-entry}
 use Rattle.laws.proofs.Entries.{found-stands}
@@ -51,10 +51,10 @@ module _ (t : List ℕ) (c : Sound t) where
   one-shaped i r l b q = phased [] (puts i r) [] refl tt (record { within = l; size = b; holds = q }) tt
 
   -- a new entry, given that the stores before it are debris
-  making-safe : (m : Making) (thirteen fifteen : List Check) → (length (m .first) ≤ length (frees t) → Every (Litters t) (m .first))
-      → length (m .entry) ≡ 32 → byte (m .entry) 0 ≡ 2 → Safe t (making t m thirteen fifteen)
+  making-safe : (m : Making) (thirteen fifteen late : List Check) → (length (m .first) ≤ length (frees t) → Every (Litters t) (m .first))
+      → length (m .entry) ≡ 32 → byte (m .entry) 0 ≡ 2 → Safe t (making t m thirteen fifteen late)
   unfolding making
-  making-safe m thirteen fifteen lit size kind e =
+  making-safe m thirteen fifteen late lit size kind e =
       let a = every-parts Idle (thirteen ++ writeInhibited (m .place) (m .directory) ∷ fifteen) _ (verdict-idle _ e) .1 in
       go (borne t m) refl (ltb-false _ _ (a .1 .1 .0))
     where
@@ -67,11 +67,11 @@ module _ (t : List ℕ) (c : Sound t) where
           (record { within = room-below t (length (m .first)) (omega arith); size = size; holds = entered kind }) tt
 
   -- a new file under a name that fits its field
-  filing-safe : (place : ℕ) (w : Word) (d : State) (type lev code life n : ℕ) (body : List ℕ) (thirteen fifteen : List Check)
+  filing-safe : (place : ℕ) (w : Word) (d : State) (type lev code life n : ℕ) (body : List ℕ) (thirteen fifteen late : List Check)
       → length (lastName (chainOf w)) ≤ 10
-      → Safe t (making t (filing t place w d code (headingRecord type lev code life n) body) thirteen fifteen)
-  filing-safe place w d type lev code life n body thirteen fifteen l =
-      making-safe (filing t place w d code head body) thirteen fifteen
+      → Safe t (making t (filing t place w d code (headingRecord type lev code life n) body) thirteen fifteen late)
+  filing-safe place w d type lev code life n body thirteen fifteen late l =
+      making-safe (filing t place w d code head body) thirteen fifteen late
       (λ enough. littering t c head body (roomy t type lev code life n body (omega (arith, length-file t head body, enough))))
       (length-entry code (d .holder .heading) (room t 0) (d .holder .user) (lastName (chainOf w)) l)
       (entry-record-kind code (d .holder .heading) (room t 0) (d .holder .user) (lastName (chainOf w)))
@@ -84,13 +84,13 @@ module _ (t : List ℕ) (c : Sound t) where
   pub crd-safe : (u : ℕ) (name : Word) (lev code : Part) → length (lastName (chainOf name)) ≤ 10 → Safe t (crdPlan t u name lev code)
   unfolding crdPlan
   crd-safe u name lev code l =
-      holder-safe t u 1 name _ (λ d. filing-safe 1 name d 0 (orElse lev 0) (orElse code 0) 1 0 [] [] [] l)
+      holder-safe t u 1 name _ (λ d. filing-safe 1 name d 0 (orElse lev 0) (orElse code 0) 1 0 [] [] [] [] l)
 
   pub wrs-safe : (u : ℕ) (body : List ℕ) (life : ℕ) (lev code : Part) (name : Word) → length (lastName (chainOf name)) ≤ 10
       → Safe t (wrsPlan t u body life lev code name)
   unfolding wrsPlan
   wrs-safe u body life lev code name l =
-      holder-safe t u 2 name _ (λ d. filing-safe 2 name d 1 (orElse lev 0) (orElse code 0) life (length body) body [] [] l)
+      holder-safe t u 2 name _ (λ d. filing-safe 2 name d 1 (orElse lev 0) (orElse code 0) life (length body) body [] [] [] l)
 
   pub cpy-safe : (v u : ℕ) (old new : Word) (life lev code : Part) → length (lastName (chainOf new)) ≤ 10
       → Safe t (cpyPlan t v u old new life lev code)
@@ -100,14 +100,14 @@ module _ (t : List ℕ) (c : Sound t) where
       let source : List ℕ = rec t (file t f) in
       let body : List ℕ = fileText t (file t f) in
       filing-safe 2 new d 1 (orElse lev (level source)) (orElse code 0) (orElse life (lifetime source)) (length body) body
-      (readInhibited 1 f ∷ []) (notSimple 1 t f ∷ []) l))
+      (readInhibited 1 f ∷ []) (notSimple 1 t f ∷ []) (tooLow 3 lev source ∷ []) l))
 
   pub dup-safe : (v u : ℕ) (to : Begin) (old new : Word) (code : Part) → length (lastName (chainOf new)) ≤ 10
       → Safe t (dupPlan t v u to old new code)
   unfolding dupPlan
   dup-safe v u to old new code l =
       end-safe t v 1 old _ (λ _ f _. holder-safe t u 2 new _ (λ d.
-      making-safe _ [] _ (λ _. tt) (length-entry _ (d .holder .heading) (file t f) (d .holder .user) (lastName (chainOf new)) l)
+      making-safe _ [] _ _ (λ _. tt) (length-entry _ (d .holder .heading) (file t f) (d .holder .user) (lastName (chainOf new)) l)
       (entry-record-kind _ (d .holder .heading) (file t f) (d .holder .user) (lastName (chainOf new)))))
 
   pub chn-safe : (u : ℕ) (old link : Word) → length (lastName (link .names)) ≤ 10 → Safe t (chnPlan t u old link)

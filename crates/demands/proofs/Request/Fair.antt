@@ -2,13 +2,14 @@
 -- A refusal is fair when its number is on the list and its place is 0 where the list says; each check's is tested by computing.
 use mathlib.Core.Bool.{Bool, true, false, _&&_, _||_, not, cond}
 use mathlib.Core.List.{List, [], _∷_}
+use mathlib.Core.Logic.{_≢_, _⊎_, inl, inr}
 use mathlib.Core.Path.{_≡_, sym, refl, _∙_, subst}
 use Prim.Native.Nat.{ℕ, _≤_}
 use native.Mathlib.Omega.{arith}
 use lib.Dec.{eqb, leb}
-use borrow.Author.Tests.{leb-true, ne-eqb, not-true}
+use borrow.Author.Tests.{eqb-true, leb-true, ne-eqb, not-true}
 use Rattle.paper.specs.Check.{Check, passed, refused, verdict, Refusal}
-use Rattle.laws.proofs.Tests.{and-left, and-right, clash}
+use Rattle.laws.proofs.Tests.{not-both, and-left, and-right, or-cases, or-left, or-right, clash}
 use Rattle.laws.proofs.Lists.{Every}
 
 -- a check that does not hold
@@ -29,11 +30,34 @@ verdict-idle (c ∷ cs) e = go (c .when) refl e (λ f. verdict-idle cs f)
 abbrev pub placeless : ℕ → Bool
 placeless n = leb n 6 || eqb n 10 || eqb n 19 || eqb n 20 || eqb n 22
 
--- a refusal's number is one from 1 to 21, and its place is 0 exactly where the list says
+-- the numbers that refuse: 1 to 21 of document 01, and 25
+abbrev pub refuses : ℕ → Bool
+refuses n = leb 1 n && leb n 21 || eqb n 25
+
+-- the numbers of answers: granted, refused, and "stop number reached with stores left"
+abbrev pub answers : ℕ → Bool
+answers n = eqb n 0 || (refuses n || eqb n 22)
+
+refuses-some : (n : ℕ) → refuses n ≡ true → 1 ≤ n
+refuses-some n e = go (or-cases (leb 1 n && leb n 21) (eqb n 25) e)
+  where
+    go : ((leb 1 n && leb n 21) ≡ true) ⊎ (eqb n 25 ≡ true) → 1 ≤ n
+    go (inl f) = leb-true _ _ (and-left (leb 1 n) _ f)
+    go (inr f) = omega (arith, eqb-true n 25 f)
+
+-- a refusal's number is one of these, and its place is 0 exactly where the list says
 pub record Fair (f : Refusal) : Type 0 where
-  pub some : 1 ≤ f .number
-  pub most : f .number ≤ 21
+  pub refuses : refuses (f .number) ≡ true
   pub place : eqb (f .place) 0 ≡ placeless (f .number)
+
+pub fair-some : (f : Refusal) → Fair f → 1 ≤ f .number
+fair-some f h = refuses-some (f .number) (h .refuses)
+
+pub fair-uncut : (f : Refusal) → Fair f → f .number ≢ 22
+fair-uncut f h e = not-both (h .refuses) (rw e)
+
+pub fair-answers : (f : Refusal) → Fair f → answers (f .number) ≡ true
+fair-answers f h = or-right (eqb (f .number) 0) _ (or-left _ (eqb (f .number) 22) (h .refuses))
 
 abbrev pub FairCheck : Check → Type 0
 FairCheck c = Fair (c .refusal)
@@ -49,21 +73,17 @@ verdict-fair (c ∷ cs) f h e = go (c .when) e (verdict-fair cs f (h .1))
 
 -- the refusal of a whole line, and that of an argument: the number is tested by computing
 abbrev pub ofLine : ℕ → Bool
-ofLine n = leb 1 n && leb n 21 && placeless n
+ofLine n = refuses n && placeless n
 
 abbrev pub ofArgument : ℕ → Bool
-ofArgument n = leb 1 n && leb n 21 && not (placeless n)
+ofArgument n = refuses n && not (placeless n)
 
 pub fair-line : (n link : ℕ) → ofLine n ≡ true → Fair (record { number = n; place = 0; link = link })
-fair-line n link e =
-    let f = and-left (leb 1 n && leb n 21) _ e in
-    record { some = leb-true _ _ (and-left (leb 1 n) _ f); most = leb-true _ _ (and-right (leb 1 n) _ f); place = sym (and-right (leb 1 n && leb n 21) _ e) }
+fair-line n link e = record { refuses = and-left (refuses n) _ e; place = sym (and-right (refuses n) _ e) }
 
 pub fair-at : (n p link : ℕ) → ofArgument n ≡ true → 1 ≤ p → Fair (record { number = n; place = p; link = link })
 fair-at n p link e l =
-    let f = and-left (leb 1 n && leb n 21) _ e in
     record {
-      some = leb-true _ _ (and-left (leb 1 n) _ f);
-      most = leb-true _ _ (and-right (leb 1 n) _ f);
-      place = ne-eqb p 0 (λ (z : p ≡ 0). omega arith) ∙ sym (not-true _ (and-right (leb 1 n && leb n 21) _ e));
+      refuses = and-left (refuses n) _ e;
+      place = ne-eqb p 0 (λ (z : p ≡ 0). omega arith) ∙ sym (not-true _ (and-right (refuses n) _ e));
     }

@@ -21,7 +21,7 @@ use Rattle.paper.specs.Entry.{Holder, holder, full}
 use Rattle.paper.specs.Block.{blocks, fileText}
 use Rattle.paper.specs.Walk.{State, start, file, reached, toDirectory, lastName}
 use Rattle.paper.specs.Store.{puts, run}
-use Rattle.paper.specs.Effect.{Making, borne, losing, settled, chainOf, making, filing, linking, readInhibited, notSimple, crdPlan, wrsPlan, cpyPlan, dupPlan, chnPlan}
+use Rattle.paper.specs.Effect.{Making, borne, losing, settled, chainOf, making, filing, linking, readInhibited, notSimple, tooLow, crdPlan, wrsPlan, cpyPlan, dupPlan, chnPlan}
 use Rattle.laws.proofs.Entries.{Stands, found-stands}
 use Rattle.laws.proofs.Blocks.{file-most}
 use Rattle.demands.proofs.Sound.Clauses.{Sound, entry-code, length-most}
@@ -58,7 +58,7 @@ simple-heading lev code life n l b f s =
 module _ (t : List ℕ) (c : Sound t) where
   -- a new entry, given that it may be laid once there is room for the stores before it
   made-keeps : (o : ℕ) (m : Making) → (length (m .first) ≤ length (frees t) → Made o t m)
-      → (thirteen fifteen : List Check) → Keeps t (making t m thirteen fifteen)
+      → (thirteen fifteen late : List Check) → Keeps t (making t m thirteen fifteen late)
   made-keeps o m made = making-keeps t m over free
     where
       over : (e : ℕ) → borne t m ≡ at e → length (m .first) ≤ length (frees t) → losing t e (m .entry) ≡ false
@@ -76,8 +76,8 @@ module _ (t : List ℕ) (c : Sound t) where
 
   -- a new file, whose heading and entry are as they should be
   filing-keeps : (place : ℕ) (w : Word) (d : State) (type lev code life : ℕ) (text : List ℕ) → NewHeading type lev code life (length text)
-      → Entered t (d .holder) code (lastName (chainOf w)) → (thirteen fifteen : List Check)
-      → Keeps t (making t (filing t place w d code (headingRecord type lev code life (length text)) text) thirteen fifteen)
+      → Entered t (d .holder) code (lastName (chainOf w)) → (thirteen fifteen late : List Check)
+      → Keeps t (making t (filing t place w d code (headingRecord type lev code life (length text)) text) thirteen fifteen late)
   filing-keeps place w d type lev code life text h x =
       made-keeps (room t 0) (filing t place w d code head text) (λ l.
       let roomy : blocks (length text) < length (frees t) = omega (arith, length-file t head text, l) in
@@ -129,7 +129,7 @@ module _ (t : List ℕ) (c : Sound t) where
       let n : NewHeading 0 (orElse lev 0) (orElse code 0) 1 0 =
       record { types = omega arith; levels = l; codes = b; least = omega arith; most = omega arith; size = omega arith; plain = λ _. (refl, refl) } in
       holder-keeps t u 1 name _ (λ d q.
-      filing-keeps 1 name d 0 (orElse lev 0) (orElse code 0) 1 [] n (entered u name d (orElse code 0) m (h .name) b q) [] [])
+      filing-keeps 1 name d 0 (orElse lev 0) (orElse code 0) 1 [] n (entered u name d (orElse code 0) m (h .name) b q) [] [] [])
 
   pub wrs-keeps : (u : ℕ) (text : List ℕ) (life : ℕ) (lev code : Part) (name : Word) → u ≤ 999999 → WrsRead text life lev code name
       → Keeps t (wrsPlan t u text life lev code name)
@@ -139,7 +139,7 @@ module _ (t : List ℕ) (c : Sound t) where
       let b : orElse code 0 ≤ 7 = at-most 7 0 code (h .code) (omega arith) in
       holder-keeps t u 2 name _ (λ d q.
       filing-keeps 2 name d 1 (orElse lev 0) (orElse code 0) life text (simple-heading _ _ life (length text) l b (h .lifetime) (h .text))
-      (entered u name d (orElse code 0) m (h .name) b q) [] [])
+      (entered u name d (orElse code 0) m (h .name) b q) [] [] [])
 
   pub cpy-keeps : (v u : ℕ) (old new : Word) (life lev code : Part) → u ≤ 999999 → CpyRead old new life lev code
       → Keeps t (cpyPlan t v u old new life lev code)
@@ -153,7 +153,7 @@ module _ (t : List ℕ) (c : Sound t) where
       let n = within-else 1 2 (lifetime source) life (h .lifetime) (s .fields .lifetime .0) (s .fields .lifetime .1) in
       filing-keeps 2 new d 1 (orElse lev (level source)) (orElse code 0) (orElse life (lifetime source)) (fileText t (file t f))
       (simple-heading _ _ _ _ l b n (copy-few (file t f) (s .within) (s .heading)))
-      (entered u new d (orElse code 0) m (h .new) b q) (readInhibited 1 f ∷ []) (notSimple 1 t f ∷ [])))
+      (entered u new d (orElse code 0) m (h .new) b q) (readInhibited 1 f ∷ []) (notSimple 1 t f ∷ []) (tooLow 3 lev source ∷ [])))
 
   pub dup-keeps : (v u : ℕ) (to : Begin) (old new : Word) (code : Part) → u ≤ 999999 → DupRead old new to code
       → Keeps t (dupPlan t v u to old new code)
@@ -164,7 +164,7 @@ module _ (t : List ℕ) (c : Sound t) where
       let b : orElse code 0 ≤ 7 = at-most 7 0 code (h .code) (omega arith) in
       let j : ℕ = joined (entryCode (rec t (f .entry))) (orElse code 0) in
       let x = entered u new d j m (h .new) (joined-code _ _ (entry-code (rec t (f .entry)) (s .own)) b) q in
-      made-keeps 65535 (linking t f d new code) (λ _. linking-made t f d new code c (s .heading) x) [] _))
+      made-keeps 65535 (linking t f d new code) (λ _. linking-made t f d new code c (s .heading) x) [] _ []))
 
   pub chn-kept : (u : ℕ) (old link : Word) → ChnRead old link → Keeps t (chnPlan t u old link)
   chn-kept u old link h =

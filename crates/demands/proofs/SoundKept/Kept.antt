@@ -98,9 +98,9 @@ module _ (t : List ℕ) (m : Making)
     → Sound (run t (m .first ++ puts e (m .entry) ∷ settled t e (m .entry))))
     (free : borne t m ≡ nowhere → full t (m .directory .holder) ≡ false → length (m .first) < length (frees t)
     → Sound (run t (m .first ++ puts (room t (length (m .first))) (m .entry) ∷ []))) where
-  pub making-keeps : (thirteen fifteen : List Check) → Keeps t (making t m thirteen fifteen)
+  pub making-keeps : (thirteen fifteen late : List Check) → Keeps t (making t m thirteen fifteen late)
   unfolding making
-  making-keeps thirteen fifteen v =
+  making-keeps thirteen fifteen late v =
       let a = every-parts Idle (thirteen ++ writeInhibited (m .place) (m .directory) ∷ fifteen) _ (verdict-idle _ v) .1 in
       go (borne t m) refl (a .0) (a .1 .0) (ltb-false _ _ (a .1 .1 .0))
     where

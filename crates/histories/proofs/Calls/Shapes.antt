@@ -23,7 +23,7 @@ use Rattle.paper.specs.Sound.{implies}
 use Rattle.paper.specs.Block.{block, fileText}
 use Rattle.paper.specs.Walk.{State, applies, file, reached, toLast, lastName}
 use Rattle.paper.specs.Store.{Store, puts, run}
-use Rattle.paper.specs.Effect.{Planned, plan, halted, chainOf, toHolder, toEnd, Making, borne, placing, needed, readInhibited, writeInhibited, notSimple, making, filing, linking, newFile, freed, lost, settled, recoded, renamed, crdPlan, wrsPlan, cpyPlan, dupPlan, chnPlan, dprPlan, delPlan, rdsPlan, lstPlan, lstBasePlan}
+use Rattle.paper.specs.Effect.{Planned, plan, halted, chainOf, toHolder, toEnd, Making, borne, placing, needed, readInhibited, writeInhibited, notSimple, tooLow, making, filing, linking, newFile, freed, lost, settled, recoded, renamed, crdPlan, wrsPlan, cpyPlan, dupPlan, chnPlan, dprPlan, delPlan, rdsPlan, lstPlan, lstBasePlan}
 use Rattle.laws.proofs.Tests.{truth, not-both, false-by, implies-use}
 use Rattle.laws.proofs.Scans.{any-here, any-none, all-true}
 use Rattle.laws.proofs.Lists.{Every, every-parts, every-append, every-imp}
@@ -140,10 +140,10 @@ module _ (t : List ℕ) (c : Sound t) where
         go (inr n) = freeing main g laid (c .targets e in-e k) (unnamed-main g n) (rw n (unfold main in sym (append-assoc pre (puts e r ∷ []) (freed t g))))
 
   -- a new entry, after new records
-  making-shape : (m : Making) (thirteen fifteen : List Check) → (length (m .first) ≤ length (frees t) → Every (News t) (m .first))
-      → length (m .entry) ≡ 32 → byte (m .entry) 0 ≡ 2 → Shape t (making t m thirteen fifteen)
+  making-shape : (m : Making) (thirteen fifteen late : List Check) → (length (m .first) ≤ length (frees t) → Every (News t) (m .first))
+      → length (m .entry) ≡ 32 → byte (m .entry) 0 ≡ 2 → Shape t (making t m thirteen fifteen late)
   unfolding making
-  making-shape m thirteen fifteen news size kind v =
+  making-shape m thirteen fifteen late news size kind v =
       let a = every-parts Idle (thirteen ++ writeInhibited (m .place) (m .directory) ∷ fifteen) _ (verdict-idle _ v) .1 in
       go (borne t m) refl (ltb-false _ _ (a .1 .1 .0))
     where
@@ -161,11 +161,11 @@ module _ (t : List ℕ) (c : Sound t) where
             tt,
           ))
 
-  filing-shape : (place : ℕ) (w : Word) (d : State) (type lev code life n : ℕ) (body : List ℕ) (thirteen fifteen : List Check)
+  filing-shape : (place : ℕ) (w : Word) (d : State) (type lev code life n : ℕ) (body : List ℕ) (thirteen fifteen late : List Check)
       → length (lastName (chainOf w)) ≤ 10
-      → Shape t (making t (filing t place w d code (headingRecord type lev code life n) body) thirteen fifteen)
-  filing-shape place w d type lev code life n body thirteen fifteen l =
-      making-shape (filing t place w d code head body) thirteen fifteen
+      → Shape t (making t (filing t place w d code (headingRecord type lev code life n) body) thirteen fifteen late)
+  filing-shape place w d type lev code life n body thirteen fifteen late l =
+      making-shape (filing t place w d code head body) thirteen fifteen late
       (λ enough. file-news head body (roomy t type lev code life n body (omega (arith, length-file t head body, enough))))
       (length-entry code (d .holder .heading) (room t 0) (d .holder .user) (lastName (chainOf w)) l)
       (entry-record-kind code (d .holder .heading) (room t 0) (d .holder .user) (lastName (chainOf w)))
@@ -178,13 +178,13 @@ module _ (t : List ℕ) (c : Sound t) where
   pub crd-shape : (u : ℕ) (name : Word) (lev code : Part) → length (lastName (chainOf name)) ≤ 10 → Shape t (crdPlan t u name lev code)
   unfolding crdPlan
   crd-shape u name lev code l =
-      holder-shape t u 1 name _ (λ d. filing-shape 1 name d 0 (orElse lev 0) (orElse code 0) 1 0 [] [] [] l)
+      holder-shape t u 1 name _ (λ d. filing-shape 1 name d 0 (orElse lev 0) (orElse code 0) 1 0 [] [] [] [] l)
 
   pub wrs-shape : (u : ℕ) (body : List ℕ) (life : ℕ) (lev code : Part) (name : Word) → length (lastName (chainOf name)) ≤ 10
       → Shape t (wrsPlan t u body life lev code name)
   unfolding wrsPlan
   wrs-shape u body life lev code name l =
-      holder-shape t u 2 name _ (λ d. filing-shape 2 name d 1 (orElse lev 0) (orElse code 0) life (length body) body [] [] l)
+      holder-shape t u 2 name _ (λ d. filing-shape 2 name d 1 (orElse lev 0) (orElse code 0) life (length body) body [] [] [] l)
 
   pub cpy-shape : (v u : ℕ) (old new : Word) (life lev code : Part) → length (lastName (chainOf new)) ≤ 10
       → Shape t (cpyPlan t v u old new life lev code)
@@ -194,14 +194,14 @@ module _ (t : List ℕ) (c : Sound t) where
       let source : List ℕ = rec t (file t f) in
       let body : List ℕ = fileText t (file t f) in
       filing-shape 2 new d 1 (orElse lev (level source)) (orElse code 0) (orElse life (lifetime source)) (length body) body
-      (readInhibited 1 f ∷ []) (notSimple 1 t f ∷ []) l))
+      (readInhibited 1 f ∷ []) (notSimple 1 t f ∷ []) (tooLow 3 lev source ∷ []) l))
 
   pub dup-shape : (v u : ℕ) (to : Begin) (old new : Word) (code : Part) → length (lastName (chainOf new)) ≤ 10
       → Shape t (dupPlan t v u to old new code)
   unfolding dupPlan
   dup-shape v u to old new code l =
       end-shape t v 1 old _ (λ _ f _. holder-shape t u 2 new _ (λ d.
-      making-shape (linking t f d new code) [] _ (λ _. tt) (length-entry _ (d .holder .heading) (file t f) (d .holder .user) (lastName (chainOf new)) l)
+      making-shape (linking t f d new code) [] _ _ (λ _. tt) (length-entry _ (d .holder .heading) (file t f) (d .holder .user) (lastName (chainOf new)) l)
       (entry-record-kind _ (d .holder .heading) (file t f) (d .holder .user) (lastName (chainOf new)))))
 
   pub chn-shape : (u : ℕ) (old link : Word) → length (lastName (link .names)) ≤ 10 → Shape t (chnPlan t u old link)

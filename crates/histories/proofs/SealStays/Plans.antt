@@ -19,7 +19,7 @@ use Rattle.paper.specs.Code.{joined, noRead}
 use Rattle.paper.specs.Sound.{implies}
 use Rattle.paper.specs.Block.{fileText}
 use Rattle.paper.specs.Walk.{State, start, applies, file, Walked, reached, stopped, toDirectory, toLast, lastName, lastFrom, endFrom, ended}
-use Rattle.paper.specs.Effect.{Planned, onward, inward, chainOf, toHolder, toEnd, Making, borne, placing, displacing, readInhibited, notSimple, linkTaken, making, filing, linking, newFile, crdPlan, wrsPlan, cpyPlan, dupPlan, chnPlan, dprPlan, delPlan, rdsPlan, lstPlan, lstBasePlan}
+use Rattle.paper.specs.Effect.{Planned, onward, inward, chainOf, toHolder, toEnd, Making, borne, placing, displacing, readInhibited, notSimple, tooLow, linkTaken, making, filing, linking, newFile, crdPlan, wrsPlan, cpyPlan, dupPlan, chnPlan, dprPlan, delPlan, rdsPlan, lstPlan, lstBasePlan}
 use Rattle.laws.proofs.Tests.{implies-use}
 use Rattle.laws.proofs.Scans.{all-true}
 use Rattle.laws.proofs.Fields.{length-entry}
@@ -116,9 +116,9 @@ module _ (h : ℕ) (t s : List ℕ) (v : Veil h t s) (c : Sound t) (seal : noRea
         go (at e) q = let k = kind-at e q in rw (settled-veil h t s v c e (m .entry) (k .0) (k .1) size)
         go nowhere q = rw (room-same (length (m .first)))
 
-    making-same : (a b : List Check) → making s m a b ≡ making t m a b
+    making-same : (a b e : List Check) → making s m a b e ≡ making t m a b e
     unfolding making
-    making-same a b =
+    making-same a b e =
         rw (find-veil h t s v (m .directory .holder) (m .name), displaced-same, placing-same, full-veil h t s v (m .directory .holder), frees-veil h t s v)
 
   file-made : (head body : List ℕ) → newFile s head body ≡ newFile t head body
@@ -126,23 +126,23 @@ module _ (h : ℕ) (t s : List ℕ) (v : Veil h t s) (c : Sound t) (seal : noRea
   file-made head body = rw (frees-veil h t s v, rooms-veil h t s v)
 
   -- a new file under a name that fits its field
-  filing-same : (place : ℕ) (w : Word) (d : State) (code : ℕ) (head body : List ℕ) (a b : List Check) → length (lastName (chainOf w)) ≤ 10
-      → making s (filing s place w d code head body) a b ≡ making t (filing t place w d code head body) a b
-  filing-same place w d code head body a b l =
+  filing-same : (place : ℕ) (w : Word) (d : State) (code : ℕ) (head body : List ℕ) (a b e : List Check) → length (lastName (chainOf w)) ≤ 10
+      → making s (filing s place w d code head body) a b e ≡ making t (filing t place w d code head body) a b e
+  filing-same place w d code head body a b e l =
       rw (file-made head body, room-same 0)
       (making-same (filing t place w d code head body)
-      (length-entry code (d .holder .heading) (room t 0) (d .holder .user) (lastName (chainOf w)) l) a b)
+      (length-entry code (d .holder .heading) (room t 0) (d .holder .user) (lastName (chainOf w)) l) a b e)
 
   -- ---- each function
 
   pub crd-same : (u : ℕ) (name : Word) (lev code : Part) → length (lastName (chainOf name)) ≤ 10 → Same (crdPlan t u name lev code) (crdPlan s u name lev code)
   unfolding crdPlan
-  crd-same u name lev code l = holder-same u 1 name _ _ (λ d _. one (filing-same 1 name d (orElse code 0) _ [] [] [] l))
+  crd-same u name lev code l = holder-same u 1 name _ _ (λ d _. one (filing-same 1 name d (orElse code 0) _ [] [] [] [] l))
 
   pub wrs-same : (u : ℕ) (body : List ℕ) (life : ℕ) (lev code : Part) (name : Word) → length (lastName (chainOf name)) ≤ 10
       → Same (wrsPlan t u body life lev code name) (wrsPlan s u body life lev code name)
   unfolding wrsPlan
-  wrs-same u body life lev code name l = holder-same u 2 name _ _ (λ d _. one (filing-same 2 name d (orElse code 0) _ body [] [] l))
+  wrs-same u body life lev code name l = holder-same u 2 name _ _ (λ d _. one (filing-same 2 name d (orElse code 0) _ body [] [] [] l))
 
   -- a give's 16
   taken-same : (to : Begin) (m : Making) → linkTaken s to m ≡ linkTaken t to m
@@ -156,7 +156,7 @@ module _ (h : ℕ) (t s : List ℕ) (v : Veil h t s) (c : Sound t) (seal : noRea
   dup-same a u to old new code l =
       end-same a 1 old _ _ (λ o f r. holder-same u 2 new _ _ (λ d _.
       one (rw (entry-same o f _ r, taken-same to (linking t f d new code))
-      (making-same _ (length-entry _ (d .holder .heading) (file t f) (d .holder .user) (lastName (chainOf new)) l) [] _))))
+      (making-same _ (length-entry _ (d .holder .heading) (file t f) (d .holder .user) (lastName (chainOf new)) l) [] _ []))))
 
   pub chn-same : (u : ℕ) (old link : Word) → Same (chnPlan t u old link) (chnPlan s u old link)
   unfolding chnPlan
@@ -200,10 +200,10 @@ module _ (h : ℕ) (t s : List ℕ) (v : Veil h t s) (c : Sound t) (seal : noRea
       (λ (q : file t f ≢ h). one (rw (file-same f, simple-veil h t s v (file t f), file-text-veil h t s v (c .whole) (file t f) q (r .heading)))))
 
   -- a plan whose first check is that of reading
-  refused-making : (m : Making) (f : State) (a b : List Check) (x : List ℕ) → noRead (f .code) ≡ true
-      → Refused (making x m (readInhibited 1 f ∷ a) b) no-reading
+  refused-making : (m : Making) (f : State) (a b e : List Check) (x : List ℕ) → noRead (f .code) ≡ true
+      → Refused (making x m (readInhibited 1 f ∷ a) b e) no-reading
   unfolding making
-  refused-making m f a b x z = checked _ refl (thirteen f _ z)
+  refused-making m f a b e x z = checked _ refl (thirteen f _ z)
 
   pub cpy-same : (a u : ℕ) (old new : Word) (life lev code : Part) → length (lastName (chainOf new)) ≤ 10
       → Same (cpyPlan t a u old new life lev code) (cpyPlan s a u old new life lev code)
@@ -212,7 +212,8 @@ module _ (h : ℕ) (t s : List ℕ) (v : Veil h t s) (c : Sound t) (seal : noRea
       end-same a 1 old _ _ (λ o f r. holder-same u 2 new _ _ (λ d _. by-cases (ℕ-discrete (file t f) h)
       (λ (q : file t f ≡ h).
       let z = sealed o f _ r q in
-      neither no-reading (refused-making _ f [] _ t z) (refused-making _ f [] _ s z))
+      neither no-reading (refused-making _ f [] _ _ t z) (refused-making _ f [] _ _ s z))
       (λ (q : file t f ≢ h).
       one (rw (file-same f, simple-veil h t s v (file t f), heading-same o f _ r, file-text-veil h t s v (c .whole) (file t f) q (r .heading))
-      (filing-same 2 new d (orElse code 0) _ (fileText t (file t f)) (readInhibited 1 f ∷ []) (notSimple 1 t f ∷ []) l)))))
+      (filing-same 2 new d (orElse code 0) _ (fileText t (file t f)) (readInhibited 1 f ∷ []) (notSimple 1 t f ∷ [])
+      (tooLow 3 lev (rec t (file t f)) ∷ []) l)))))

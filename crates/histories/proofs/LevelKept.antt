@@ -1,0 +1,232 @@
+-- "Copies must not drop a level": the one heading that a CPY lays has the level of its source, or a declared one that 25 lets through; a
+-- heading that stays keeps its level, since only its code is laid anew. So from copy to copy, over any history, the level never falls.
+use mathlib.Core.Bool.{true, false}
+use mathlib.Core.List.{List, [], _∷_}
+use mathlib.Core.Logic.{_⊎_, inl, inr, _≢_, by-cases}
+use mathlib.Core.Path.{_≡_, sym, _∙_}
+use Prim.Native.Nat.{ℕ, _-_, _≤_, _<_}
+use native.Mathlib.Omega.{arith}
+use native.Mathlib.Decide.{decLe}
+use lib.ListN.{length, take}
+use lib.Seq.{take-append-le, getD-set-other}
+use borrow.Author.Tests.{eqb-true, eq-eqb, ltb-false}
+use Rattle.paper.specs.Scan.{Found, at, nowhere}
+use Rattle.paper.specs.Record.{byte, level, lifetime, blank, headingRecord}
+use Rattle.paper.specs.Table.{sized, rooms, rec, room}
+use Rattle.paper.specs.Declaration.{Part, orElse}
+use Rattle.paper.specs.Line.{Word}
+use Rattle.paper.specs.Check.{Check, passed, verdict}
+use Rattle.paper.specs.Request.{Request, request, cpy}
+use Rattle.paper.specs.Sound.{sound}
+use Rattle.paper.specs.Block.{block, fileText}
+use Rattle.paper.specs.Walk.{State, start, file, arrived, ended, lastName}
+use Rattle.paper.specs.Store.{Store, puts, run}
+use Rattle.paper.specs.Effect.{Plan, Planned, plan, halted, chainOf, Making, borne, placing, freed, lost, settled, making, newFile, filing, recoded, cpyPlan, listOf, begun}
+use Rattle.paper.specs.Answer.{ran, single, granted, requested}
+use Rattle.laws.proofs.Tests.{not-both, either}
+use Rattle.laws.proofs.Lists.{Every, every-append, every-take, every-each, every-parts, every-both, take-past}
+use Rattle.laws.proofs.Fields.{text-record-kind, entry-record-kind}
+use Rattle.laws.proofs.Lay.{within}
+use Rattle.laws.proofs.Runs.{Lays, run-each, run-append, length-run, rooms-run}
+use Rattle.demands.proofs.Sound.Clauses.{Sound, sound-clauses}
+use Rattle.demands.proofs.Request.Fair.{verdict-idle}
+use Rattle.demands.proofs.Request.Read.{Told}
+use Rattle.demands.proofs.Request.Course.{Admitted, Course, untried, tried, course}
+use Rattle.demands.proofs.Request.Ended.{Passed, ran-by}
+use Rattle.demands.proofs.Request.Steps.{holder-by}
+use Rattle.demands.proofs.Request.Formed.{named-last}
+use Rattle.histories.specs.History.{Call, asks, mends, called, cutAt, after, heads}
+use Rattle.histories.specs.Copy.{CopyOf, Copies, Descends}
+use Rattle.histories.proofs.Calls.Stores.{kind-blank, Put, heading, text, entry, cleared, recodes, Shaped, plain, freeing, Kept}
+use Rattle.histories.proofs.Calls.Shapes.{Shape, cpy-shape}
+use Rattle.histories.proofs.Calls.Requests.{passed-shaped, freed-clears}
+use Rattle.histories.proofs.Calls.Mendable.{Mendable, mendable-whole, sound-mendable, called-mendable}
+use Rattle.histories.proofs.BetweenStores.{Stored, between-stores}
+
+-- ---- a heading that stays
+
+-- what is laid over a heading has its level
+put-level : (t : List ℕ) (h : ℕ) (r : List ℕ) → byte (rec t h) 0 ≡ 1 → Put t h r → level r ≡ level (rec t h)
+unfolding recoded
+put-level t h r k (heading a b) = let z : ⊥ = omega arith in absurd z
+put-level t h r k (text a b d) = let z : ⊥ = omega arith in absurd z
+put-level t h r k (entry (inl a) b) = let z : ⊥ = omega arith in absurd z
+put-level t h r k (entry (inr a) b) = let z : ⊥ = omega arith in absurd z
+put-level t h r k (cleared a b) = let z : ⊥ = omega arith in absurd z
+put-level t h r k (recodes code b a w x q) = rw q (getD-set-other (rec t h) 3 2 code 0 (omega arith))
+
+-- after any stores of a call a record is as it was, laid, or cleared
+stored-each : (t : List ℕ) (o : ℕ → List ℕ) → Stored t o → (k i : ℕ) → i < rooms t → Kept t (o k) i ⊎ (rec (o k) i ≡ blank)
+stored-each t o d k i l =
+    rw (d .tables k)
+    (by-cases (decLe k (length (d .first)))
+    (λ (x : k ≤ length (d .first)).
+    rw (take-append-le k (d .first) (d .last) x) (inl (run-each (Put t) t (take k (d .first)) (every-take _ k (d .first) (d .puts)) i l)))
+    (λ (x : ¬ (k ≤ length (d .first))).
+    let j : ℕ = k - length (d .first) in
+    rw (take-past k (d .first) (d .last) (omega arith), run-append) (past (take j (d .last)) (every-take _ j (d .last) (d .clears)))))
+  where
+    past : (ss : List Store) → Every (Lays (λ _ r. r ≡ blank) (rooms t)) ss
+        → Kept t (run (run t (d .first)) ss) i ⊎ (rec (run (run t (d .first)) ss) i ≡ blank)
+    past ss h =
+        go (run-each (λ _ r. r ≡ blank) (run t (d .first)) ss (rw rooms-run h) i (rw rooms-run l)) (run-each (Put t) t (d .first) (d .puts) i l)
+      where
+        go : (rec (run (run t (d .first)) ss) i ≡ rec (run t (d .first)) i) ⊎ (rec (run (run t (d .first)) ss) i ≡ blank) → Kept t (run t (d .first)) i
+            → Kept t (run (run t (d .first)) ss) i ⊎ (rec (run (run t (d .first)) ss) i ≡ blank)
+        go (inr e) x = inr e
+        go (inl e) x = inl (rw e x)
+
+-- a heading before a call and after it has its level
+pub level-stays : (t : List ℕ) (h : ℕ) (c : Call) (k : ℕ) → Mendable t → heads h t ≡ true → heads h (called t (cutAt k c) .table) ≡ true
+    → level (rec (called t (cutAt k c) .table) h) ≡ level (rec t h)
+level-stays t h c k m a b =
+    let i : byte (rec t h) 0 ≡ 1 = eqb-true _ _ a in
+    let j : byte (rec (called t (cutAt k c) .table) h) 0 ≡ 1 = eqb-true _ _ b in
+    go i j (stored-each t (λ k. called t (cutAt k c) .table) (between-stores t c m) k h (within t h (mendable-whole t m) (omega arith)))
+  where
+    go : byte (rec t h) 0 ≡ 1 → byte (rec (called t (cutAt k c) .table) h) 0 ≡ 1
+        → Kept t (called t (cutAt k c) .table) h ⊎ (rec (called t (cutAt k c) .table) h ≡ blank) → level (rec (called t (cutAt k c) .table) h) ≡ level (rec t h)
+    go i j (inl (inl e)) = rw e
+    go i j (inl (inr p)) = put-level t h _ i p
+    go i j (inr e) = let z : ⊥ = omega (arith, kind-blank _ e) in absurd z
+
+-- ---- a copy
+
+-- a heading that is laid has at least this level
+abbrev Raises : ℕ → Store → Type 0
+Raises lev s = byte (s .bytes) 0 ≡ 1 → lev ≤ level (s .bytes)
+
+freed-raises : (lev : ℕ) (t : List ℕ) (h : ℕ) → Every (Raises lev) (freed t h)
+unfolding freed blank
+freed-raises lev t h = (λ k. omega arith, every-each (Raises lev) _ _ (λ p _ k. omega arith))
+
+file-raises : (lev : ℕ) (t head body : List ℕ) → lev ≤ level head → Every (Raises lev) (newFile t head body)
+unfolding newFile
+file-raises lev t head body l = (
+  λ _. l,
+  every-each (Raises lev) _ _ (λ p _ k. let z : ⊥ = omega (arith, k, text-record-kind (room t 0) p (block body p)) in absurd z),
+)
+
+placing-raises : (lev : ℕ) (t : List ℕ) (m : Making) → Every (Raises lev) (m .first) → byte (m .entry) 0 ≡ 2 → (x : Found)
+    → Every (Raises lev) (placing t m x)
+unfolding settled
+placing-raises lev t m h k (at e) =
+    every-append (Raises lev) (m .first) _ h (
+      λ z. omega arith,
+      either (Every (Raises lev)) (lost t e (m .entry)) _ _ (freed-raises lev t _) tt,
+    )
+placing-raises lev t m h k nowhere = every-append (Raises lev) (m .first) _ h (λ z. omega arith, tt)
+
+-- the plan, where its checks pass
+abbrev Raising : ℕ → Planned → Type 0
+Raising lev (halted f) = Unit {0}
+Raising lev (plan p) = verdict (p .checks) ≡ passed → Every (Raises lev) (p .stores)
+
+-- CPY of the file that s came to
+copy-raises : (t : List ℕ) (v u : ℕ) (old new : Word) (life lev code : Part) (d s : State) → ended t (start v) (chainOf old) ≡ arrived d s
+    → Raising (level (rec t (file t s))) (cpyPlan t v u old new life lev code)
+unfolding cpyPlan making headingRecord
+copy-raises t v u old new life lev code d s e =
+    rw e (holder-by (Raising (level (rec t (file t s)))) 2 (λ _ _ _. tt) t u new _ (λ q _ x.
+    let source : List ℕ = rec t (file t s) in
+    let body : List ℕ = fileText t (file t s) in
+    let head : List ℕ = headingRecord 1 (orElse lev (level source)) (orElse code 0) (orElse life (lifetime source)) (length body) in
+    let m : Making = filing t 2 new q (orElse code 0) head body in
+    placing-raises _ t m (file-raises _ t head body (ltb-false _ _ (verdict-idle _ x .1 .1 .1 .1 .1 .1 .0)))
+    (entry-record-kind (orElse code 0) (q .holder .heading) (room t 0) (q .holder .user) (lastName (chainOf new))) (borne t m)))
+
+-- stores that lay what they should where they may
+lays-also : (P Q : ℕ → List ℕ → Type 0) (n : ℕ) (ss : List Store) → Every (Lays P n) ss → Every (λ s. Q (s .at) (s .bytes)) ss → Every (Lays Q n) ss
+lays-also P Q n ss = every-both (Lays P n) _ (Lays Q n) ss (λ s a b. record { within = a .within; size = a .size; holds = b })
+
+shaped-lays : (t : List ℕ) → Sound t → (Q : ℕ → List ℕ → Type 0) (ss : List Store) → Shaped t ss → Every (λ s. Q (s .at) (s .bytes)) ss
+    → Every (Lays Q (rooms t)) ss
+shaped-lays t c Q ss (plain h) x = lays-also (Put t) Q (rooms t) ss h x
+shaped-lays t c Q ss (freeing main g h k n e) x =
+    let y = every-parts (λ (s : Store). Q (s .at) (s .bytes)) main (freed t g) (rw e at x) in
+    rw e
+    (every-append (Lays Q (rooms t)) main (freed t g) (lays-also (Put t) Q (rooms t) main h (y .0))
+    (lays-also (λ _ r. r ≡ blank) Q (rooms t) (freed t g) (freed-clears t c g k) (y .1)))
+
+-- after some stores of such a plan, a heading that was none has at least that level
+new-level : (t : List ℕ) → Sound t → (lev : ℕ) (ss : List Store) → Every (Lays (λ i r. byte r 0 ≡ 1 → lev ≤ level r) (rooms t)) ss
+    → (n : ℕ) → byte (rec t n) 0 ≢ 1 → byte (rec (run t ss) n) 0 ≡ 1 → lev ≤ level (rec (run t ss) n)
+new-level t c lev ss h n a b =
+    go (run-each (λ i r. byte r 0 ≡ 1 → lev ≤ level r) t ss h n
+    (rw (rooms-run t ss) at (within (run t ss) n (rw (length-run t ss) (c .whole)) (omega arith))))
+  where
+    go : (rec (run t ss) n ≡ rec t n) ⊎ (byte (rec (run t ss) n) 0 ≡ 1 → lev ≤ level (rec (run t ss) n)) → lev ≤ level (rec (run t ss) n)
+    go (inl e) = absurd (a (rw e at b))
+    go (inr f) = f b
+
+single-level : (t reply : List ℕ) (k : ℕ) → Sound t → (lev : ℕ) (x : Planned) → Shape t x → Raising lev x → (n : ℕ) → byte (rec t n) 0 ≢ 1
+    → byte (rec (single t reply k (ran k x) .table) n) 0 ≡ 1 → lev ≤ level (rec (single t reply k (ran k x) .table) n)
+single-level t reply k c lev x h r n a =
+    ran-by (λ y. byte (rec (single t reply k y .table) n) 0 ≡ 1 → lev ≤ level (rec (single t reply k y .table) n)) k x
+    (λ _ _ b. absurd (a b))
+    (λ p v _ b. new-level t c lev (p .stores) (lays p v) n a b)
+    (λ p v _ b. new-level t c lev (take k (p .stores)) (every-take _ k (p .stores) (lays p v)) n a b)
+  where
+    lays : (p : Plan) → Passed x p → Every (Lays (λ i r. byte r 0 ≡ 1 → lev ≤ level r) (rooms t)) (p .stores)
+    lays p v =
+        let s : Raising lev (plan p) = rw (v .plan) at r in
+        shaped-lays t c _ (p .stores) (passed-shaped t x p h v) (s (v .checks))
+
+-- "a copy's level must be at least its source's": a CPY, whole or cut, lays no heading with a level below that of the file it copies,
+-- be a level declared or not
+pub no-copy-drops : (t line body reply : List ℕ) (u k h n : ℕ) → CopyOf t line body u h → heads n t ≡ false
+    → heads n (requested t line body reply u k .table) ≡ true → level (rec t h) ≤ level (rec (requested t line body reply u k .table) n)
+unfolding granted
+no-copy-drops t line body reply u k h n q a b = go (course t line body reply u)
+  where
+    laid : byte (rec (requested t line body reply u k .table) n) 0 ≡ 1
+    laid = eqb-true _ _ b
+
+    new : byte (rec t n) 0 ≢ 1
+    new e = not-both (eq-eqb _ _ e) a
+
+    copy : Request
+    copy = cpy (q .from) (q .old) (q .new) (q .life) (q .lev) (q .code)
+
+    tries : (r : Request) → r ≡ copy → Admitted t line body u r → ((k : ℕ) → requested t line body reply u k ≡ granted t body reply u k r)
+        → level (rec t h) ≤ level (rec (requested t line body reply u k .table) n)
+    tries r e m p =
+        let c = sound-clauses t (m .sized) (m .sound) in
+        let m₁ : Told body copy = rw e at (m .told) in
+        let v : ℕ = listOf u (q .from) in
+        let w : Word = begun (q .from) (q .old) in
+        let x : Planned = cpyPlan t v u w (q .new) (q .life) (q .lev) (q .code) in
+        let y : requested t line body reply u k ≡ single t reply k (ran k x) = rw e at (p k) in
+        rw (y, ← (q .is))
+        (single-level t reply k c (level (rec t (file t (q .source)))) x
+        (cpy-shape t c v u w (q .new) (q .life) (q .lev) (q .code) (named-last (q .new) (m₁ .new) .short))
+        (copy-raises t v u w (q .new) (q .life) (q .lev) (q .code) (q .directory) (q .source) (q .end)) n new (rw y at laid))
+
+    go : Course t line body reply u → level (rec t h) ≤ level (rec (requested t line body reply u k .table) n)
+    go (untried f g e) = absurd (not-both b (rw (e k) a))
+    go (tried r m e) = let y : request r ≡ request copy = sym (m .asked) ∙ q .asked in let z : r ≡ copy = cc in tries r z m e
+
+-- ---- over a history
+
+-- a file, or a copy of a copy of it, has at least its level, whatever was asked between
+pub level-kept : (t : List ℕ) (h n : ℕ) (cs : List Call) → sized t ≡ true → sound t ≡ true → heads h t ≡ true → Descends t h cs n
+    → level (rec t h) ≤ level (rec (after t cs) n)
+unfolding after Descends
+level-kept t h n cs a b = from-here cs t h (sound-mendable t (sound-clauses t a b))
+  where
+    from-here : (cs : List Call) (t : List ℕ) (h : ℕ) → Mendable t → heads h t ≡ true → Descends t h cs n → level (rec t h) ≤ level (rec (after t cs) n)
+    from-here [] t h m i d = rw d (omega arith)
+    from-here (c ∷ cs) t h m i (inl (j, d)) =
+        rw (← (same c j)) (from-here cs (called t c .table) h (called-mendable t c m) j d)
+      where
+        same : (c : Call) → heads h (called t c .table) ≡ true → level (rec (called t c .table) h) ≡ level (rec t h)
+        same (asks line body reply u k) j = level-stays t h (asks line body reply u k) k m i j
+        same (mends k) j = level-stays t h (mends k) k m i j
+    from-here (c ∷ cs) t h m i (inr (g, x, d)) = copied c x d (from-here cs (called t c .table) g (called-mendable t c m))
+      where
+        copied : (c : Call) → Copies t c h g → Descends (called t c .table) g cs n
+            → (heads g (called t c .table) ≡ true → Descends (called t c .table) g cs n
+            → level (rec (called t c .table) g) ≤ level (rec (after (called t c .table) cs) n))
+            → level (rec t h) ≤ level (rec (after (called t c .table) cs) n)
+        copied (asks line body reply u k) (q, e, j) d r = omega (arith, no-copy-drops t line body reply u k h g q e j, r j d)
+        copied (mends k) x d r = absurd x
