@@ -1,20 +1,20 @@
 -- A new entry's plan, by what the code finds: its checks are those of what the entry meets, and its stores are the file's, the
 -- entry's and the settling, as many as are counted. So where no check holds the stores made are the first of the plan's.
-use mathlib.Core.Bool.{Bool, true, false, _&&_, not, cond}
+use mathlib.Core.Bool.{Bool, true, false, cond}
 use mathlib.Core.List.{List, [], _∷_, _++_}
 use mathlib.Core.Path.{_≡_, refl, sym, ap, _∙_}
 use Prim.Native.Nat.{ℕ, _+_, _≤_}
 use native.Mathlib.Omega.{arith}
-use lib.Dec.{ltb}
 use lib.ListN.{getD, length, length-append}
 use Rattle.paper.specs.Scan as F
-use Rattle.paper.specs.Table.{sized, frees, room}
+use Rattle.paper.specs.Table.{sized, room}
 use Rattle.paper.specs.Check.{Check, check, Verdict, passed, refused, verdict}
-use Rattle.paper.specs.Entry.{Holder, full}
+use Rattle.paper.specs.Entry.{Holder}
 use Rattle.paper.specs.Block.{blocks}
 use Rattle.paper.specs.Store.{puts}
 use Rattle.paper.specs.Answer.{plain}
 use Rattle.paper.specs.Effect.{Plan, plan, Making, newFile, placing, needed, borne, isFound, displacing, fullUp, stillPeopled, noRoom, linkTaken}
+use Rattle.laws.proofs.Lists.{Every}
 use Rattle.words.specs.Shown.{beginMeant}
 use Rattle.words.specs.declared.begin.Begin.{Begin}
 use Rattle.words.specs.declared.begin.Begin.the-variants.{Own, Take, Give}
@@ -24,13 +24,13 @@ use Rattle.effects.specs.Stage.{Made, textStores, clearStores}
 use Rattle.effects.proofs.Papers.{free-room, new-file, text-stores-length, clear-stores-length}
 use Rattle.walk.specs.declared.state.State.{State}
 use Rattle.answers.specs.Shown.{shown, stored}
-use Rattle.placing.specs.Placing.{met, losingBy, entryChecks, refusalShown, entryStores}
+use Rattle.placing.specs.Placing.{met, entryChecks, refusalShown, entryStores}
 use Rattle.placing.specs.declared.Meets.{Meets}
 use Rattle.placing.specs.declared.Refusal.{Refusal}
 use Rattle.elephant.specs.Done.{Did}
-use Rattle.elephant.specs.Filing.{fileCount, fileStores, neededBy, storesBy, makingOf, takenBy, ending, Ready}
+use Rattle.elephant.specs.Filing.{fileCount, fileStores, neededBy, storesBy, makingOf, takenBy, allChecks, ending, Ready}
 use Rattle.elephant.specs.declared.filing.File.{File}
-use Rattle.elephant.proofs.Verdicts.{did-refused, did-stored}
+use Rattle.elephant.proofs.Verdicts.{first-holds, first-passes, none-left, front-refuses, front-passes, did-refused, did-stored}
 use Rattle.placing.proofs.Meeting.{displaced-loses, placed-settled}
 
 -- ---- how many
@@ -66,23 +66,56 @@ first-stores t f text z l = go (f .new)
 
 -- ---- the verdict
 
--- 16 to 19, by what is met
-abbrev allChecks : List ℕ → Begin → ℕ → Holder → Meets → ℕ → List Check
-allChecks t to place d m n = check (takenBy to (m .displaced)) 16 place ∷ entryChecks t place d m n
+-- a refusal's number is not 0
+abbrev Telling : Check → Type 0
+Telling c = 1 ≤ c .refusal .number
 
 -- number 0: no check refuses
-pub none-refuses : (t : List ℕ) (to : Begin) (place : ℕ) (d : Holder) (m : Meets) (n : ℕ) → refusalShown (verdict (allChecks t to place d m n)) .number ≡ 0
-    → verdict (allChecks t to place d m n) ≡ passed
+pub none-refuses : (cs : List Check) → Every Telling cs → refusalShown (verdict cs) .number ≡ 0 → verdict cs ≡ passed
 unfolding verdict
-none-refuses t to place d m n e = go (takenBy to (m .displaced)) (not (m .displaced) && full t d) (losingBy t m) (ltb (length (frees t)) n) e
+none-refuses [] h e = refl
+none-refuses (c ∷ cs) h e = go (c .when) e (none-refuses cs (h .1))
   where
-    go : (x a b c : Bool) → refusalShown (verdict (check x 16 place ∷ check a 17 place ∷ check b 18 place ∷ check c 19 0 ∷ [])) .number ≡ 0
-        → verdict (check x 16 place ∷ check a 17 place ∷ check b 18 place ∷ check c 19 0 ∷ []) ≡ passed
-    go true a b c e = let z : ⊥ = omega arith in absurd z
-    go false true b c e = let z : ⊥ = omega arith in absurd z
-    go false false true c e = let z : ⊥ = omega arith in absurd z
-    go false false false true e = let z : ⊥ = omega arith in absurd z
-    go false false false false e = refl
+    go : (b : Bool) → refusalShown (cond b (refused (c .refusal)) (verdict cs)) .number ≡ 0 → (refusalShown (verdict cs) .number ≡ 0 → verdict cs ≡ passed)
+        → cond b (refused (c .refusal)) (verdict cs) ≡ passed
+    go true e r = let z : ⊥ = omega (arith, h .0) in absurd z
+    go false e r = r e
+
+-- the refusal of the first checks is that of all, or none of the first refuses
+pub shown-first : (cs ds : List Check) (r : Refusal) → r ≡ refusalShown (verdict cs) → (r .number ≡ 0 → ⊥) → r ≡ refusalShown (verdict (cs ++ ds))
+shown-first cs ds r e n = go (verdict cs) refl
+  where
+    go : (v : Verdict) → verdict cs ≡ v → r ≡ refusalShown (verdict (cs ++ ds))
+    go passed q = absurd (n (rw (e, q)))
+    go (refused f) q = rw (front-refuses cs ds f q) (e ∙ rw q)
+
+pub entry-telling : (t : List ℕ) (place : ℕ) (d : Holder) (m : Meets) (n : ℕ) → Every Telling (entryChecks t place d m n)
+entry-telling t place d m n = (omega arith, (omega arith, (omega arith, tt)))
+
+-- 16 to 19 and 25 where the link is not taken: by the refusal of 17 to 19
+module _ (t : List ℕ) (to : Begin) (place : ℕ) (d : Holder) (m : Meets) (n : ℕ) (low : Bool) (r : Refusal)
+    (e : r ≡ refusalShown (verdict (entryChecks t place d m n))) (x : takenBy to (m .displaced) ≡ false) where
+  not-taken : verdict (allChecks t to place d m n low) ≡ verdict (entryChecks t place d m n ++ check low 25 3 ∷ [])
+  not-taken = first-passes (check (takenBy to (m .displaced)) 16 place) _ x
+
+  pub told-first : (r .number ≡ 0 → ⊥) → r ≡ refusalShown (verdict (allChecks t to place d m n low))
+  told-first z = shown-first (entryChecks t place d m n) (check low 25 3 ∷ []) r e z ∙ ap refusalShown (sym not-taken)
+
+  none-first : r .number ≡ 0 → verdict (allChecks t to place d m n low) ≡ verdict (check low 25 3 ∷ [])
+  none-first z =
+      not-taken
+      ∙ front-passes (entryChecks t place d m n) _ (none-refuses _ (entry-telling t place d m n) (sym (ap (λ (s : Refusal). s .number) e) ∙ z))
+
+  pub told-low : r .number ≡ 0 → low ≡ true → record { number = 25; place = 3 } ≡ refusalShown (verdict (allChecks t to place d m n low))
+  told-low z y = ap refusalShown (sym (none-first z ∙ first-holds (check low 25 3) [] y))
+
+  pub told-none : r .number ≡ 0 → low ≡ false → r ≡ refusalShown (verdict (allChecks t to place d m n low))
+  told-none z y =
+      e ∙ ap refusalShown (none-refuses _ (entry-telling t place d m n) (sym (ap (λ (s : Refusal). s .number) e) ∙ z))
+      ∙ ap refusalShown (sym (none-first z ∙ first-passes (check low 25 3) [] y ∙ none-left))
+
+pub all-telling : (t : List ℕ) (to : Begin) (place : ℕ) (d : Holder) (m : Meets) (n : ℕ) (low : Bool) → Every Telling (allChecks t to place d m n low)
+all-telling t to place d m n low = (omega arith, (omega arith, (omega arith, (omega arith, (omega arith, tt)))))
 
 -- ---- the plan
 
@@ -113,10 +146,10 @@ module _
       (sym (isFree ∙ rw (w .free) (free-room t (fileCount f text) (w .size) (omega (arith, file-count f text (w .few))))))
 
   abbrev checks : List Check
-  checks = fullUp t making ∷ stillPeopled place (displacing t (borne t making) (making .entry)) ∷ noRoom t making ∷ []
+  checks = fullUp t making ∷ stillPeopled place (displacing t (borne t making) (making .entry)) ∷ noRoom t making ∷ check (f .low) 25 3 ∷ []
 
   checks-met : checks
-      ≡ entryChecks t place (making .directory .holder) meets (neededBy (fileCount f text) (meets .displaced))
+      ≡ entryChecks t place (making .directory .holder) meets (neededBy (fileCount f text) (meets .displaced)) ++ check (f .low) 25 3 ∷ []
   checks-met =
       rw (
         is-displaced t (borne t making) named free,
@@ -128,12 +161,12 @@ module _
 
   -- 16 before them
   taken-met : verdict (linkTaken t (beginMeant to) making ++ checks)
-      ≡ verdict (allChecks t to place (making .directory .holder) meets (neededBy (fileCount f text) (meets .displaced)))
+      ≡ verdict (allChecks t to place (making .directory .holder) meets (neededBy (fileCount f text) (meets .displaced)) (f .low))
   unfolding verdict
   taken-met = go to
     where
       go : (b : Begin) → verdict (linkTaken t (beginMeant b) making ++ checks)
-          ≡ verdict (allChecks t b place (making .directory .holder) meets (neededBy (fileCount f text) (meets .displaced)))
+          ≡ verdict (allChecks t b place (making .directory .holder) meets (neededBy (fileCount f text) (meets .displaced)) (f .low))
       go Own = ap verdict checks-met
       go (Take n) = ap verdict checks-met
       go (Give n) =
@@ -156,8 +189,8 @@ module _
       }
 
   module _ (k : ℕ) (m : Meets) (e : m ≡ meets) (c : Refusal)
-      (q : c ≡ refusalShown (verdict (allChecks t to place (making .directory .holder) m (neededBy (fileCount f text) (m .displaced))))) where
-    pub ends-refused : (c .number ≡ 0 → ⊥) → Did t k (ending t (beginMeant to) making) (shown (plain (c .number) (c .place) 0 0)) t
+      (q : c ≡ refusalShown (verdict (allChecks t to place (making .directory .holder) m (neededBy (fileCount f text) (m .displaced)) (f .low)))) where
+    pub ends-refused : (c .number ≡ 0 → ⊥) → Did t k (ending t (beginMeant to) making (f .low)) (shown (plain (c .number) (c .place) 0 0)) t
     unfolding ending
     ends-refused h = go (verdict (ends .checks)) refl (rw (taken-met, ← e) q)
       where
@@ -167,12 +200,13 @@ module _
 
     pub ends-stored : c .number ≡ 0 → (u entry : List ℕ) (l : ℕ) → entry ≡ making .entry
         → Made t u k l (fileStores f r text ++ entryStores m entry (textRooms t (m .heading .0)))
-        → Did t k (ending t (beginMeant to) making) (shown (stored (storesBy (fileCount f text) m) k (m .displaced))) u
+        → Did t k (ending t (beginMeant to) making (f .low)) (shown (stored (storesBy (fileCount f text) m) k (m .displaced))) u
     unfolding ending
     ends-stored h u entry l x y =
         let v : verdict (ends .checks) ≡ passed =
         rw (taken-met, ← e)
-        (none-refuses t to place (making .directory .holder) m (neededBy (fileCount f text) (m .displaced)) (sym (ap (λ (s : Refusal). s .number) q) ∙ h)) in
+        (none-refuses _ (all-telling t to place (making .directory .holder) m (neededBy (fileCount f text) (m .displaced)) (f .low))
+        (sym (ap (λ (s : Refusal). s .number) q) ∙ h)) in
         let s : ends .stores ≡ fileStores f r text ++ entryStores m entry (textRooms t (m .heading .0)) = rw (x, e) stores-met in
         let n : length (ends .stores) ≡ storesBy (fileCount f text) m =
         ap length s ∙ rw (length-append, stores-length f r text, entry-length m entry (textRooms t (m .heading .0))) in

@@ -53,27 +53,27 @@ reply-kept t reply k (plan p) h = go (verdict (p .checks))
     go (refused f) = refl
 
 -- a new entry's plan writes nothing
-making-silent : (t : List ℕ) (m : Making) (thirteen fifteen : List Check) → Silent (making t m thirteen fifteen)
+making-silent : (t : List ℕ) (m : Making) (thirteen fifteen late : List Check) → Silent (making t m thirteen fifteen late)
 unfolding making
-making-silent t m thirteen fifteen = refl
+making-silent t m thirteen fifteen late = refl
 
 pub crd-silent : (t : List ℕ) (u : ℕ) (name : Word) (level code : Part) → Silent (crdPlan t u name level code)
 unfolding crdPlan
-crd-silent t u name level code = holder-by Silent 1 (λ _ _ _. tt) t u name _ (λ d _. making-silent t _ _ _)
+crd-silent t u name level code = holder-by Silent 1 (λ _ _ _. tt) t u name _ (λ d _. making-silent t _ _ _ _)
 
 pub wrs-silent : (t : List ℕ) (u : ℕ) (text : List ℕ) (lifetime : ℕ) (level code : Part) (name : Word) → Silent (wrsPlan t u text lifetime level code name)
 unfolding wrsPlan
-wrs-silent t u text lifetime level code name = holder-by Silent 2 (λ _ _ _. tt) t u name _ (λ d _. making-silent t _ _ _)
+wrs-silent t u text lifetime level code name = holder-by Silent 2 (λ _ _ _. tt) t u name _ (λ d _. making-silent t _ _ _ _)
 
 pub cpy-silent : (t : List ℕ) (v u : ℕ) (old new : Word) (lifetime level code : Part) → Silent (cpyPlan t v u old new lifetime level code)
 unfolding cpyPlan
 cpy-silent t v u old new lifetime level code =
-    end-by Silent 1 (λ _ _ _. tt) t v old _ (λ _ f _ _. holder-by Silent 2 (λ _ _ _. tt) t u new _ (λ d _. making-silent t _ _ _))
+    end-by Silent 1 (λ _ _ _. tt) t v old _ (λ _ f _ _. holder-by Silent 2 (λ _ _ _. tt) t u new _ (λ d _. making-silent t _ _ _ _))
 
 pub dup-silent : (t : List ℕ) (v u : ℕ) (to : Begin) (old new : Word) (code : Part) → Silent (dupPlan t v u to old new code)
 unfolding dupPlan
 dup-silent t v u to old new code =
-    end-by Silent 1 (λ _ _ _. tt) t v old _ (λ _ f _ _. holder-by Silent 2 (λ _ _ _. tt) t u new _ (λ d _. making-silent t _ _ _))
+    end-by Silent 1 (λ _ _ _. tt) t v old _ (λ _ f _ _. holder-by Silent 2 (λ _ _ _. tt) t u new _ (λ d _. making-silent t _ _ _ _))
 
 pub chn-silent : (t : List ℕ) (u : ℕ) (old link : Word) → Silent (chnPlan t u old link)
 unfolding chnPlan

@@ -34,9 +34,9 @@ module _ (t line : List ℕ) (u p k : ℕ) (level code : Part) where
   crd-stops n l e = holder-stops t u 1 k (wordAt line p) _ n l e
 
   pub crd-reaches : (d : State) (r : Answer) (x : List ℕ) → walkedShown (toDirectory t 1 (start u) (chainOf (wordAt line p))) ≡ Reached d
-      → Did t k (making t (directoryIn t line p level code (meant d)) [] []) r x → Did t k (crdPlan t u (wordAt line p) level code) r x
+      → Did t k (making t (directoryIn t line p level code (meant d)) [] [] []) r x → Did t k (crdPlan t u (wordAt line p) level code) r x
   unfolding crdPlan
-  crd-reaches d r x e w = holder-reaches t u 1 k (wordAt line p) (λ s. making t (directoryIn t line p level code s) [] []) d r x e w
+  crd-reaches d r x e w = holder-reaches t u 1 k (wordAt line p) (λ s. making t (directoryIn t line p level code s) [] [] []) d r x e w
 
   pub wrs-stops : (text : List ℕ) (life n l : ℕ) → walkedShown (toDirectory t 1 (start u) (chainOf (wordAt line p))) ≡ Stopped n l
       → Did t k (wrsPlan t u text life level code (wordAt line p)) (shown (plain n 2 0 0)) t
@@ -45,8 +45,8 @@ module _ (t line : List ℕ) (u p k : ℕ) (level code : Part) where
 
   pub wrs-reaches : (text : List ℕ) (life : ℕ) (d : State) (r : Answer) (x : List ℕ)
       → walkedShown (toDirectory t 1 (start u) (chainOf (wordAt line p))) ≡ Reached d
-      → Did t k (making t (sheetIn t line p level code text life (meant d)) [] []) r x
+      → Did t k (making t (sheetIn t line p level code text life (meant d)) [] [] []) r x
       → Did t k (wrsPlan t u text life level code (wordAt line p)) r x
   unfolding wrsPlan
   wrs-reaches text life d r x e w =
-      holder-reaches t u 2 k (wordAt line p) (λ s. making t (sheetIn t line p level code text life s) [] []) d r x e w
+      holder-reaches t u 2 k (wordAt line p) (λ s. making t (sheetIn t line p level code text life s) [] [] []) d r x e w

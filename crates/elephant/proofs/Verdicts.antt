@@ -8,7 +8,8 @@ use lib.Dec.{leb}
 use lib.ListN.{length, take, drop}
 use lib.Seq.{take-all}
 use borrow.Author.Tests.{leb-true, lt-ltb, le-ltb}
-use Rattle.paper.specs.Check.{Refusal, Check, Verdict, passed, refused, verdict}
+use Rattle.laws.proofs.Tests.{clash}
+use Rattle.paper.specs.Check.{Refusal, Check, check, Verdict, passed, refused, verdict}
 use Rattle.paper.specs.Store.{run}
 use Rattle.paper.specs.Effect.{Plan, plan, tooShort, writing}
 use Rattle.paper.specs.Answer.{Outcome, plain, granting, stores, done, cut, ran, single, refusing}
@@ -32,6 +33,34 @@ first-passes c cs e = rw e
 pub none-left : verdict [] ≡ passed
 unfolding verdict
 none-left = refl
+
+-- checks after those that decide, and after those that do not
+pub front-refuses : (cs ds : List Check) (f : Refusal) → verdict cs ≡ refused f → verdict (cs ++ ds) ≡ refused f
+unfolding verdict
+front-refuses [] ds f e = clash (cc)
+front-refuses (c ∷ cs) ds f e = go (c .when) e (front-refuses cs ds f)
+  where
+    go : (b : Bool) → cond b (refused (c .refusal)) (verdict cs) ≡ refused f → (verdict cs ≡ refused f → verdict (cs ++ ds) ≡ refused f)
+        → cond b (refused (c .refusal)) (verdict (cs ++ ds)) ≡ refused f
+    go true e r = e
+    go false e r = r e
+
+pub front-passes : (cs ds : List Check) → verdict cs ≡ passed → verdict (cs ++ ds) ≡ verdict ds
+unfolding verdict
+front-passes [] ds e = refl
+front-passes (c ∷ cs) ds e = go (c .when) e (front-passes cs ds)
+  where
+    go : (b : Bool) → cond b (refused (c .refusal)) (verdict cs) ≡ passed → (verdict cs ≡ passed → verdict (cs ++ ds) ≡ verdict ds)
+        → cond b (refused (c .refusal)) (verdict (cs ++ ds)) ≡ verdict ds
+    go true e r = clash (cc)
+    go false e r = r e
+
+-- a last check that does not hold, after three
+pub last-passes : (cs : List Check) (a b c : Check) (number place : ℕ)
+    → verdict (cs ++ a ∷ b ∷ c ∷ check false number place ∷ []) ≡ verdict (cs ++ a ∷ b ∷ c ∷ [])
+unfolding verdict
+last-passes [] a b c number place = refl
+last-passes (d ∷ cs) a b c number place = rw (last-passes cs a b c number place)
 
 pub second-holds : (c d : Check) (cs : List Check) → c .when ≡ false → d .when ≡ true → verdict (c ∷ d ∷ cs) ≡ refused (d .refusal)
 second-holds c d cs e f = first-passes c (d ∷ cs) e ∙ first-holds d cs f

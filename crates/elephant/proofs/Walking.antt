@@ -8,7 +8,7 @@ use native.Mathlib.Omega.{arith}
 use lib.Dec.{leb}
 use lib.ListN.{getD, length}
 use Rattle.paper.specs.Table.{room}
-use Rattle.paper.specs.Check.{Check, Verdict, passed, verdict, refused}
+use Rattle.paper.specs.Check.{Check, check, Verdict, passed, verdict, refused}
 use Rattle.paper.specs.Store.{Store}
 use Rattle.paper.specs.Code.{noWrite}
 use Rattle.paper.specs.Answer.{Outcome, plain, single, stores, done, cut}
@@ -20,7 +20,7 @@ use Rattle.answers.specs.Shown.{shown}
 use Rattle.answers.specs.declared.Answer.{Answer}
 use Rattle.elephant.specs.Done.{did, Did}
 use Rattle.elephant.specs.Filing.{ending}
-use Rattle.elephant.proofs.Verdicts.{first-holds, first-passes, second-holds, did-refused}
+use Rattle.elephant.proofs.Verdicts.{first-holds, first-passes, last-passes, second-holds, did-refused}
 
 -- two plans that end alike
 did-same : (t u : List ℕ) (k : ℕ) (p q : Planned) (r : Answer) → did t k p ≡ did t k q → Did t k q r u → Did t k p r u
@@ -49,36 +49,41 @@ module _ (t : List ℕ) (k : ℕ) (ss : List Store) (b : Bool) where
 -- ---- 14
 
 module _ (t : List ℕ) (k : ℕ) (m : Making) where
-  pub shut-refused : (cs : List Check) → noWrite (m .directory .code) ≡ true → Did t k (making t m [] cs) (shown (plain 14 (m .place) 0 0)) t
+  pub shut-refused : (cs : List Check) → noWrite (m .directory .code) ≡ true → Did t k (making t m [] cs []) (shown (plain 14 (m .place) 0 0)) t
   unfolding making
   shut-refused cs e = did-refused t k _ _ (first-holds _ _ e)
 
-  pub open-ends : (to : Begin) (r : Answer) (u : List ℕ) → noWrite (m .directory .code) ≡ false → Did t k (ending t to m) r u
-      → Did t k (making t m [] (linkTaken t to m)) r u
+  pub open-ends : (to : Begin) (r : Answer) (u : List ℕ) → noWrite (m .directory .code) ≡ false → Did t k (ending t to m false) r u
+      → Did t k (making t m [] (linkTaken t to m) []) r u
   unfolding making ending
   open-ends to r u e w =
-      did-same t u k (making t m [] (linkTaken t to m)) (ending t to m) r (did-alike t k _ _ _ _ (first-passes _ _ e)) w
+      did-same t u k (making t m [] (linkTaken t to m) []) (ending t to m false) r
+      (did-alike t k _ _ _ _ (first-passes _ _ e ∙ sym (last-passes (linkTaken t to m) _ _ _ 25 3))) w
 
--- 13, 14 and 15 of CPY, in that order
-module _ (t : List ℕ) (k : ℕ) (m : Making) (c e : Check) where
-  pub copy-first : c .when ≡ true → Did t k (making t m (c ∷ []) (e ∷ [])) (shown (plain (c .refusal .number) (c .refusal .place) 0 0)) t
+-- 13, 14 and 15 of CPY, in that order, with 25 after all
+module _ (t : List ℕ) (k : ℕ) (m : Making) (c e : Check) (low : Bool) where
+  abbrev last : List Check
+  last = check low 25 3 ∷ []
+
+  pub copy-first : c .when ≡ true → Did t k (making t m (c ∷ []) (e ∷ []) last) (shown (plain (c .refusal .number) (c .refusal .place) 0 0)) t
   unfolding making
   copy-first x = did-refused t k _ _ (first-holds _ _ x)
 
-  pub copy-second : c .when ≡ false → noWrite (m .directory .code) ≡ true → Did t k (making t m (c ∷ []) (e ∷ [])) (shown (plain 14 (m .place) 0 0)) t
+  pub copy-second : c .when ≡ false → noWrite (m .directory .code) ≡ true → Did t k (making t m (c ∷ []) (e ∷ []) last) (shown (plain 14 (m .place) 0 0)) t
   unfolding making
   copy-second x y = did-refused t k _ _ (second-holds _ _ _ x y)
 
   pub copy-third : c .when ≡ false → noWrite (m .directory .code) ≡ false → e .when ≡ true
-      → Did t k (making t m (c ∷ []) (e ∷ [])) (shown (plain (e .refusal .number) (e .refusal .place) 0 0)) t
+      → Did t k (making t m (c ∷ []) (e ∷ []) last) (shown (plain (e .refusal .number) (e .refusal .place) 0 0)) t
   unfolding making
   copy-third x y z = did-refused t k _ _ (first-passes _ _ x ∙ first-passes _ _ y ∙ first-holds _ _ z)
 
-  pub copy-ends : (r : Answer) (u : List ℕ) → c .when ≡ false → noWrite (m .directory .code) ≡ false → e .when ≡ false → Did t k (ending t own m) r u
-      → Did t k (making t m (c ∷ []) (e ∷ [])) r u
+  pub copy-ends : (r : Answer) (u : List ℕ) → c .when ≡ false → noWrite (m .directory .code) ≡ false → e .when ≡ false → Did t k (ending t own m low) r u
+      → Did t k (making t m (c ∷ []) (e ∷ []) last) r u
   unfolding making ending
   copy-ends r u x y z w =
-      did-same t u k (making t m (c ∷ []) (e ∷ [])) (ending t own m) r (did-alike t k _ _ _ _ (first-passes _ _ x ∙ first-passes _ _ y ∙ first-passes _ _ z)) w
+      did-same t u k (making t m (c ∷ []) (e ∷ []) last) (ending t own m low) r
+      (did-alike t k _ _ _ _ (first-passes _ _ x ∙ first-passes _ _ y ∙ first-passes _ _ z)) w
 
 -- ---- a new file
 

@@ -7,11 +7,13 @@ use lib.ListN.{getD, length}
 use Rattle.paper.specs.Table.{sized, rec}
 use Rattle.paper.specs.Declaration.{Part, orElse}
 use Rattle.paper.specs.Line.{Word}
+use Rattle.paper.specs.Check.{Check, check}
 use Rattle.paper.specs.Request as asked
+use Rattle.paper.specs.Entry.{Holder}
 use Rattle.paper.specs.Block.{blocks, fileText}
 use Rattle.paper.specs.Sound.{sound}
 use Rattle.paper.specs.Store.{Store, puts}
-use Rattle.paper.specs.Effect.{Making, Planned, plan, borne, isFound, placing, fullUp, displacing, stillPeopled, noRoom, newFile, entryIn, chainOf, filing, copyHeading, making, linking, linkTaken}
+use Rattle.paper.specs.Effect.{Making, Planned, plan, borne, isFound, placing, fullUp, displacing, stillPeopled, noRoom, newFile, entryIn, chainOf, filing, copyHeading, making, linking, linkTaken, tooLow}
 use Rattle.paper.specs.Walk as W
 use Rattle.paper.specs.Walk.{lastName}
 use Rattle.words.specs.declared.begin.Begin.{Begin}
@@ -20,6 +22,7 @@ use Rattle.effects.specs.Listed.{freeRooms}
 use Rattle.effects.specs.Stage.{textStores}
 use Rattle.walk.specs.Shown.{meant, chainAt}
 use Rattle.walk.specs.declared.state.State.{State}
+use Rattle.placing.specs.Placing.{entryChecks}
 use Rattle.placing.specs.declared.Meets.{Meets}
 use Rattle.elephant.specs.Done.{wordAt}
 use Rattle.elephant.specs.declared.filing.File.{File}
@@ -58,11 +61,15 @@ takenBy Own displaced = false
 takenBy (Take user) displaced = false
 takenBy (Give user) displaced = displaced
 
--- a new entry's plan after the checks 13, 14 and 15
-unfoldable pub ending : List ℕ → asked.Begin → Making → Planned
-ending t to m =
+-- 16 to 19, by what is met, and 25
+abbrev pub allChecks : List ℕ → Begin → ℕ → Holder → Meets → ℕ → Bool → List Check
+allChecks t to place d m n low = check (takenBy to (m .displaced)) 16 place ∷ entryChecks t place d m n ++ check low 25 3 ∷ []
+
+-- a new entry's plan after the checks 13, 14 and 15; 25 for a copy whose level is too low
+unfoldable pub ending : List ℕ → asked.Begin → Making → Bool → Planned
+ending t to m low =
     plan (record {
-      checks = linkTaken t to m ++ fullUp t m ∷ stillPeopled (m .place) (displacing t (borne t m) (m .entry)) ∷ noRoom t m ∷ [];
+      checks = linkTaken t to m ++ fullUp t m ∷ stillPeopled (m .place) (displacing t (borne t m) (m .entry)) ∷ noRoom t m ∷ check low 25 3 ∷ [];
       stores = placing t m (borne t m);
       displaced = isFound (borne t m);
       reply = [];
@@ -91,9 +98,13 @@ pub record Linked (t line : List ℕ) (to : Begin) (p : ℕ) : Type 0 where
 
 -- DUP at the end of its walks: the entry of the file that f came to, in d
 abbrev pub linkingIn : List ℕ → asked.Begin → Word → Part → W.State → W.State → Planned
-linkingIn t to new code f d = making t (linking t f d new code) [] (linkTaken t to (linking t f d new code))
+linkingIn t to new code f d = making t (linking t f d new code) [] (linkTaken t to (linking t f d new code)) []
 
 -- CPY's making: a new file with the text of heading h, and what is not declared from it
 abbrev pub copied : List ℕ → Word → W.State → ℕ → Part → Part → Part → Making
 copied t w d h life lev code =
     filing t 2 w d (orElse code 0) (copyHeading (rec t h) life lev code (length (fileText t h))) (fileText t h)
+
+-- .. and whether its level is below the source's
+abbrev pub isLow : Part → List ℕ → Bool
+isLow lev source = tooLow 3 lev source .when

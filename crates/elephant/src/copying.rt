@@ -21,7 +21,7 @@ use words::begin::Begin;
 ghost use mathlib.Core.Bool.{true};
 ghost use mathlib.Core.List.{[], _∷_};
 ghost use mathlib.Core.Path.{_≡_};
-ghost use Rattle.paper.specs.Effect.{making, readInhibited, notSimple, cpyPlan, listOf, begun};
+ghost use Rattle.paper.specs.Effect.{making, readInhibited, notSimple, tooLow, cpyPlan, listOf, begun};
 ghost use Rattle.paper.specs.Record.{simple};
 ghost use Rattle.paper.specs.Request.{own};
 ghost use Rattle.paper.specs.Table.{rec};
@@ -30,7 +30,7 @@ ghost use Rattle.declarations.specs.Given.{lifetimePart, levelPart, digitPart};
 ghost use Rattle.words.specs.Shown.{beginMeant};
 ghost use Rattle.walk.specs.Shown.{meant};
 ghost use Rattle.elephant.specs.Done.{wordAt, Did};
-ghost use Rattle.elephant.specs.Filing.{Named, copied, ending};
+ghost use Rattle.elephant.specs.Filing.{Named, copied, isLow, ending};
 
 // The text of a simple file filed under the new name in d, after 13, 14 and 15.
 fn copy(
@@ -48,15 +48,18 @@ fn copy(
     ensures { λ r. ⌜ Did (now (table .entry)) stop
         (ending (now (table .entry)) own
         (copied (now (table .entry)) (wordAt (now (line .entry)) new) (meant d) (source .0)
-        (lifetimePart lifetime) (levelPart level) (digitPart digit))) r (now (table .exit)) ⌝ }
+        (lifetimePart lifetime) (levelPart level) (digitPart digit))
+        (isLow (levelPart level) (rec (now (table .entry)) (source .0)))) r (now (table .exit)) ⌝ }
 {
     let mut text = [0u8; Heading::MOST_LENGTH];
     copy_text(table, source, &mut text);
     let length = text_length(table, source);
     let code = Code(digit.or_else(0));
+    let least = level_of(table, source);
+    let given = level.or_else(least);
     let heading = Heading {
         ty: Heading::SIMPLE,
-        level: level.or_else(level_of(table, source)),
+        level: given,
         code: code,
         lifetime: lifetime.or_else(lifetime_of(table, source)),
         length: length,
@@ -69,6 +72,7 @@ fn copy(
         2,
         code,
         heading,
+        given < least,
         part(&text, 0, length),
         stop,
     )
@@ -91,7 +95,8 @@ fn cpy_in(
         (making (now (table .entry))
         (copied (now (table .entry)) (wordAt (now (line .entry)) new) (meant d) (file (now (table .entry)) (meant f))
         (lifetimePart lifetime) (levelPart level) (digitPart digit))
-        (readInhibited 1 (meant f) ∷ []) (notSimple 1 (now (table .entry)) (meant f) ∷ [])) r (now (table .exit)) ⌝ }
+        (readInhibited 1 (meant f) ∷ []) (notSimple 1 (now (table .entry)) (meant f) ∷ [])
+        (tooLow 3 (levelPart level) (rec (now (table .entry)) (file (now (table .entry)) (meant f))) ∷ [])) r (now (table .exit)) ⌝ }
 {
     let read = f.code;
     if read.inhibits_read() {

@@ -1,4 +1,4 @@
-// A new entry, and before it a new file where it names one: end checks 16 to 19, the stores, the answer.
+// A new entry, and before it a new file where it names one: end checks 16 to 19 and 25, the stores, the answer.
 use answers::Answer;
 use effects::rooms::room_at;
 use effects::rooms::text_rooms;
@@ -19,21 +19,21 @@ use records::text::Text;
 use scans::find;
 use walk::state::State;
 use words::begin::Begin;
-ghost use mathlib.Core.List.{_∷_};
 ghost use mathlib.Core.Path.{_≡_};
 ghost use Prim.Native.Nat.{_≤_};
 ghost use lib.ListN.{length};
-ghost use Rattle.paper.specs.Check.{check, verdict};
+ghost use Rattle.paper.specs.Check.{verdict};
 ghost use Rattle.records.specs.Shown.{holderShown};
 ghost use Rattle.words.specs.Shown.{beginMeant};
 ghost use Rattle.effects.specs.Stage.{Made};
-ghost use Rattle.placing.specs.Placing.{entryChecks, refusalShown};
+ghost use Rattle.placing.specs.Placing.{refusalShown};
 ghost use Rattle.elephant.specs.Done.{Did};
-ghost use Rattle.elephant.specs.Filing.{fileCount, fileStores, neededBy, storesBy, makingOf, Ready, takenBy, ending};
+ghost use Rattle.elephant.specs.Filing.{fileCount, fileStores, neededBy, storesBy, makingOf, Ready, takenBy, allChecks, ending};
 
-// A new file's heading, or no new file.
+// A new file's heading, or no new file; and whether it is a copy whose level is too low.
 pub(crate) struct File {
     pub new: bool,
+    pub low: bool,
     pub heading: [u8; Room::SIZE],
 }
 
@@ -88,7 +88,7 @@ fn is_taken(to: Begin, displaced: bool) -> bool
     }
 }
 
-// 16, "where the link is taken", and then 17 to 19.
+// 16, "where the link is taken"; then 17 to 19; then 25, "level too low".
 fn refusal(
     table: &[u8],
     to: Begin,
@@ -96,14 +96,25 @@ fn refusal(
     meets: Meets,
     needed: usize,
     place: u32,
+    low: bool,
 ) -> Refusal
     ensures { λ r. ⌜ r ≡ refusalShown (verdict
-        (check (takenBy to (meets .displaced)) 16 place ∷ entryChecks (now (table .entry)) place (holderShown holder) meets needed)) ⌝ }
+        (allChecks (now (table .entry)) to place (holderShown holder) meets needed low)) ⌝ }
 {
     if is_taken(to, meets.displaced) {
         return Refusal { number: 16, place };
     }
-    entry_refusal(table, holder, meets, needed, place)
+    let refused = entry_refusal(table, holder, meets, needed, place);
+    if refused.number != 0 {
+        return refused;
+    }
+    if low {
+        return Refusal {
+            number: 25,
+            place: 3,
+        };
+    }
+    refused
 }
 
 // How many stores there are in all.
@@ -134,14 +145,15 @@ pub(crate) fn make(
     requires { ⌜ Ready (now table) (now rooms) (now name) (now text) (named .0) ⌝ }
     ensures { λ r. ⌜ Did (now (table .entry)) stop
         (ending (now (table .entry)) (beginMeant to)
-        (makingOf (now (table .entry)) place d (now (name .entry)) (code .0) (named .0) file (now (text .entry)))) r (now (table .exit)) ⌝ }
+        (makingOf (now (table .entry)) place d (now (name .entry)) (code .0) (named .0) file (now (text .entry)))
+        (file .low)) r (now (table .exit)) ⌝ }
 {
     let holder = d.holder;
     let first = count_file(file, text);
     let found = find(table, holder, name);
     let meets = meet(table, found, named, room_at(rooms, first));
     let needs = needed(first, meets.displaced);
-    let refused = refusal(table, to, holder, meets, needs, place);
+    let refused = refusal(table, to, holder, meets, needs, place, file.low);
     if refused.number != 0 {
         return Answer::refused(refused.number, refused.place);
     }

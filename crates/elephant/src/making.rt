@@ -39,19 +39,21 @@ pub(crate) fn file(
     place: u32,
     code: Code,
     heading: [u8; Room::SIZE],
+    low: bool,
     text: &[u8],
     stop: u32,
 ) -> Answer
     requires { ⌜ Named (now table) (now line) name (now text) ⌝ }
     ensures { λ r. ⌜ Did (now (table .entry)) stop
         (ending (now (table .entry)) own
-        (filing (now (table .entry)) place (wordAt (now (line .entry)) name) (meant d) (code .0) heading (now (text .entry)))) r (now (table .exit)) ⌝ }
+        (filing (now (table .entry)) place (wordAt (now (line .entry)) name) (meant d) (code .0) heading (now (text .entry))) low) r (now (table .exit)) ⌝ }
 {
     let mut rooms = [0u16; Entry::MOST_NEW];
     free_rooms(table, &mut rooms);
     let named = room_at(&rooms, 0);
     let file = File {
         new: true,
+        low: low,
         heading: heading,
     };
     make(
@@ -84,13 +86,25 @@ fn file_in(
     requires { ⌜ Named (now table) (now line) name (now text) ⌝ }
     ensures { λ r. ⌜ Did (now (table .entry)) stop
         (making (now (table .entry))
-        (filing (now (table .entry)) place (wordAt (now (line .entry)) name) (meant d) (code .0) heading (now (text .entry))) [] []) r (now (table .exit)) ⌝ }
+        (filing (now (table .entry)) place (wordAt (now (line .entry)) name) (meant d) (code .0) heading (now (text .entry))) [] [] [])
+        r (now (table .exit)) ⌝ }
 {
     let applies = d.code;
     if applies.inhibits_write() {
         return Answer::refused(14, place);
     }
-    file(table, line, name, d, place, code, heading, text, stop)
+    file(
+        table,
+        line,
+        name,
+        d,
+        place,
+        code,
+        heading,
+        false,
+        text,
+        stop,
+    )
 }
 
 // "CRD: heading, entry."
@@ -191,6 +205,7 @@ fn dup_in(
     free_rooms(table, &mut rooms);
     let file = File {
         new: false,
+        low: false,
         heading: [0u8; Room::SIZE],
     };
     let name = last_name(line, new);

@@ -16,7 +16,7 @@ returns : tie.Need-returns
 returns c =
     let start = c .before .before .before .before .before .before in
     let a = start .args in
-    rw (c .refused .ensures) (copy-first (a .table .now) (a .stop) _ _ _ (rw (c .before .before .inhibits-read .ensures) at (c .before .if1 .taken)))
+    rw (c .refused .ensures) (copy-first (a .table .now) (a .stop) _ _ _ _ (rw (c .before .before .inhibits-read .ensures) at (c .before .if1 .taken)))
 
 inhibits-write-requires : tie.Need-inhibits-write-requires
 inhibits-write-requires c κs = search needs
@@ -31,7 +31,7 @@ returns-2 c =
     let start = at-inhibits-read .before .before .before .before in
     let a = start .args in
     rw (c .refused2 .ensures)
-    (copy-second (a .table .now) (a .stop) _ _ _ (rw (at-inhibits-read .inhibits-read .ensures) at (at-if1 .if1 .left))
+    (copy-second (a .table .now) (a .stop) _ _ _ _ (rw (at-inhibits-read .inhibits-read .ensures) at (at-if1 .if1 .left))
     (rw (c .before .before .inhibits-write .ensures) at (c .before .if2 .taken)))
 
 heading-named-requires : tie.Need-heading-named-requires
@@ -56,7 +56,7 @@ returns-3 c =
     let start = at-inhibits-read .before .before .before .before in
     let a = start .args in
     rw (c .refused3 .ensures)
-    (copy-third (a .table .now) (a .stop) _ _ _ (rw (at-inhibits-read .inhibits-read .ensures) at (at-if1 .if1 .left))
+    (copy-third (a .table .now) (a .stop) _ _ _ _ (rw (at-inhibits-read .inhibits-read .ensures) at (at-if1 .if1 .left))
     (rw (at-inhibits-write .inhibits-write .ensures) at (at-if2 .if2 .left))
     (rw (c .before .before .is-simple .ensures, at-heading-named .heading-named .ensures .0) at (c .before .if3 .taken)))
 
@@ -81,7 +81,7 @@ returns-4 c =
     let start = at-inhibits-read .before .before .before .before in
     let a = start .args in
     let h = at-heading-named .heading-named in
-    copy-ends (a .table .now) (a .stop) _ _ _ _ _ (rw (at-inhibits-read .inhibits-read .ensures) at (at-if1 .if1 .left))
+    copy-ends (a .table .now) (a .stop) _ _ _ _ _ _ (rw (at-inhibits-read .inhibits-read .ensures) at (at-if1 .if1 .left))
     (rw (at-inhibits-write .inhibits-write .ensures) at (at-if2 .if2 .left))
     (rw (at-is-simple .is-simple .ensures, h .ensures .0) at (at-if3 .if3 .left))
     (rw (h .ensures .0) at (c .before .before .copy .ensures))
