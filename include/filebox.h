@@ -58,7 +58,8 @@ enum filebox_number {
     FILEBOX_ROOM = 19,           /* fewer free records than the request needs */
     FILEBOX_REPLY = 20,          /* reply buffer too short */
     FILEBOX_CODE = 21,           /* DPR: new code lacks a bit of the heading's */
-    FILEBOX_STOPPED = 22         /* stop number reached; the stores made stand */
+    FILEBOX_STOPPED = 22,        /* stop number reached; the stores made stand */
+    FILEBOX_LEVEL = 25           /* CPY: level too low, below the source's */
 };
 
 /* An answer. On any number but 0, displaced and bytes are 0. */
@@ -85,7 +86,7 @@ struct filebox_answer {
  * or, in a directory, write and delete.
  *
  * Granted (0): the whole job is done, exactly as document 01 has it, in table and reply.
- * Refused (1 to 21): table and reply are as lent, byte for byte. Only a DEL of several names keeps what the names before the refused
+ * Refused (1 to 21, 25): table and reply are as lent, byte for byte. Only a DEL of several names keeps what the names before the refused
  *   one did: names says how many, stores how many stores that took.
  * Stopped (22): exactly the first stop stores of the request were made, and reply is as lent. filebox_mend then gives, byte for byte, the
  *   table before the request or the table after it (for a DEL: after some first part of its names). So a stop number stands for a power

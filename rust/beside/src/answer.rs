@@ -7,10 +7,17 @@ use crate::request::{read, refusal, Refusal};
 use crate::sound::{is_sound, sound, HIGHEST_USER};
 use crate::table::{length_fits, Table};
 
+/// The reply numbers: 0 to 22 of document 01, and 25 of document 02.
+pub const NUMBERS: [u32; 24] = [
+    0, 1, 2, 3, 4, 5, 6, 7, 8, 9, 10, 11, 12, 13, 14, 15, 16, 17, 18, 19, 20, 21, 22, 25,
+];
+/// As many counts as have one for each number.
+pub const COUNTS: usize = NUMBERS[NUMBERS.len() - 1] as usize + 1;
+
 /// "An answer has: number; place ...; names done; displaced or not; bytes written; stores made."
 #[derive(Debug, Clone, Copy, PartialEq, Eq)]
 pub struct Answer {
-    /// The reply number, 0 to 22.
+    /// The reply number, one of `NUMBERS`.
     pub number: u32,
     /// "argument from 1", or 0.
     pub place: u32,

@@ -122,7 +122,8 @@ impl Asked<'_> {
             lifetime: Lifetime::M,
             length: 0,
         };
-        self.new_file(&new, heading, b"")
+        let numbers = new.numbers(self.table, 1, None)?;
+        Ok(self.new_file(&new, numbers, heading, b""))
     }
 
     /// "WRS ...: heading, text by position, entry."
@@ -136,10 +137,12 @@ impl Asked<'_> {
             lifetime,
             length: self.text.len() as u16,
         };
-        self.new_file(&new, heading, self.text)
+        let numbers = new.numbers(self.table, 1 + blocks(self.text.len()), None)?;
+        Ok(self.new_file(&new, numbers, heading, self.text))
     }
 
-    /// "CPY: heading, text by position, entry." The content is the old file's, as it was before.
+    /// "CPY: heading, text by position, entry." The content is the old file's, as it was before. "A copy's level must
+    /// be at least its source's": 25.
     fn cpy(
         &self,
         old: &Chain,
@@ -159,17 +162,20 @@ impl Asked<'_> {
             lifetime: lifetime.unwrap_or(old.heading.lifetime),
             length: old.heading.length,
         };
-        self.new_file(&new, heading, &self.table.content(old.entry.heading))
+        let content = self.table.content(old.entry.heading);
+        let numbers = new.numbers(self.table, 1 + blocks(content.len()), None)?;
+        check(heading.level >= old.heading.level, 25, 3)?;
+        Ok(self.new_file(&new, numbers, heading, &content))
     }
 
     /// A new heading with its text and its entry. "In each the code goes into both heading and entry."
     fn new_file(
         &self,
         new: &NewName,
+        numbers: Vec<usize>,
         heading: Heading,
         content: &[u8],
-    ) -> Result<Outcome, Refusal> {
-        let numbers = new.numbers(self.table, 1 + blocks(content.len()), None)?;
+    ) -> Outcome {
         let number = numbers[0] as u16;
         let entry = new.entry(heading.code, number);
         let mut records = vec![Record::Heading(heading)];
@@ -181,7 +187,7 @@ impl Asked<'_> {
             }));
         }
         records.push(Record::Entry(entry));
-        Ok(self.named(new, numbers, records))
+        self.named(new, numbers, records)
     }
 
     /// "DUP: entry, its code the old entry's joined with the declared one." "A give never displaces": 16 "where the

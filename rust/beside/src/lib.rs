@@ -21,7 +21,7 @@ mod sound;
 mod table;
 mod walk;
 
-pub use answer::{mend, request, Answer};
+pub use answer::{mend, request, Answer, COUNTS, NUMBERS};
 pub use declarations::{Declared, DeclaredLifetime, Guard};
 pub use lamp::{light, Light};
 pub use line::{words, Word};

@@ -20,8 +20,8 @@ pub enum Type {
     Simple,
 }
 
-/// "2 level (0 U, 1 P, 2 A, 3 S)".
-#[derive(Debug, Clone, Copy, PartialEq, Eq)]
+/// "2 level (0 U, 1 P, 2 A, 3 S)". "With U lowest, then P, A, S".
+#[derive(Debug, Clone, Copy, PartialEq, Eq, PartialOrd, Ord)]
 pub enum Level {
     /// Level U, 0.
     U,

@@ -1,4 +1,4 @@
-//! Each reply number, 0 to 22: the complete answer, the table and the reply.
+//! Each reply number, 0 to 22 and 25: the complete answer, the table and the reply.
 
 mod common;
 use common::*;
@@ -655,4 +655,42 @@ fn a_request_without_stores_never_gets_22() {
     let bench = filled().stop(0);
     assert_eq!(bench.reply("RDS .R:A"), TEXT);
     assert_eq!(bench.reply("LST .R:D"), b"FM.U0    F\r\n");
+}
+
+#[test]
+fn number_25_a_copy_below_its_source() {
+    let levels = ["U", "P", "A", "S"];
+    for (source, declared) in levels.iter().enumerate() {
+        let mut bench = Bench::grown(32, &["CRD .R"]);
+        bench.grant(&format!("WRS M.{declared} .R:A"), TEXT);
+        for (copy, level) in levels.iter().enumerate() {
+            let line = format!("CPY .R:A .R:B .{level}");
+            if copy < source {
+                bench.refuse(line, b"", 25, 3);
+            } else {
+                let seen = bench.ask(line, b"");
+                assert_eq!(seen.answer.number, 0);
+                assert_eq!(record(&seen.table, 6)[2], copy as u8);
+            }
+        }
+        // A level that is not declared is the source's.
+        for decl in ["", " -", " .", " L", " .1"] {
+            let seen = bench.ask(format!("CPY .R:A .R:B{decl}"), b"");
+            assert_eq!(seen.answer.number, 0);
+            assert_eq!(record(&seen.table, 6)[2], source as u8);
+        }
+    }
+}
+
+#[test]
+fn number_25_asks_nothing_of_the_directory_or_the_displaced_file() {
+    // The directory and the file displaced have level S; a copy of level U goes there.
+    let mut bench = Bench::grown(32, &["CRD .R .S", "WRS M .R:A"]);
+    bench.grant("WRS M.S .R:B", TEXT);
+    let seen = bench.grant("CPY .R:A .R:B .U", b"");
+    assert_eq!(seen.answer.number, 0);
+    // A copy of a file over itself is a copy.
+    bench.grant("WRS M.P .R:C", TEXT);
+    bench.refuse("CPY .R:C .R:C .U", b"", 25, 3);
+    bench.grant("CPY .R:C .R:C .P", b"");
 }

@@ -191,6 +191,24 @@ fn number_15_before_20() {
 }
 
 #[test]
+fn number_17_18_19_before_25() {
+    // A sheet of level S, and nothing free: 19. With room for the copy: 25.
+    let mut bench = filled();
+    bench.grant("WRS M.S .R:S", b"SECRET");
+    full(bench.clone()).refuse("CPY .R:S .R:T .U", b"", 19, 0);
+    bench.refuse("CPY .R:S .R:T .U", b"", 25, 3);
+    // The file displaced is a directory with entries: 18.
+    bench.refuse("CPY .R:S .R:D .U", b"", 18, 2);
+    // The directory is full, and nothing displaced: 17.
+    for at in 0..109 {
+        bench.table.resize(bench.table.len() + 32, 0);
+        bench.grant(&format!("DUP .R:A .R:N{at}"), b"");
+    }
+    bench.refuse("CPY .R:S .R:NEW .U", b"", 17, 2);
+    bench.refuse("CPY .R:S .R:N1 .U", b"", 25, 3);
+}
+
+#[test]
 fn every_refusal_before_22() {
     let mut bench = inhibited();
     bench.grant("DPR .R:A .4", b"");

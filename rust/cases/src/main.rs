@@ -3,6 +3,7 @@
 //! of the table and of the reply alike. With `wrong`, one number of one expected answer is off by one: it must be refused.
 //! With `gives`, two users give and take.
 
+use beside::{COUNTS, NUMBERS};
 use random::{lines, shelves, Random};
 use std::fmt::Write;
 
@@ -39,7 +40,7 @@ struct Story {
     gives: bool,
     table: Vec<u8>,
     cases: Vec<String>,
-    met: [u32; 23],
+    met: [u32; COUNTS],
     off: u32,
 }
 
@@ -142,7 +143,7 @@ fn shelved(random: &mut Random) -> Vec<u8> {
 }
 
 /// A story on such a table.
-fn story(random: &mut Random, met: [u32; 23], gives: bool, off: u32) -> Story {
+fn story(random: &mut Random, met: [u32; COUNTS], gives: bool, off: u32) -> Story {
     let table = match gives {
         true => shelved(random),
         false => few(random),
@@ -166,7 +167,7 @@ fn main() {
     };
     let said = |word: &str| words.get(3).is_some_and(|said| said == word);
     let mut random = Random::new(number(0));
-    let mut met = [0; 23];
+    let mut met = [0; COUNTS];
     println!("{HEAD}");
     for table in 0..number(1) {
         let off = u32::from(table == 0 && said("wrong"));
@@ -181,10 +182,6 @@ fn main() {
         );
         println!("told{table} : holdAll story{table} ≡ true\nunfolding hold story{table}\ntold{table} = refl\n");
     }
-    let shown: Vec<String> = met
-        .iter()
-        .enumerate()
-        .map(|(n, m)| format!("{n}:{m}"))
-        .collect();
+    let shown = NUMBERS.map(|number| format!("{number}:{}", met[number as usize]));
     eprintln!("seed {}: reply numbers met: {}", number(0), shown.join(" "));
 }

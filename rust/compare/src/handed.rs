@@ -2,12 +2,13 @@
 
 use std::fmt;
 
+use beside::{COUNTS, NUMBERS};
+
 use crate::case::{Asked, Case, Outcome};
 
 const ROWS: [&str; 6] = ["give", "DUP", "CPY", "RDS", "LST", "elsewhere"];
 const GIVE: usize = 0;
 const ELSEWHERE: usize = 5;
-const NUMBERS: usize = 23;
 /// How often each number of `NEEDED` must be met.
 const ENOUGH: u64 = 100;
 /// What is to be met by each row. Of CPY and DUP that take, what befalls the new name is not the take's.
@@ -22,7 +23,7 @@ const NEEDED: [&[usize]; ROWS.len()] = [
 
 /// A count for each row and number.
 #[derive(Default)]
-pub struct Handed([[u64; NUMBERS]; ROWS.len()]);
+pub struct Handed([[u64; COUNTS]; ROWS.len()]);
 
 /// The function of a line's words.
 fn function<'a>(words: &[beside::Word<'a>]) -> Option<&'a [u8]> {
@@ -90,10 +91,10 @@ impl fmt::Display for Handed {
         for row in ROWS {
             write!(f, " {row:>9}")?;
         }
-        for number in 0..NUMBERS {
+        for number in NUMBERS {
             write!(f, "\n{number:>4}")?;
             for row in &self.0 {
-                write!(f, " {:>9}", row[number])?;
+                write!(f, " {:>9}", row[number as usize])?;
             }
         }
         Ok(())

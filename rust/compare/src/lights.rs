@@ -2,7 +2,8 @@
 
 use std::fmt;
 
-const NUMBERS: usize = 23;
+use beside::COUNTS;
+
 const RED: u32 = 1;
 /// How often each must be met.
 const ENOUGH: u64 = 100;
@@ -24,7 +25,7 @@ pub struct Lights {
     green: u64,
     refused: [u64; 5],
     /// Red by phase, 1 filing and 2 reading, and number.
-    red: [[u64; NUMBERS]; 3],
+    red: [[u64; COUNTS]; 3],
 }
 
 impl Lights {

@@ -2,6 +2,8 @@
 
 use std::fmt;
 
+use beside::{COUNTS, NUMBERS};
+
 use crate::case::Case;
 
 const ROWS: [&str; 11] = [
@@ -9,13 +11,12 @@ const ROWS: [&str; 11] = [
 ];
 const NONE: usize = 9;
 const MEND: usize = 10;
-const NUMBERS: usize = 23;
 /// How often each number must be met.
 const ENOUGH: u64 = 100;
 
 /// A count for each function and number; lines of no function, and mending, have rows of their own.
 #[derive(Default)]
-pub struct Met([[u64; NUMBERS]; ROWS.len()]);
+pub struct Met([[u64; COUNTS]; ROWS.len()]);
 
 impl Met {
     /// One more answer with this number.
@@ -35,7 +36,11 @@ impl Met {
     pub fn missed(&self) -> Vec<usize> {
         let mending = |number| matches!(number, 0 | 1 | 2 | 22) && self.0[MEND][number] < ENOUGH;
         let missed = |number: &usize| self.total(*number) < ENOUGH || mending(*number);
-        (0..NUMBERS).filter(missed).collect()
+        NUMBERS
+            .map(|number| number as usize)
+            .into_iter()
+            .filter(missed)
+            .collect()
     }
 }
 
@@ -54,7 +59,7 @@ impl fmt::Display for Met {
             write!(f, " {row:>7}")?;
         }
         writeln!(f, " {:>8}", "all")?;
-        for number in 0..NUMBERS {
+        for number in NUMBERS.map(|number| number as usize) {
             write!(f, "{number:>4}")?;
             for row in &self.0 {
                 write!(f, " {:>7}", row[number])?;

@@ -35,7 +35,7 @@ pub(crate) struct SixNumbers {
 }
 
 impl From<SixNumbers> for Answer {
-    /// The proved library answers with one of the numbers 0 to 22, and displaced is 0 or 1. Another library would panic here.
+    /// The proved library answers with one of the numbers of `Number`, and displaced is 0 or 1. Another library would panic here.
     fn from(six: SixNumbers) -> Answer {
         let displaced = match six.displaced {
             0 => false,
@@ -43,7 +43,8 @@ impl From<SixNumbers> for Answer {
             other => panic!("displaced is 0 or 1, not {other}"),
         };
         Answer {
-            number: Number::try_from(six.number).expect("the library answers with 0 to 22"),
+            number: Number::try_from(six.number)
+                .expect("the library answers with a number of the documents"),
             place: six.place,
             names: six.names,
             displaced,

@@ -85,7 +85,7 @@ pub struct Red {
 }
 
 impl From<Light> for Red {
-    /// The proved library answers with one of the numbers 0 to 22 and a phase of 1 or 2. Another library would panic here.
+    /// The proved library answers with one of the numbers of `Number` and a phase of 1 or 2. Another library would panic here.
     fn from(light: Light) -> Red {
         let phase = match light.phase {
             1 => Phase::Filing,
@@ -95,7 +95,8 @@ impl From<Light> for Red {
         Red {
             sheet: light.sheet,
             phase,
-            number: Number::try_from(light.number).expect("the library answers with 0 to 22"),
+            number: Number::try_from(light.number)
+                .expect("the library answers with a number of the documents"),
             stores: light.stores,
         }
     }

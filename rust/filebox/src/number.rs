@@ -1,9 +1,9 @@
-//! Document 01's reply numbers.
+//! The reply numbers of documents 01 and 02.
 
 use std::error::Error;
 use std::fmt;
 
-/// A reply number, shown in document 01's words.
+/// A reply number, shown in the documents' words.
 ///
 /// ```
 /// use filebox::Number;
@@ -62,11 +62,13 @@ pub enum Number {
     CodeLacksBit = 21,
     /// Stop number reached; the stores made stand.
     Stopped = 22,
+    /// CPY: level too low, below the source's.
+    LevelTooLow = 25,
 }
 
 impl Number {
-    /// All numbers, from 0 to 22.
-    pub const ALL: [Number; 23] = [
+    /// All numbers, in order: 0 to 22, and 25.
+    pub const ALL: [Number; 24] = [
         Number::Done,
         Number::TableLength,
         Number::TableNotSound,
@@ -90,6 +92,7 @@ impl Number {
         Number::ReplyTooShort,
         Number::CodeLacksBit,
         Number::Stopped,
+        Number::LevelTooLow,
     ];
 
     /// The number itself.
@@ -97,7 +100,7 @@ impl Number {
         self as u32
     }
 
-    /// What document 01's list says of it, and of 8 and 16 document 02 too.
+    /// What document 01's list says of it, and of 8, 16 and 25 document 02.
     fn given_when(self) -> &'static str {
         match self {
             Number::Done => "done",
@@ -129,6 +132,7 @@ impl Number {
             Number::ReplyTooShort => "reply buffer too short",
             Number::CodeLacksBit => "DPR: new code lacks a bit of the heading's",
             Number::Stopped => "stop number reached; the stores made stand",
+            Number::LevelTooLow => "CPY: level too low, below the source's",
         }
     }
 }
@@ -139,7 +143,7 @@ impl fmt::Display for Number {
     }
 }
 
-/// No reply number: document 01 has 0 to 22.
+/// No reply number: the documents have 0 to 22, and 25.
 #[derive(Debug, Clone, Copy, PartialEq, Eq)]
 pub struct NoSuchNumber(pub u32);
 
@@ -155,9 +159,9 @@ impl TryFrom<u32> for Number {
     type Error = NoSuchNumber;
 
     fn try_from(code: u32) -> Result<Number, NoSuchNumber> {
-        let at = usize::try_from(code).ok();
-        let number = at.and_then(|at| Number::ALL.get(at));
-        number.copied().ok_or(NoSuchNumber(code))
+        let mut numbers = Number::ALL.into_iter();
+        let number = numbers.find(|number| number.code() == code);
+        number.ok_or(NoSuchNumber(code))
     }
 }
 
@@ -166,16 +170,17 @@ mod tests {
     use super::*;
 
     #[test]
-    fn each_number_is_its_place_in_the_list() {
-        for (code, number) in (0..).zip(Number::ALL) {
-            assert_eq!(number.code(), code);
-            assert_eq!(Number::try_from(code), Ok(number));
+    fn each_number_is_found_by_its_code() {
+        assert_eq!(Number::ALL.map(Number::code)[..23], Vec::from_iter(0..23));
+        assert_eq!(Number::ALL.map(Number::code)[23..], [25]);
+        for number in Number::ALL {
+            assert_eq!(Number::try_from(number.code()), Ok(number));
         }
     }
 
     #[test]
     fn no_other_number_is_one() {
-        for code in [23, 255, 256, u32::MAX] {
+        for code in [23, 24, 26, 255, 256, u32::MAX] {
             assert_eq!(Number::try_from(code), Err(NoSuchNumber(code)));
         }
     }

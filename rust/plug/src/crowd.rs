@@ -39,7 +39,7 @@ pub struct Counts {
     pub taken: u64,
     pub answered: u64,
     /// How often each number was answered, from 0.
-    pub numbers: [u64; 23],
+    pub numbers: [u64; beside::COUNTS],
     /// Kills after which the file was no table that a request begins or ends with.
     pub half_stored: u64,
     /// Milliseconds of the clients' work, the checking not counted.

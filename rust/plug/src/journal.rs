@@ -70,7 +70,7 @@ pub struct Replayed {
     pub taken: u64,
     pub answered: u64,
     /// How often each number was answered.
-    pub numbers: [u64; 23],
+    pub numbers: [u64; beside::COUNTS],
 }
 
 /// Do the requests of a journal in their order by the second program. Every answer that a fixture got must be that, each
@@ -81,7 +81,7 @@ pub fn replay(journal: &[u8], table: &[u8], told: &[Vec<Told>]) -> Result<Replay
         stations: vec![table.to_vec()],
         taken: 0,
         answered: 0,
-        numbers: [0; 23],
+        numbers: [0; beside::COUNTS],
     };
     for taken in taken(journal) {
         let before = replayed.stations.pop().unwrap_or_default();

@@ -6,7 +6,7 @@ use crate::Random;
 
 /// A declaration with this lifetime, now and then with a level, and with a digit that seldom inhibits.
 pub fn declaration(random: &mut Random, lifetime: &str) -> String {
-    let level = random.pick(&["", "", "U", "P", "A", "S"]);
+    let level = random.pick(&["", "U", "P", "A", "S", "S"]);
     let digit = match random.below(24) {
         0 => "1",
         1 => "2",
@@ -21,7 +21,7 @@ pub fn declaration(random: &mut Random, lifetime: &str) -> String {
 /// A well-formed line of one of the nine functions over chains of the table.
 pub fn granted(random: &mut Random, table: &[u8], user: u32) -> String {
     let (one, other) = (old(random, table, user), new(random, table, user));
-    match random.below(35) {
+    match random.below(39) {
         0..=5 => format!("CRD {other} {}", declaration(random, "")),
         6..=10 => {
             let lifetime = random.pick(&["M", "L"]);
@@ -31,18 +31,19 @@ pub fn granted(random: &mut Random, table: &[u8], user: u32) -> String {
             let lifetime = random.pick(&["", "", "M", "L"]);
             format!("CPY {one} {other} {}", declaration(random, lifetime))
         }
-        14 => format!("CPY {one} {one}"),
-        15..=19 => format!("DUP {one} {other} {}", random.pick(&["-", ".", ".4", ".1"])),
-        20 => format!("DUP {one} {one}"),
-        21..=23 => format!("CHN {one} {}", renamed(random, &one)),
-        24..=26 => format!("DPR {one} .{}", random.pick(&[0, 4, 4, 6, 7, 1, 2, 3])),
-        27 => format!("DEL {one}"),
-        28 | 29 => {
+        14..=17 => format!("CPY {one} {other} .{}", random.pick(&["U", "P", "A"])),
+        18 => format!("CPY {one} {one}"),
+        19..=23 => format!("DUP {one} {other} {}", random.pick(&["-", ".", ".4", ".1"])),
+        24 => format!("DUP {one} {one}"),
+        25..=27 => format!("CHN {one} {}", renamed(random, &one)),
+        28..=30 => format!("DPR {one} .{}", random.pick(&[0, 4, 4, 6, 7, 1, 2, 3])),
+        31 => format!("DEL {one}"),
+        32 | 33 => {
             let more = (0..random.below(8)).map(|_| old(random, table, user));
             format!("DEL {one} {}", more.collect::<Vec<String>>().join(" "))
         }
-        30 | 31 => format!("RDS {one}"),
-        32 | 33 => format!("LST {one}"),
+        34 | 35 => format!("RDS {one}"),
+        36 | 37 => format!("LST {one}"),
         _ => "LST .".to_string(),
     }
 }
