@@ -73,49 +73,42 @@ pub fn byte_at(s: &[u8], place: usize) -> u8
     if place < s.len() { s[place] } else { 0 }
 }
 
-// The two-byte number at a place, low byte first.
-fn two_at(s: &[u8], place: usize) -> u16
-    ensures { λ r. ⌜ r ≡ two (now (s .entry)) place ⌝ }
-{
-    if s.len() <= place {
-        return 0;
-    }
-    let low = byte_at(s, place) as u16;
-    let high = byte_at(s, place + 1) as u16;
-    low + high * 256
-}
-
-// The three-byte number at a place, low byte first.
-fn three_at(s: &[u8], place: usize) -> u32
-    ensures { λ r. ⌜ r ≡ three (now (s .entry)) place ⌝ }
-{
-    if s.len() <= place {
-        return 0;
-    }
-    let low = byte_at(s, place) as u32;
-    let rest = two_at(s, place + 1) as u32;
-    low + rest * 256
-}
-
-// The byte at a place of a record.
+// The byte at a place of a record, read where it stands.
 pub fn byte_of(table: &[u8], room: Room, place: usize) -> u8
     ensures { λ r. ⌜ r ≡ byte (rec (now (table .entry)) (room .0)) place ⌝ }
 {
-    byte_at(record_at(table, room), place)
+    let i = room.0;
+    if rooms(table).0 <= i {
+        return byte_at(record_at(table, room), place);
+    }
+    if Room::SIZE <= place {
+        return 0;
+    }
+    table[i * Room::SIZE + place]
 }
 
-// The two-byte number at a place of a record.
+// The two-byte number at a place of a record, low byte first.
 pub fn two_of(table: &[u8], room: Room, place: usize) -> u16
     ensures { λ r. ⌜ r ≡ two (rec (now (table .entry)) (room .0)) place ⌝ }
 {
-    two_at(record_at(table, room), place)
+    if Room::SIZE <= place {
+        return 0;
+    }
+    let low = byte_of(table, room, place) as u16;
+    let high = byte_of(table, room, place + 1) as u16;
+    low + high * 256
 }
 
-// The three-byte number at a place of a record.
+// The three-byte number at a place of a record, low byte first.
 pub fn three_of(table: &[u8], room: Room, place: usize) -> u32
     ensures { λ r. ⌜ r ≡ three (rec (now (table .entry)) (room .0)) place ⌝ }
 {
-    three_at(record_at(table, room), place)
+    if Room::SIZE <= place {
+        return 0;
+    }
+    let low = byte_of(table, room, place) as u32;
+    let rest = two_of(table, room, place + 1) as u32;
+    low + rest * 256
 }
 
 // The kind of a record: 0 free, 1 heading, 2 entry, 3 text.

@@ -5,6 +5,8 @@ use crate::bytes::part;
 use crate::bytes::record_at;
 use crate::bytes::rooms;
 ghost use mathlib.Core.Path.{_≡_};
+ghost use Prim.Native.Nat.{_+_, _≤_};
+ghost use lib.ListN.{length};
 ghost use lib.Seq.{sets};
 ghost use Rattle.paper.specs.Record.{blank, padded};
 ghost use Rattle.paper.specs.Table.{rec, lay};
@@ -25,15 +27,33 @@ pub fn copy_in(into: &mut [u8], at: usize, from: &[u8])
     }
 }
 
+// A record's bytes laid from a place on, all 32: a loop of that length is a few moves of the machine.
+fn lay_whole(table: &mut [u8], at: usize, bytes: [u8; Room::SIZE])
+    requires { ⌜ at + 32 ≤ length (now table) ⌝ }
+    ensures { λ _. ⌜ now (table .exit) ≡ sets (now (table .entry)) at bytes ⌝ }
+{
+    let mut j: usize = 0;
+    while j < Room::SIZE {
+        table[at + j] = bytes[j];
+        j += 1;
+    }
+}
+
 // One store: a record laid at its place. Past the end nothing changes.
 pub fn store(table: &mut [u8], room: Room, bytes: [u8; Room::SIZE])
     ensures { λ _. ⌜ now (table .exit) ≡ lay (now (table .entry)) (room .0) bytes ⌝ }
 {
     let i = room.0;
-    if rooms(table).0 < i {
+    let n = rooms(table).0;
+    if n < i {
         return;
     }
-    copy_in(table, i * Room::SIZE, &bytes);
+    let at = i * Room::SIZE;
+    if i == n {
+        copy_in(table, at, &bytes);
+        return;
+    }
+    lay_whole(table, at, bytes);
 }
 
 // A record cleared.

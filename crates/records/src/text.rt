@@ -9,7 +9,8 @@ use crate::bytes::two_of;
 use crate::store::copy_in;
 ghost use mathlib.Core.Path.{_≡_};
 ghost use Prim.Native.Nat.{_<_};
-ghost use lib.ListN.{take};
+ghost use lib.ListN.{length, take};
+ghost use lib.Seq.{sets};
 ghost use Rattle.paper.specs.Record.{bytesHeld, headingOf, position, held, textRecord};
 ghost use Rattle.paper.specs.Table.{rec};
 ghost use Rattle.paper.specs.Block.{block};
@@ -52,6 +53,9 @@ impl Text {
         r[Text::HEADING + 1] = (h / 256 % 256) as u8;
         r[Text::POSITION] = (p % 256) as u8;
         r[Text::POSITION + 1] = (p / 256 % 256) as u8;
+        if held.len() == Text::MOST_HELD {
+            return with_block(r, held);
+        }
         copy_in(&mut r, Text::BYTES, held);
         r
     }
@@ -63,6 +67,20 @@ impl Text {
         let p = self.position;
         self.laid(block_at(text, p))
     }
+}
+
+// A text record with a whole block laid in it.
+fn with_block(begun: [u8; Room::SIZE], block: &[u8]) -> [u8; Room::SIZE]
+    requires { ⌜ length (now block) ≡ 24 ⌝ }
+    ensures { λ r. ⌜ r ≡ sets begun 8 (now (block .entry)) ⌝ }
+{
+    let mut r = begun;
+    let mut j: usize = 0;
+    while j < Text::MOST_HELD {
+        r[Text::BYTES + j] = block[j];
+        j += 1;
+    }
+    r
 }
 
 fn bytes_held(table: &[u8], room: Room) -> Bytes

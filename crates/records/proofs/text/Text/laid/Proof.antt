@@ -49,18 +49,27 @@ add-r-2 c = search needs
 array-write-r-6 : tie.Need-array-write-r-6
 array-write-r-6 c = search needs
 
+with-block-requires : tie.Need-with-block-requires
+with-block-requires c κs = omega arith
+
+returns : tie.Need-returns
+returns c =
+    let c2 = c .before .before in
+    let a = c2 .before .before .args in
+    c .with-block .ensures ∙ text-over (a .self .heading .0) (a .self .position .0) (a .bytes .now) _ (c2 .part .ensures)
+
 slice-aggregate-copy-in : tie.Need-slice-aggregate-copy-in
 slice-aggregate-copy-in c = search needs
 
 copy-in-requires : tie.Need-copy-in-requires
 copy-in-requires c κs = search needs
 
-returns : tie.Need-returns
-returns c =
-    let c3 = c .before .before .before in
-    let c5 = c3 .before .before in
+returns-2 : tie.Need-returns-2
+returns-2 c =
+    let c4 = c .before .before .before .before in
+    let c6 = c4 .before .before in
     c .before .copy-in .ensures
-    ∙ text-over (c5 .args .self .heading .0) (c5 .args .self .position .0) (c5 .args .bytes .now) _ (c3 .part .ensures)
+    ∙ text-over (c6 .args .self .heading .0) (c6 .args .self .position .0) (c6 .args .bytes .now) _ (c4 .part .ensures)
 
 pub laid-spec : {M : Type 1} → statement M
 laid-spec =
@@ -80,6 +89,8 @@ laid-spec =
     cast-r-5
     add-r-2
     array-write-r-6
+    with-block-requires
+    returns
     slice-aggregate-copy-in
     copy-in-requires
-    returns)
+    returns-2)
