@@ -14,7 +14,7 @@ use Rattle.paper.specs.Listing.{listed, lines}
 use Rattle.effects.specs.Listed.{textRooms, gathered}
 use Rattle.effects.proofs.Papers.{sized-most, file-text, taken-front}
 use Rattle.effects.proofs.Lengths.{length-few, blocks-few, text-length}
-use Rattle.listing.specs.Picked.{sizeAt, sizeBelow}
+use Rattle.listing.specs.Ordered.{sizeAt, sizeBelow}
 use Rattle.listing.proofs.Sizes.{name-short, size-listed}
 use Rattle.elephant.specs.Done.{Fit}
 

@@ -1,5 +1,4 @@
 pub mod Sizes
-pub mod Picks
+pub mod Inserted
 pub mod Written
-pub mod Sorted
 pub mod Promised

@@ -1,33 +1,29 @@
--- On a sound table what is written is what document 01 lists: no two entries of one list bear one name, so they are picked in order,
--- and every entry's code is a digit.
-use mathlib.Core.Bool.{Bool, true, cond}
+-- On a sound table the lines written are those of document 01,
+-- since there every entry's code is a digit.
+use mathlib.Core.Bool.{true, cond}
 use mathlib.Core.List.{List, [], _∷_, _++_}
-use mathlib.Core.Logic.{_≢_, by-cases}
-use mathlib.Core.Path.{_≡_, refl, sym, ap₂, _∙_}
+use mathlib.Core.Path.{_≡_, refl, ap₂, _∙_}
 use Prim.Native.Nat.{ℕ, _%_, _≤_, _<_}
 use native.Mathlib.Omega.{arith}
 use native.Mathlib.Nat.{zero-add}
-use native.Mathlib.Decide.{ℕ-discrete, decLt}
 use lib.ListN.{length, drop}
 use lib.Seq.{sets, sets-eq}
 use lib.Dec.{leb}
-use borrow.Author.Tests.{leb-true, le-leb, not-true}
-use Rattle.paper.specs.Record.{nameOf, entryCode}
+use borrow.Author.Tests.{leb-true, le-leb}
+use Rattle.paper.specs.Record.{entryCode}
 use Rattle.paper.specs.Table.{rooms, rec}
-use Rattle.paper.specs.Entry.{Holder, baseList, inDirectory, holder, stands}
+use Rattle.paper.specs.Entry.{Holder, baseList, inDirectory, stands}
 use Rattle.paper.specs.Listing.{line, lineOf, listed, lines}
-use Rattle.paper.specs.Sound.{sound, entryAsAbove, notTwice, noneTwice}
-use Rattle.laws.proofs.Tests.{not-both, and-left}
-use Rattle.laws.proofs.Scans.{any-false}
+use Rattle.paper.specs.Sound.{sound, entryAsAbove}
+use Rattle.laws.proofs.Tests.{and-left}
 use Rattle.laws.proofs.Lists.{Every}
 use Rattle.laws.proofs.Sound.{Tested, tested, above-view, every-true}
-use Rattle.laws.proofs.Entries.{Stands, stands-true, bears-by}
-use Rattle.laws.proofs.Orders.{Apart, every-listed}
+use Rattle.laws.proofs.Entries.{Stands, stands-true}
+use Rattle.laws.proofs.Orders.{every-listed}
 use Rattle.listing.specs.declared.Listed.{Listed}
 use Rattle.listing.specs.declared.Listed.the-variants.{Directory, Base}
 use Rattle.listing.specs.Shown.{isListed}
-use Rattle.listing.specs.Picked.{picked, lineShown, linesShown}
-use Rattle.listing.proofs.Sorted.{picked-listed}
+use Rattle.listing.specs.Ordered.{lineShown, linesShown}
 
 -- ---- codes
 
@@ -39,13 +35,6 @@ lines-code : (t es : List ℕ) → Every (λ e. entryCode (rec t e) ≤ 7) es �
 unfolding linesShown lines
 lines-code t [] h = refl
 lines-code t (e ∷ es) h = ap₂ _++_ (line-code t e (h .0)) (lines-code t es (h .1))
-
--- what is written is what is listed, where no two that pass bear one name and every code is a digit
-pub shown-listed : (t : List ℕ) (test : List ℕ → Bool) → Apart t test
-    → ((i : ℕ) → i < rooms t → test (rec t i) ≡ true → entryCode (rec t i) ≤ 7)
-    → linesShown t (picked t test) ≡ lines t (listed t test)
-shown-listed t test a h =
-    rw (picked-listed t test a) (lines-code t (listed t test) (every-listed (λ e. entryCode (rec t e) ≤ 7) t test h))
 
 -- ---- a sound table
 
@@ -59,33 +48,16 @@ unfolding holderOf
 listed-stands (Directory h) r e = stands-true (inDirectory (h .0)) r e
 listed-stands (Base u) r e = stands-true (baseList u) r (and-left (stands (baseList u) r) _ e)
 
--- an entry with the same name in the same place does not stand before another
-not-before : (d : Holder) (t : List ℕ) → Tested t → (i j : ℕ) → i < rooms t → j < i → Stands d (rec t i) → Stands d (rec t j)
-    → nameOf (rec t i) ≡ nameOf (rec t j) → ⊥
-unfolding noneTwice
-not-before d t c i j l m p q e =
-    not-both
-    (bears-by (holder (rec t i)) (nameOf (rec t i)) (rec t j)
-    (record { kind = q .kind; heading = q .heading ∙ sym (p .heading); user = q .user ∙ sym (p .user) }) e)
-    (any-false _ i j m (not-true _ (every-true 2 (notTwice t) t (c .twice) i l (p .kind))))
-
-sound-apart : (w : Listed) (t : List ℕ) → Tested t → Apart t (isListed w)
-sound-apart w t c i j l m p q e =
-    by-cases (ℕ-discrete i j) (λ (x : i ≡ j). x)
-    (λ (x : i ≢ j).
-    by-cases (decLt j i)
-    (λ (y : j < i). absurd (not-before (holderOf w) t c i j l y (listed-stands w _ p) (listed-stands w _ q) e))
-    (λ (y : ¬ (j < i)). absurd (not-before (holderOf w) t c j i m (omega arith) (listed-stands w _ q) (listed-stands w _ p) (sym e))))
-
 sound-code : (w : Listed) (t : List ℕ) → Tested t → (i : ℕ) → i < rooms t → isListed w (rec t i) ≡ true → entryCode (rec t i) ≤ 7
 sound-code w t c i l p =
     leb-true _ 7 (and-left _ _ (and-left _ _ (every-true 2 entryAsAbove t (above-view t (c .above) .entry) i l (listed-stands w (rec t i) p .kind))))
 
 -- on a sound table the lines written are those of document 01
-pub sound-listed : (w : Listed) (t : List ℕ) → sound t ≡ true → linesShown t (picked t (isListed w)) ≡ lines t (listed t (isListed w))
+pub sound-listed : (w : Listed) (t : List ℕ) → sound t ≡ true
+    → linesShown t (listed t (isListed w)) ≡ lines t (listed t (isListed w))
 sound-listed w t e =
-    let c = tested t e in
-    shown-listed t (isListed w) (sound-apart w t c) (sound-code w t c)
+    lines-code t (listed t (isListed w))
+    (every-listed (λ e. entryCode (rec t e) ≤ 7) t (isListed w) (sound-code w t (tested t e)))
 
 -- bytes that fit, written to the front: "The rest of the buffer is unchanged."
 pub sets-front : (s reply : List ℕ) → length s ≤ length reply → sets reply 0 s ≡ s ++ drop (length s) reply
@@ -93,6 +65,6 @@ sets-front s reply l = sets-eq s reply 0 (omega arith) ∙ rw zero-add
 
 -- the reply after `write_lines`, where the table has room in the list and the lines fit
 pub reply-after : (w : Listed) (t reply : List ℕ) → rooms t ≤ 2048 → sound t ≡ true → length (lines t (listed t (isListed w))) ≤ length reply
-    → cond (leb (rooms t) 2048) (sets reply 0 (linesShown t (picked t (isListed w)))) reply
+    → cond (leb (rooms t) 2048) (sets reply 0 (linesShown t (listed t (isListed w)))) reply
     ≡ lines t (listed t (isListed w)) ++ drop (length (lines t (listed t (isListed w)))) reply
 reply-after w t reply m e l = rw (le-leb (rooms t) 2048 m, sound-listed w t e) (sets-front (lines t (listed t (isListed w))) reply l)

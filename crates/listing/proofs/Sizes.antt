@@ -12,7 +12,7 @@ use Rattle.paper.specs.Record.{nameOf}
 use Rattle.paper.specs.Table.{rooms, rec}
 use Rattle.paper.specs.Name.{before}
 use Rattle.paper.specs.Listing.{line, lineOf, insert, inOrder, listed, lines}
-use Rattle.listing.specs.Picked.{sizeAt, sizeBelow}
+use Rattle.listing.specs.Ordered.{sizeAt, sizeBelow}
 
 pub length-line : (h r : List ℕ) → length (line h r) ≡ 11 + length (nameOf r)
 unfolding line

@@ -1,2 +1,2 @@
 pub mod Shown
-pub mod Picked
+pub mod Ordered

@@ -2,12 +2,9 @@
 use mathlib.Core.Bool.{Bool, _&&_, not}
 use mathlib.Core.List.{List}
 use Prim.Native.Nat.{ℕ}
-use Rattle.paper.specs.Scan as paper
 use Rattle.paper.specs.Record.{nameOf}
 use Rattle.paper.specs.Name.{same, dotW}
 use Rattle.paper.specs.Entry.{stands, baseList, inDirectory}
-use Rattle.scans.specs.declared.Found.{Found}
-use Rattle.scans.specs.declared.Found.the-variants.{At, Nowhere}
 use Rattle.listing.specs.declared.Listed.{Listed}
 use Rattle.listing.specs.declared.Listed.the-variants.{Directory, Base}
 
@@ -15,8 +12,3 @@ use Rattle.listing.specs.declared.Listed.the-variants.{Directory, Base}
 abbrev pub isListed : Listed → List ℕ → Bool
 isListed (Directory h) = stands (inDirectory (h .0))
 isListed (Base u) = λ r. stands (baseList u) r && not (same dotW (nameOf r))
-
--- where something was found, if it was
-abbrev pub foundPaper : Found → paper.Found
-foundPaper (At i) = paper.at (i .0)
-foundPaper Nowhere = paper.nowhere
