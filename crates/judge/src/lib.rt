@@ -1,32 +1,73 @@
-// Is this table sound?
+// Is this table sound? One pass over its records, and what they leave to be compared at its end.
+mod crowds;
+mod entry;
+mod heading;
+mod name;
+mod named;
+mod pass;
+mod read;
+mod text;
+mod twins;
+mod zeros;
+
+use crate::crowds::crowd_all;
+use crate::name::classes;
+use crate::named::mark_named;
+use crate::pass::are_named;
+use crate::pass::pass_all;
+use crate::text::lay_out;
 use records::bytes::Room;
 use records::bytes::is_sized;
+use records::entry::Entry;
 ghost use mathlib.Core.Path.{_≡_};
 ghost use mathlib.Core.Bool.{true};
 ghost use Rattle.paper.specs.Table.{sized};
 ghost use Rattle.paper.specs.Sound.{sound};
 ghost use Rattle.judge_laws.specs.Mask.{without};
+ghost use Rattle.judge_laws.specs.Naming.{namedMarks};
 ghost use Rattle.judge.specs.Judged.{judged};
 
-// Whether a sized table is sound without the records that go. The records are judged one by one first: then the same bytes are the
-// same name. No entry goes, so twins and crowds are those of the table.
+// Whether a sized table is sound without the records that go. No user can have too many base files where there are few in all.
 fn is_sound(table: &[u8], gone: &[u8; Room::MOST]) -> bool
     requires { ⌜ sized (now table) ≡ true ⌝ }
     ensures { λ r. ⌜ r ≡ sound (without (now (gone .entry)) (now (table .entry))) ⌝ }
 {
-    if !shapes::records_are_right(table, gone) {
+    let mut start = [0u16; Room::MOST];
+    let slots = lay_out(table, gone, &mut start);
+    if table.len() / Room::SIZE < slots {
         return false;
     }
-    if !marks::headings_are_named(table, gone) {
+    let class = classes();
+    let mut mark = [0u8; Room::MOST];
+    let mut named = [0u16; Room::MOST];
+    let mut held = [0u8; Room::MOST];
+    let mut head = [0u16; Room::MOST];
+    let mut next = [0u16; Room::MOST];
+    let s = pass_all(
+        table,
+        gone,
+        &class,
+        &start,
+        &mut mark,
+        &mut named,
+        &mut held,
+        &mut head,
+        &mut next,
+    );
+    if !s.right {
         return false;
     }
-    if !marks::text_is_sound(table, gone) {
+    if s.texts != slots {
         return false;
     }
-    if !twins::none_are_twins(table) {
+    if !are_named(table, gone, &named) {
         return false;
     }
-    crowds::none_are_crowded(table)
+    if s.bases <= Entry::MOST_BASE_FILES {
+        return true;
+    }
+    head = [0u16; Room::MOST];
+    crowd_all(table, &mut head, &mut next, &mut mark)
 }
 
 // The number for the table as it would be without the records that go: those that `gone` marks and that are no entries.
@@ -47,4 +88,13 @@ pub fn judge(table: &[u8]) -> u8
     ensures { λ r. ⌜ r ≡ judged (now (table .entry)) ⌝ }
 {
     judge_without(table, &[0u8; Room::MOST])
+}
+
+// The records that an entry names: 1 for each, and else 0.
+pub fn named_records(t: &[u8]) -> [u8; Room::MOST]
+    ensures { λ r. ⌜ r ≡ namedMarks (now (t .entry)) ⌝ }
+{
+    let mut mark = [0u8; Room::MOST];
+    mark_named(t, &mut mark);
+    mark
 }

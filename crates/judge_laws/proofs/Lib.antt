@@ -19,3 +19,5 @@ pub mod Literal
 -- soundness from these, and of a table without some records
 pub mod Sound
 pub mod Mask
+-- one pass: what each kind of record adds, and what it shows at its end
+pub mod Pass

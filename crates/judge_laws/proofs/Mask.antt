@@ -121,9 +121,6 @@ module _ (gone t : List ℕ) where
     simple-without = masked simple refl refl (λ r e. rw (eqb-true (byte r 0) 1 (and-left (isKind 1 r) _ e)))
 
     -- .. and then the record is as it was
-    pub text-kept : (i : ℕ) → isKind 3 (rec (without gone t) i) ≡ true → rec (without gone t) i ≡ rec t i
-    text-kept i e = rec-stays i (and-right (isKind 3 (rec t i)) _ (sym (text-without i) ∙ e))
-
     pub simple-kept : (i : ℕ) → simple (rec (without gone t) i) ≡ true → rec (without gone t) i ≡ rec t i
     simple-kept i e = rec-stays i (and-right (simple (rec t i)) _ (sym (simple-without i) ∙ e))
 

@@ -1,18 +1,24 @@
 -- A name as a stretch of its record, and the tests on names by the bytes there.
 -- In a record of 32 bytes the name of at most 10 bytes is the bytes from place 10 on, so every test on it is a scan of them.
-use mathlib.Core.Bool.{Bool, true, false, _&&_, _||_, true≢false}
+use mathlib.Core.Bool.{Bool, true, false, _&&_, _||_, cond, true≢false}
 use mathlib.Core.List.{List, [], _∷_}
+use mathlib.Core.Logic.{_≢_, by-cases}
 use mathlib.Core.Path.{_≡_, refl, sym, _∙_}
-use Prim.Native.Nat.{ℕ, zero, suc, _+_, _≤_, _<_}
+use Prim.Native.Nat.{ℕ, zero, suc, _+_, _-_, _≤_, _<_}
 use native.Mathlib.Omega.{arith}
-use lib.ListN.{length, getD, length-take, length-drop}
-use lib.Seq.{getD-take, getD-drop}
-use lib.Dec.{eqb, leb}
-use borrow.Author.Tests.{ne-eqb, leb-true, le-leb}
-use Rattle.judge_laws.specs.Shapes.{area}
+use native.Mathlib.Decide.{ℕ-discrete, decLt}
+use lib.ListN.{length, getD, set, length-set, length-take, length-drop}
+use lib.Seq.{getD-take, getD-drop, getD-set-same, getD-set-other}
+use lib.Dec.{eqb, leb, ltb}
+use borrow.Author.Tests.{eqb-true, eq-eqb, ne-eqb, leb-true, le-leb, lt-leb, ltb-true, lt-ltb, le-ltb}
+use Rattle.judge_laws.specs.Shapes.{area, Classed, inNames}
 use Rattle.paper.specs.Name.{same, all, inName, linkName, pointed, inBase, legalBase}
-use Rattle.paper.specs.Record.{byte, nameLength, nameOf}
-use Rattle.laws.proofs.Tests.{and-left, and-right, and-both, and-no-right, false-by, joined, joined-first, joined-part}
+use Rattle.paper.specs.Record.{byte, nameLength, nameOf, zeros}
+use Rattle.paper.specs.Scan.{countBelow}
+use Rattle.laws.proofs.Counts.{count-more, count-most}
+use Rattle.laws.proofs.Scans.{all-true}
+use Rattle.laws.proofs.Tests.{and-left, and-right, and-both, and-no-right, false-by, joined, joined-first, joined-part, same-truth}
+use Rattle.judge_laws.proofs.Lasts.{count-drop}
 
 -- tests over a list are tests at each place
 pub all-at : (p : ℕ → Bool) (m : List ℕ) → all p m ≡ true → (j : ℕ) → j < length m → p (getD m j 0) ≡ true
@@ -64,8 +70,60 @@ module _ (r : List ℕ) (w : length r ≡ 32) (s : nameLength r ≤ 10) where
   pub link-none : nameLength r < 1 → linkName (nameOf r) ≡ false
   link-none l = false-by (linkName (nameOf r)) (λ e. let h = link-view r w s e in let z : ⊥ = omega arith in z)
 
-  pub link-not : (j : ℕ) → j < nameLength r → inName (byte r (10 + j)) ≡ false → linkName (nameOf r) ≡ false
-  link-not j l n = false-by (linkName (nameOf r)) (λ e. true≢false (sym (link-view r w s e .bytes j l) ∙ n))
+-- as many as there are: every one
+count-full : (p : ℕ → Bool) (n : ℕ) → countBelow p n ≡ n → (j : ℕ) → j < n → p j ≡ true
+unfolding countBelow
+count-full p zero e j l = let z : ⊥ = omega arith in absurd z
+count-full p (suc n) e j l = go (p n) refl e (λ f m. count-full p n f j m)
+  where
+    go : (b : Bool) → p n ≡ b → cond b (countBelow p n + 1) (countBelow p n) ≡ suc n → (countBelow p n ≡ n → j < n → p j ≡ true) → p j ≡ true
+    go true q f h = by-cases (ℕ-discrete j n) (λ (x : j ≡ n). rw x q) (λ (x : j ≢ n). h (omega arith) (omega arith))
+    go false q f h = let z : ⊥ = omega (arith, count-most p n) in absurd z
+
+full-count : (p : ℕ → Bool) (n : ℕ) → ((j : ℕ) → j < n → p j ≡ true) → countBelow p n ≡ n
+unfolding countBelow
+full-count p zero h = refl
+full-count p (suc n) h = rw (h n (omega arith), full-count p n (λ j l. h j (omega arith))) (omega arith)
+
+pub names-none : (r : List ℕ) → inNames r 0 ≡ 0
+unfolding inNames countBelow
+names-none r = refl
+
+pub names-more : (r : List ℕ) (j : ℕ) → inNames r (j + 1) ≡ inNames r j + cond (inName (byte r (10 + j))) 1 0
+unfolding inNames
+names-more r j = count-more (λ m. inName (byte r (10 + m))) j ∙ go (inName (byte r (10 + j)))
+  where
+    go : (b : Bool) → cond b (inNames r j + 1) (inNames r j) ≡ inNames r j + cond b 1 0
+    go true = refl
+    go false = omega arith
+
+pub names-most : (r : List ℕ) (j : ℕ) → inNames r j ≤ j
+unfolding inNames
+names-most r j = count-most (λ m. inName (byte r (10 + m))) j
+
+-- a padded name is a link name when as many of the ten bytes may be in a name as it has: no byte past it may
+module _ (r : List ℕ) (w : length r ≡ 32) (s : nameLength r ≤ 10) (l : 1 ≤ nameLength r)
+    (z : zeros (10 + nameLength r) (10 - nameLength r) r ≡ true) where
+  past : (j : ℕ) → nameLength r ≤ j → j < 10 → inName (byte r (10 + j)) ≡ false
+  unfolding zeros
+  past j a b =
+      let q : 10 + j ≡ (10 + nameLength r) + (j - nameLength r) = omega arith in
+      let e : byte r ((10 + nameLength r) + (j - nameLength r)) ≡ 0 =
+      eqb-true _ _ (all-true (λ i. eqb (byte r ((10 + nameLength r) + i)) 0) (10 - nameLength r) (j - nameLength r) (omega arith) z) in
+      rw (q, e)
+
+  pub link-count : eqb (inNames r 10) (nameLength r) ≡ linkName (nameOf r)
+  unfolding inNames
+  link-count =
+      same-truth (eqb (inNames r 10) (nameLength r)) _
+      (λ e. link-made r w s (record { some = l; bytes = count-full p (nameLength r) (sym same ∙ eqb-true _ _ e) }))
+      (λ e. eq-eqb _ _ (same ∙ full-count p (nameLength r) (link-view r w s e .bytes)))
+    where
+      p : ℕ → Bool
+      p m = inName (byte r (10 + m))
+
+      same : countBelow p 10 ≡ countBelow p (nameLength r)
+      same = count-drop p (nameLength r) 10 s past
 
 -- a legal base name, by its length
 pub legal-plain : (m : List ℕ) → (getD m 0 0 ≡ 46 → ⊥) → legalBase m ≡ false
@@ -126,3 +184,56 @@ module _ (r : List ℕ) (w : length r ≡ 32) (s : nameLength r ≤ 10) where
   base-not j l e =
       false-by (all inBase (nameOf r))
       (λ a. true≢false (sym (all-at inBase (nameOf r) a j (omega (arith, name-length r w s))) ∙ rw (name-at r w s j l) e))
+
+-- the classes, byte by byte: 1 from 33 on below b, and then without the two that may not be in a name
+pub record Ranged (class : List ℕ) (b : ℕ) : Type 0 where
+  pub at : (x : ℕ) → x < 256 → getD class x 0 ≡ cond (leb 33 x && ltb x b) 1 0
+  pub long : length class ≡ 256
+
+pub ranged-none : (class : List ℕ) → length class ≡ 256 → ((x : ℕ) → x < 256 → getD class x 0 ≡ 0) → Ranged class 33
+ranged-none class l z = record { at = λ x b. z x b ∙ sym (go x (decLt x 33)); long = l }
+  where
+    go : (x : ℕ) → Dec (x < 33) → _≡_ {A = ℕ} (cond (leb 33 x && ltb x 33) 1 0) 0
+    go x d =
+        by-cases d (λ (q : x < 33). rw (lt-leb 33 x q))
+        (λ (q : ¬ (x < 33)). rw (and-no-right (leb 33 x) (ltb x 33) (le-ltb x 33 (omega arith))))
+
+pub ranged-more : (class : List ℕ) (b : ℕ) → Ranged class b → 33 ≤ b → b < 256 → Ranged (set class b 1) (b + 1)
+ranged-more class b h a l =
+    record {
+      at = λ x m. by-cases (ℕ-discrete x b)
+          (λ (q : x ≡ b). rw (q, le-leb 33 b a, lt-ltb b (b + 1) (omega arith)) (getD-set-same class b 1 0 (omega (arith, h .long))))
+          (λ (q : x ≢ b). getD-set-other class b x 1 0 q ∙ h .at x m ∙ rw (below x q));
+      long = length-set class b 1 ∙ h .long;
+    }
+  where
+    below : (x : ℕ) → x ≢ b → ltb x b ≡ ltb x (b + 1)
+    below x q = same-truth (ltb x b) (ltb x (b + 1)) (λ e. lt-ltb x (b + 1) (omega (arith, ltb-true x b e)))
+        (λ e. lt-ltb x b (omega (arith, ltb-true x (b + 1) e)))
+
+pub ranged-classed : (class : List ℕ) → Ranged class 96 → Classed (set (set class 58 0) 64 0)
+ranged-classed class h =
+    record {
+      at = λ x m. at x m (ℕ-discrete x 64) (ℕ-discrete x 58);
+      long = length-set (set class 58 0) 64 0 ∙ length-set class 58 0 ∙ h .long;
+    }
+  where
+    long : length (set class 58 0) ≡ 256
+    long = length-set class 58 0 ∙ h .long
+
+    upper : (x : ℕ) → ltb x 96 ≡ leb x 95
+    upper x = same-truth (ltb x 96) (leb x 95) (λ e. le-leb x 95 (omega (arith, ltb-true x 96 e))) (λ e. lt-ltb x 96 (omega (arith, leb-true x 95 e)))
+
+    plain : (a b : Bool) → _≡_ {A = ℕ} (cond (a && b) 1 0) (cond (a && b && true && true) 1 0)
+    plain true true = refl
+    plain true false = refl
+    plain false b = refl
+
+    at : (x : ℕ) → x < 256 → Dec (x ≡ 64) → Dec (x ≡ 58) → getD (set (set class 58 0) 64 0) x 0 ≡ cond (inName x) 1 0
+    at x m d f =
+        by-cases d (λ (q : x ≡ 64). rw q (getD-set-same (set class 58 0) 64 0 0 (omega (arith, long))))
+        (λ (q : x ≢ 64). by-cases f
+        (λ (r : x ≡ 58). rw r (getD-set-other (set class 58 0) 64 58 0 0 (omega arith) ∙ getD-set-same class 58 0 0 (omega (arith, h .long))))
+        (λ (r : x ≢ 58).
+        getD-set-other (set class 58 0) 64 x 0 0 q ∙ getD-set-other class 58 x 0 0 r ∙ h .at x m
+        ∙ rw (upper x, ne-eqb x 64 q, ne-eqb x 58 r) (plain (leb 33 x) (leb x 95))))

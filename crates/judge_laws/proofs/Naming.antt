@@ -59,15 +59,6 @@ module _ (t mark : List ℕ) (i : ℕ) (m : NamedBelow t mark i) where
       go (inr e) = let r : mark′ ≡ mark = q ∙ rw e in (rw r (none e), rw r z)
 
 module _ (t mark : List ℕ) (m : NamedBelow t mark (rooms t)) where
-  -- the mark tells
-  pub mark-tells : (i : ℕ) → i < 2048 → not (eqb (getD mark i 0) 0) ≡ named t i
-  unfolding named
-  mark-tells i l = rw (m i l) (go (anyBelow (λ j. names i (rec t j)) (rooms t)))
-    where
-      go : (b : Bool) → not (eqb (cond b 1 0) 0) ≡ b
-      go true = refl
-      go false = refl
-
   pub marks-all : length mark ≡ 2048 → mark ≡ namedMarks t
   unfolding namedMarks named
   marks-all z =

@@ -36,8 +36,11 @@ module _ (t : List ℕ) where
   pub sound-not-text : (textsWhole t && noOtherText t) ≡ false → sound t ≡ false
   sound-not-text f = false-by (sound t) (λ e. not-both (and-both (textsWhole t) _ (tested t e .whole) (tested t e .other)) f)
 
-  pub sound-not-twins : shaped t ≡ true → noTwins t ≡ false → sound t ≡ false
-  sound-not-twins s f = false-by (sound t) (λ e. not-both (twins-literal t (shaped-view t s) ∙ tested t e .twice) f)
+  pub sound-not-twins : noTwins t ≡ false → sound t ≡ false
+  sound-not-twins f = false-by (sound t) (λ e. not-both (twins-literal t (shaped-view t (sound-shaped e)) ∙ tested t e .twice) f)
+
+  pub sound-not-crowded : noneCrowded t ≡ false → sound t ≡ false
+  sound-not-crowded f = false-by (sound t) (λ e. not-both (tested t e .crowded) f)
 
   -- the crowds are what is left
   pub sound-left : shaped t ≡ true → allNamed t ≡ true → (textsWhole t && noOtherText t) ≡ true → noTwins t ≡ true → sound t ≡ noneCrowded t

@@ -4,14 +4,14 @@ use mathlib.Core.Bool.{Bool, true, false, _&&_, cond, true≢false}
 use mathlib.Core.List.{List}
 use mathlib.Core.Logic.{_⊎_, inl, inr, _≢_, by-cases}
 use mathlib.Core.Path.{_≡_, refl, sym, ap, _∙_}
-use Prim.Native.Nat.{ℕ, _+_, _≤_, _<_}
+use Prim.Native.Nat.{ℕ, _+_, _-_, _*_, _≤_, _<_}
 use native.Mathlib.Omega.{arith}
-use native.Mathlib.Decide.{ℕ-discrete}
+use native.Mathlib.Decide.{ℕ-discrete, decLt}
 use lib.ListN.{length, getD, set, length-set}
 use lib.Seq.{getD-set-same, getD-set-other}
-use lib.Dec.{eqb}
-use borrow.Author.Tests.{eqb-true, eqb-false, eq-eqb, ne-eqb, lt-ltb, le-ltb}
-use Rattle.judge_laws.specs.Places.{textFits, textSound, weight, starts, slotOf, marksAt, texts, Laid, fresh}
+use lib.Dec.{eqb, leb, ltb}
+use borrow.Author.Tests.{eqb-true, eqb-false, eq-eqb, ne-eqb, leb-true, le-leb, ltb-true, lt-ltb, le-ltb}
+use Rattle.judge_laws.specs.Places.{textFits, textSound, weight, starts, slotOf, marksAt, texts, Laid, Marked, fresh}
 use Rattle.judge_laws.specs.Tally.{sumBelow}
 use Rattle.paper.specs.Block.{blocks, share}
 use Rattle.paper.specs.Record.{byte, isKind, textLength, simple, bytesHeld, headingOf, position}
@@ -20,29 +20,62 @@ use Rattle.paper.specs.Sound.{inPlace}
 use Rattle.paper.specs.Table.{rooms, rec}
 use Rattle.paper.specs.Walk.{start}
 use Rattle.laws.proofs.Counts.{count-more, count-up, count-most}
-use Rattle.laws.proofs.Tests.{truth, and-left, and-right, implies-use, false-by}
+use Rattle.laws.proofs.Tests.{truth, and-left, and-right, implies-use, false-by, same-truth}
 use Rattle.judge_laws.proofs.Sums.{sum-more, sum-up}
 use Rattle.judge_laws.proofs.Text.{place-below, slot-here, sound-fits, sound-once}
 
--- whether a text record is in place, by what its heading asks for
-pub out-of-place : (h r : List ℕ) → weight h ≤ position r → inPlace h r ≡ false
-out-of-place h r l = go (truth (simple h))
+-- whether a text record is in place, without division: a whole block ends below the length or at it, and the last one ends there
+pub place-whole : (h r : List ℕ) → simple h ≡ true → bytesHeld r ≡ 24 → inPlace h r ≡ leb (position r * 24 + 24) (textLength h)
+unfolding share
+place-whole h r s e =
+    same-truth (inPlace h r) _ (λ q. le-leb (position r * 24 + 24) (textLength h) (into q)) (λ q. from (leb-true (position r * 24 + 24) (textLength h) q))
   where
-    go : (simple h ≡ true) ⊎ (simple h ≡ false) → inPlace h r ≡ false
-    go (inl e) = rw (e, le-ltb (position r) (blocks (textLength h)) (rw e at l))
-    go (inr e) = rw e
+    into : inPlace h r ≡ true → position r * 24 + 24 ≤ textLength h
+    into q =
+        let z : (ltb (position r) (blocks (textLength h)) && eqb (bytesHeld r) (share (textLength h) (position r))) ≡ true = rw s at q in
+        let l : position r < blocks (textLength h) = ltb-true (position r) (blocks (textLength h)) (and-left (ltb (position r) (blocks (textLength h)))
+        (eqb (bytesHeld r) (share (textLength h) (position r))) z) in
+        let b : bytesHeld r ≡ share (textLength h) (position r) = eqb-true (bytesHeld r) (share (textLength h) (position r))
+        (and-right (ltb (position r) (blocks (textLength h))) (eqb (bytesHeld r) (share (textLength h) (position r))) z) in
+        by-cases (decLt (position r + 1) (blocks (textLength h)))
+        (λ (y : position r + 1 < blocks (textLength h)). omega arith)
+        (λ (y : ¬ (position r + 1 < blocks (textLength h))).
+        let d : bytesHeld r ≡ textLength h - position r * 24 = rw (le-ltb (position r + 1) (blocks (textLength h)) (omega arith)) at b in omega arith)
 
-pub weighs : (h : List ℕ) (p : ℕ) → p < weight h → (simple h ≡ true) × (weight h ≡ blocks (textLength h))
-weighs h p l = go (truth (simple h))
+    from : position r * 24 + 24 ≤ textLength h → inPlace h r ≡ true
+    from l =
+        let k : position r < blocks (textLength h) = omega arith in
+        rw (s, lt-ltb (position r) (blocks (textLength h)) k, e)
+        (by-cases (decLt (position r + 1) (blocks (textLength h)))
+        (λ (y : position r + 1 < blocks (textLength h)). rw (lt-ltb (position r + 1) (blocks (textLength h)) y))
+        (λ (y : ¬ (position r + 1 < blocks (textLength h))).
+        rw (le-ltb (position r + 1) (blocks (textLength h)) (omega arith)) (eq-eqb 24 (textLength h - position r * 24) (omega arith))))
+
+pub place-last : (h r : List ℕ) → simple h ≡ true → 1 ≤ bytesHeld r → bytesHeld r < 24
+    → inPlace h r ≡ eqb (position r * 24 + bytesHeld r) (textLength h)
+unfolding share
+place-last h r s a m =
+    same-truth (inPlace h r) _ (λ q. eq-eqb (position r * 24 + bytesHeld r) (textLength h) (into q))
+    (λ q. from (eqb-true (position r * 24 + bytesHeld r) (textLength h) q))
   where
-    go : (simple h ≡ true) ⊎ (simple h ≡ false) → (simple h ≡ true) × (weight h ≡ blocks (textLength h))
-    go (inl e) = (e, rw e)
-    go (inr e) = let b : p < 0 = rw e at l in let z : ⊥ = omega arith in absurd z
+    into : inPlace h r ≡ true → position r * 24 + bytesHeld r ≡ textLength h
+    into q =
+        let z : (ltb (position r) (blocks (textLength h)) && eqb (bytesHeld r) (share (textLength h) (position r))) ≡ true = rw s at q in
+        let b : bytesHeld r ≡ share (textLength h) (position r) = eqb-true (bytesHeld r) (share (textLength h) (position r))
+        (and-right (ltb (position r) (blocks (textLength h))) (eqb (bytesHeld r) (share (textLength h) (position r))) z) in
+        by-cases (decLt (position r + 1) (blocks (textLength h)))
+        (λ (y : position r + 1 < blocks (textLength h)).
+        let d : bytesHeld r ≡ 24 = rw (lt-ltb (position r + 1) (blocks (textLength h)) y) at b in let v : ⊥ = omega arith in absurd v)
+        (λ (y : ¬ (position r + 1 < blocks (textLength h))).
+        let d : bytesHeld r ≡ textLength h - position r * 24 = rw (le-ltb (position r + 1) (blocks (textLength h)) (omega arith)) at b in omega arith)
 
-pub in-its-place : (h r : List ℕ) → position r < weight h → inPlace h r ≡ eqb (bytesHeld r) (share (textLength h) (position r))
-in-its-place h r l =
-    let e = weighs h (position r) l in
-    rw (e .0, lt-ltb (position r) (blocks (textLength h)) (rw (e .1) at l))
+    from : position r * 24 + bytesHeld r ≡ textLength h → inPlace h r ≡ true
+    from l =
+        let k : position r < blocks (textLength h) = omega arith in
+        let y : blocks (textLength h) ≤ position r + 1 = omega arith in
+        let d : bytesHeld r ≡ textLength h - position r * 24 = omega arith in
+        rw (s, lt-ltb (position r) (blocks (textLength h)) k, le-ltb (position r + 1) (blocks (textLength h)) y)
+        (eq-eqb (bytesHeld r) (textLength h - position r * 24) d)
 
 module _ (t : List ℕ) where
   pub starts-none : starts t 0 ≡ 0
@@ -85,37 +118,6 @@ module _ (t : List ℕ) where
   unfolding marksAt
   marks-up s m n l = count-up (λ j. isKind 3 (rec t j) && eqb (slotOf t j) s) m n l
 
--- what a turn of the second loop answers, and the marks it leaves
-abbrev pub Turned : List ℕ → List ℕ → ℕ → Bool → List ℕ → Type 0
-Turned t mark i r mark′ = (r ≡ fresh t mark i) × (mark′ ≡ cond (fresh t mark i && isKind 3 (rec t i)) (set mark (slotOf t i) 1) mark)
-
-module _ (t mark : List ℕ) (i : ℕ) where
-  pub turn-other : isKind 3 (rec t i) ≡ false → Turned t mark i true mark
-  turn-other k = (rw k, rw k)
-
-  module _ (k : isKind 3 (rec t i) ≡ true) where
-    pub turn-misplaced : inPlace (rec t (headingOf (rec t i))) (rec t i) ≡ false → Turned t mark i false mark
-    turn-misplaced e = (rw (k, e), rw (k, e))
-
-    pub turn-twice : inPlace (rec t (headingOf (rec t i))) (rec t i) ≡ true → eqb (getD mark (slotOf t i) 0) 0 ≡ false → Turned t mark i false mark
-    turn-twice e z = (rw (k, e, z), rw (k, e, z))
-
-    pub turn-marks : inPlace (rec t (headingOf (rec t i))) (rec t i) ≡ true → eqb (getD mark (slotOf t i) 0) 0 ≡ true
-        → Turned t mark i true (set mark (slotOf t i) 1)
-    turn-marks e z = (rw (k, e, z), rw (k, e, z))
-
-    pub turn-fits : inPlace (rec t (headingOf (rec t i))) (rec t i) ≡ true → textFits t i ≡ true
-    turn-fits e = rw (k, e)
-
--- a mark or none: as long as before
-length-marked : (b : Bool) (mark : List ℕ) (s : ℕ) → length (cond b (set mark s 1) mark) ≡ length mark
-length-marked true mark s = length-set mark s 1
-length-marked false mark s = refl
-
-pub length-turned : (t mark mark′ : List ℕ) (i : ℕ) → mark′ ≡ cond (fresh t mark i && isKind 3 (rec t i)) (set mark (slotOf t i) 1) mark
-    → length mark′ ≡ length mark
-length-turned t mark mark′ i e = ap length e ∙ length-marked (fresh t mark i && isKind 3 (rec t i)) mark (slotOf t i)
-
 -- the slot that the code computes, from the heading number h, its start a and the position p
 pub code-slot : (t start : List ℕ) (i h a p : ℕ) → Laid t start → byte (rec t i) 0 ≡ 3 → h ≡ headingOf (rec t i) → p ≡ position (rec t i)
     → inPlace (rec t h) (rec t i) ≡ true → (a ≡ getD start h 0) → (a + p ≡ slotOf t i) × (a + p < 2048)
@@ -123,23 +125,18 @@ code-slot t start i h a p d k eh ep e ea =
     let e′ : inPlace (rec t (headingOf (rec t i))) (rec t i) ≡ true = rw eh at e in
     let k′ : isKind 3 (rec t i) ≡ true = eq-eqb (byte (rec t i) 0) 3 k in
     let l : headingOf (rec t i) < rooms t = place-below t (headingOf (rec t i)) (rec t i) (d .whole) e′ in
-    let s : slotOf t i < starts t (rooms t) = slot-here t (d .whole) i (turn-fits t start i k′ e′) k′ in
+    let s : slotOf t i < starts t (rooms t) = slot-here t (d .whole) i (rw (k′, e′)) k′ in
     let b : getD start h 0 ≡ starts t (headingOf (rec t i)) = rw eh (d .at (headingOf (rec t i)) l) in
     let q : a + p ≡ slotOf t i = rw (ea, b, ep) in
     (q, omega (arith, d .room, d .small))
 
--- the first i records are judged: their text is in place, and each slot is marked as often as it is taken, at most once
-pub record Marked (t mark : List ℕ) (i : ℕ) : Type 0 where
-  pub fits : (j : ℕ) → j < i → textFits t j ≡ true
-  pub marks : (s : ℕ) → s < starts t (rooms t) → getD mark s 0 ≡ marksAt t s i
-  pub once : (s : ℕ) → s < starts t (rooms t) → marksAt t s i ≤ 1
-
-pub marked-none : (t start mark : List ℕ) → Laid t start → ((s : ℕ) → s < 2048 → getD mark s 0 ≡ 0) → Marked t mark 0
-marked-none t start mark a h =
+pub marked-none : (t start mark : List ℕ) → Laid t start → length mark ≡ 2048 → ((s : ℕ) → s < 2048 → getD mark s 0 ≡ 0) → Marked t mark 0
+marked-none t start mark a z h =
     record {
       fits = λ j l. let z : ⊥ = omega arith in absurd z;
       marks = λ s l. h s (omega (arith, a .room, a .small)) ∙ sym (marks-none t s);
       once = λ s l. omega (arith, marks-none t s);
+      long = z;
     }
 
 module _ (t start mark : List ℕ) (i : ℕ) (a : Laid t start) (l : i < rooms t) (m : Marked t mark i) where
@@ -150,12 +147,13 @@ module _ (t start mark : List ℕ) (i : ℕ) (a : Laid t start) (l : i < rooms t
   fits-more f j b = by-cases (ℕ-discrete j i) (λ (q : j ≡ i). rw q f) (λ (q : j ≢ i). m .fits j (omega arith))
 
   -- a turn that marks
-  marked : length mark ≡ 2048 → fresh t mark i ≡ true → isKind 3 (rec t i) ≡ true → Marked t (set mark (slotOf t i) 1) (i + 1)
-  marked z e k =
+  pub marked : fresh t mark i ≡ true → isKind 3 (rec t i) ≡ true → Marked t (set mark (slotOf t i) 1) (i + 1)
+  marked e k =
       record {
         fits = fits-more f;
         marks = λ s b. at s b (ℕ-discrete s (slotOf t i)) .0;
         once = λ s b. at s b (ℕ-discrete s (slotOf t i)) .1;
+        long = length-set mark (slotOf t i) 1 ∙ m .long;
       }
     where
       f : textFits t i ≡ true
@@ -171,26 +169,22 @@ module _ (t start mark : List ℕ) (i : ℕ) (a : Laid t start) (l : i < rooms t
           let y : marksAt t s i ≡ 0 = rw q (sym (m .marks (slotOf t i) h) ∙ taken e k) in
           let x : marksAt t s (i + 1) ≡ marksAt t s i + 1 = marks-more t s i ∙ rw (k, eq-eqb (slotOf t i) s (sym q)) in
           let o : marksAt t s (i + 1) ≡ 1 = omega arith in
-          let g : getD (set mark (slotOf t i) 1) (slotOf t i) 0 ≡ 1 = getD-set-same mark (slotOf t i) 1 0 (omega (arith, a .room, a .small, h)) in
+          let g : getD (set mark (slotOf t i) 1) (slotOf t i) 0 ≡ 1 = getD-set-same mark (slotOf t i) 1 0 (omega (arith, a .room, a .small, m .long, h)) in
           (ap (λ (v : ℕ). getD (set mark (slotOf t i) 1) v 0) q ∙ g ∙ sym o, omega arith))
           (λ (q : s ≢ slotOf t i).
           let x : marksAt t s (i + 1) ≡ marksAt t s i = marks-more t s i ∙ rw (k, ne-eqb (slotOf t i) s (λ v. q (sym v))) in
           (getD-set-other mark (slotOf t i) s 1 0 q ∙ m .marks s b ∙ sym x, rw x (m .once s b)))
 
-  pub mark-turned : (mark′ : List ℕ) → length mark ≡ 2048 → fresh t mark i ≡ true
-      → mark′ ≡ cond (fresh t mark i && isKind 3 (rec t i)) (set mark (slotOf t i) 1) mark → Marked t mark′ (i + 1)
-  mark-turned mark′ z e q = go (truth (isKind 3 (rec t i)))
-    where
-      go : (isKind 3 (rec t i) ≡ true) ⊎ (isKind 3 (rec t i) ≡ false) → Marked t mark′ (i + 1)
-      go (inl k) = let r : mark′ ≡ set mark (slotOf t i) 1 = q ∙ rw (e, k) in rw r (marked z e k)
-      go (inr k) =
-          let r : mark′ ≡ mark = q ∙ rw (e, k) in
-          let n : (s : ℕ) → marksAt t s (i + 1) ≡ marksAt t s i = λ s. marks-more t s i ∙ rw k in
-          rw r (record {
-            fits = fits-more (and-left (textFits t i) _ e);
-            marks = λ s b. m .marks s b ∙ sym (n s);
-            once = λ s b. rw (n s) (m .once s b);
-          })
+  -- a turn that has no text
+  pub unmarked : isKind 3 (rec t i) ≡ false → Marked t mark (i + 1)
+  unmarked k =
+      let n : (s : ℕ) → marksAt t s (i + 1) ≡ marksAt t s i = λ s. marks-more t s i ∙ rw k in
+      record {
+        fits = fits-more (rw k);
+        marks = λ s b. m .marks s b ∙ sym (n s);
+        once = λ s b. rw (n s) (m .once s b);
+        long = m .long;
+      }
 
   pub mark-refused : fresh t mark i ≡ false → textSound t ≡ false
   mark-refused e = false-by (textSound t) (λ s. go s (sound-fits t (a .whole) s i l) (truth (isKind 3 (rec t i))))

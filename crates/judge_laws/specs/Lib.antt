@@ -6,3 +6,4 @@ pub mod Crowds
 pub mod Twins
 pub mod Shapes
 pub mod Mask
+pub mod Pass

@@ -1,10 +1,13 @@
 -- What each record shows by itself and by the records it names: all the clauses on its kind together.
 use mathlib.Core.Bool.{Bool, _&&_, _||_, cond}
 use mathlib.Core.List.{List}
-use Prim.Native.Nat.{ℕ, _+_, _-_}
+use mathlib.Core.Path.{_≡_}
+use Prim.Native.Nat.{ℕ, _+_, _-_, _<_}
 use lib.Dec.{eqb, leb}
-use Rattle.paper.specs.Name.{linkName, legalBase}
-use Rattle.paper.specs.Record.{isKind, headingType, lifetime, textLength, directory, holderOf, headingNamed, userOf, nameLength, nameOf, zeros}
+use lib.ListN.{getD, length}
+use Rattle.paper.specs.Name.{inName, linkName, legalBase}
+use Rattle.paper.specs.Record.{byte, isKind, headingType, lifetime, textLength, directory, holderOf, headingNamed, userOf, nameLength, nameOf, zeros}
+use Rattle.paper.specs.Scan.{countBelow}
 use Rattle.paper.specs.Sound.{implies, headingAsAbove, entryAsAbove, textAsAbove, asAbove, isBase, holdersThere, headingsThere, usersRight, namesPadded, directoriesPlain, namesLegal}
 use Rattle.paper.specs.Table.{rec}
 
@@ -44,3 +47,12 @@ rightAt t i =
 unfoldable pub shaped : List ℕ → Bool
 shaped t =
     asAbove t && holdersThere t && headingsThere t && usersRight t && namesPadded t && directoriesPlain t && namesLegal t
+
+-- the class of each byte: 1 if it may be in a name, and else 0
+pub record Classed (class : List ℕ) : Type 0 where
+  pub at : (b : ℕ) → b < 256 → getD class b 0 ≡ cond (inName b) 1 0
+  pub long : length class ≡ 256
+
+-- how many of the first j bytes from a record's name on may be in a name
+unfoldable pub inNames : List ℕ → ℕ → ℕ
+inNames r j = countBelow (λ m. inName (byte r (10 + m))) j

@@ -1,0 +1,85 @@
+-- The walk down a bucket has passed no twin, and all twins are in the bucket.
+-- So what it meets first is the last twin, and at the end there is none.
+use mathlib.Core.Path.{sym, _∙_}
+use native.Mathlib.Omega.{arith}
+use Rattle.judge_laws.specs.Twins.{twinTo, hashOf}
+use Rattle.judge_laws.proofs.Chains.{Walk}
+use Rattle.judge_laws.proofs.Twins.{twin-start, twin-end, twin-found, twin-on}
+use Rattle.judge.proofs.twins.twin_before.Statement.{statement}
+use Rattle.judge.proofs.twins.twin_before.Tie as tie
+
+abbrev Inv-loop : tie.InvT-loop
+Inv-loop t next i first c₀ c = Walk hashOf t (twinTo t i) i c
+
+abbrev μ-loop : tie.MeasureT-loop
+μ-loop t next i first c₀ c = c
+
+loop-holds : tie.Need-loop-holds Inv-loop μ-loop
+loop-holds c = twin-start (c .before .args .t .now) (c .before .args .i) (c .before .args .first) (c .before .pre .2)
+
+sub-are-twins : tie.Need-sub-are-twins Inv-loop μ-loop
+sub-are-twins c = omega arith
+
+are-twins-requires : tie.Need-are-twins-requires Inv-loop μ-loop
+are-twins-requires c κs = (omega arith, omega arith, c .before .loop .inv .here (omega arith) .0)
+
+returns : tie.Need-returns Inv-loop μ-loop
+returns c =
+    let a = c .before .before .before .before .before in
+    let l = c .before .before .before .loop in
+    sym (twin-found (a .args .t .now) (a .args .i) (l .c) (l .inv) (omega arith) (sym (c .before .are-twins .ensures) ∙ c .if1 .taken))
+
+sub-wide16 : tie.Need-sub-wide16 Inv-loop μ-loop
+sub-wide16 c = omega arith
+
+mul-wide16 : tie.Need-mul-wide16 Inv-loop μ-loop
+mul-wide16 c = omega arith
+
+element-copy-out-wide16 : tie.Need-element-copy-out-wide16 Inv-loop μ-loop
+element-copy-out-wide16 c = omega arith
+
+wide16-requires : tie.Need-wide16-requires Inv-loop μ-loop
+wide16-requires c κs = omega arith
+
+loop-less : tie.Need-loop-less Inv-loop μ-loop
+loop-less c =
+    let c3 = c .before .before .before in
+    let c5 = c3 .before .before in
+    let c7 = c5 .before .before in
+    let a = c7 in
+    let l = c5 .loop in
+    twin-on (a .args .t .now) (a .args .i) (l .c) (l .inv) (a .args .next .now) (c .wide16 .result) (omega arith)
+    (sym (c3 .are-twins .ensures) ∙ c .before .before .if1 .left) (a .pre .3) (c .wide16 .ensures .0) .1
+
+loop-again : tie.Need-loop-again Inv-loop μ-loop
+loop-again c =
+    let c3 = c .before .before .before in
+    let c5 = c3 .before .before in
+    let c7 = c5 .before .before in
+    let a = c7 in
+    let l = c5 .loop in
+    twin-on (a .args .t .now) (a .args .i) (l .c) (l .inv) (a .args .next .now) (c .wide16 .result) (omega arith)
+    (sym (c3 .are-twins .ensures) ∙ c .before .before .if1 .left) (a .pre .3) (c .wide16 .ensures .0) .0
+
+returns-2 : tie.Need-returns-2 Inv-loop μ-loop
+returns-2 c =
+    let a = c .before .before .before in
+    sym (twin-end (a .args .t .now) (a .args .i) (c .before .loop .c) (c .before .loop .inv) (omega arith))
+
+pub twin-before-spec : {M : Type 1} → statement M
+twin-before-spec =
+    tie.close
+    (tie.spec
+    Inv-loop
+    μ-loop
+    loop-holds
+    sub-are-twins
+    are-twins-requires
+    returns
+    sub-wide16
+    mul-wide16
+    element-copy-out-wide16
+    wide16-requires
+    loop-less
+    loop-again
+    returns-2)

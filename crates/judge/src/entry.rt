@@ -1,0 +1,126 @@
+// An entry: what it shows by itself and by the records it names, and what is counted of it.
+use crate::heading::is_directory;
+use crate::heading::is_heading;
+use crate::name::is_legal_base;
+use crate::name::is_link;
+use crate::read::byte_of;
+use crate::read::raw_of;
+use crate::read::three_of;
+use crate::read::two_of;
+use crate::twins::chain_turn;
+use crate::zeros::are_zeros;
+use records::bytes::Room;
+use records::code::Code;
+use records::entry::Entry;
+use records::entry::Holder;
+ghost use mathlib.Core.Path.{_≡_};
+ghost use mathlib.Core.Bool.{true, false};
+ghost use Prim.Native.Nat.{_+_, _<_, _≤_, _%_};
+ghost use lib.ListN.{length};
+ghost use Rattle.paper.specs.Record.{isKind, headingNamed, holderOf, userOf, nameLength};
+ghost use Rattle.paper.specs.Sound.{isBase, noneCrowded, sound};
+ghost use Rattle.paper.specs.Table.{rooms, rec};
+ghost use Rattle.judge_laws.specs.Mask.{without};
+ghost use Rattle.judge_laws.specs.Shapes.{baseRight, entryRight, Classed};
+ghost use Rattle.judge_laws.specs.Pass.{naming, Held, Numbered, Entries};
+
+// Whether the entry i of a base file, its name n bytes, has a fit user and a legal base name.
+fn is_base_right(t: &[u8], i: usize, n: usize) -> bool
+    requires { ⌜ (i < rooms (now t)) × (n ≡ nameLength (rec (now t) i)) × (n ≤ 10) ⌝ }
+    ensures { λ r. ⌜ r ≡ baseRight (rec (now (t .entry)) i) ⌝ }
+{
+    let last = Holder::LAST_USER as usize;
+    if last < three_of(t, i, Entry::USER) {
+        return false;
+    }
+    is_legal_base(t, i, n)
+}
+
+// Whether entry i is right.
+fn is_entry_right(t: &[u8], gone: &[u8; Room::MOST], class: &[u8; 256], i: usize) -> bool
+    requires { ⌜ (i < rooms (now t)) × (length (now t) % 32 ≡ 0) × (length (now t) ≤ 65536) × Classed (now class) ⌝ }
+    ensures { λ r. ⌜ r ≡ entryRight (without (now (gone .entry)) (now (t .entry))) (rec (now (t .entry)) i) ⌝ }
+{
+    if Code::ALL < raw_of(t, i, Entry::CODE) {
+        return false;
+    }
+    let n = byte_of(t, i, Entry::NAME_LENGTH);
+    if Entry::MOST_NAME < n {
+        return false;
+    }
+    if !are_zeros(t, i, Entry::REST, Entry::REST_SIZE) {
+        return false;
+    }
+    if !are_zeros(t, i, Entry::NAME + n, Entry::MOST_NAME - n) {
+        return false;
+    }
+    if !is_heading(t, gone, two_of(t, i, Entry::HEADING)) {
+        return false;
+    }
+    if !is_link(class, t, i, n) {
+        return false;
+    }
+    let holder = two_of(t, i, Entry::HOLDER);
+    if holder == Holder::BASE {
+        return is_base_right(t, i, n);
+    }
+    if !is_directory(t, gone, holder) {
+        return false;
+    }
+    three_of(t, i, Entry::USER) == 0
+}
+
+// Entry i is counted for the heading that it names.
+fn name_turn(t: &[u8], named: &mut [u16; Room::MOST], i: usize)
+    requires { ⌜ (i < rooms (now t)) × (length (now t) ≤ 65536) × (isKind 2 (rec (now t) i) ≡ true) × (headingNamed (rec (now t) i) < 2048)
+        × Numbered (naming (now t) i) (now named) ⌝ }
+    ensures { λ _. ⌜ Numbered (naming (now (t .entry)) (i + 1)) (now (named .exit)) ⌝ }
+{
+    let h = two_of(t, i, Entry::HEADING);
+    named[h] = named[h] + 1;
+}
+
+// Entry i, if it is no base file's, is counted for its directory: whether that may hold it.
+fn hold_turn(t: &[u8], held: &mut [u8; Room::MOST], i: usize) -> bool
+    requires { ⌜ (i < rooms (now t)) × (isKind 2 (rec (now t) i) ≡ true)
+        × (isBase (rec (now t) i) ≡ false → (holderOf (rec (now t) i) < 2048) × (userOf (rec (now t) i) ≡ 0)) × Held (now t) (now held) i ⌝ }
+    ensures { λ r. ⌜ (r ≡ false → noneCrowded (now (t .entry)) ≡ false) × (r ≡ true → Held (now (t .entry)) (now (held .exit)) (i + 1)) ⌝ }
+{
+    let d = two_of(t, i, Entry::HOLDER);
+    if d == Holder::BASE {
+        return true;
+    }
+    let m = held[d];
+    if Entry::MOST_IN_DIRECTORY as u8 <= m {
+        return false;
+    }
+    held[d] = m + 1;
+    true
+}
+
+// Entry i is judged and counted: whether it is right, its directory may hold it, and no entry before it is its twin.
+pub(crate) fn entry_turn(
+    t: &[u8],
+    gone: &[u8; Room::MOST],
+    class: &[u8; 256],
+    named: &mut [u16; Room::MOST],
+    held: &mut [u8; Room::MOST],
+    head: &mut [u16; Room::MOST],
+    next: &mut [u16; Room::MOST],
+    i: usize,
+) -> bool
+    requires { ⌜ (i < rooms (now t)) × (length (now t) % 32 ≡ 0) × (length (now t) ≤ 65536) × (isKind 2 (rec (now t) i) ≡ true)
+        × Classed (now class) × Entries (now t) (now named) (now held) (now head) (now next) i ⌝ }
+    ensures { λ r. ⌜ (r ≡ false → sound (without (now (gone .entry)) (now (t .entry))) ≡ false)
+        × (r ≡ true → (entryRight (without (now (gone .entry)) (now (t .entry))) (rec (now (t .entry)) i) ≡ true)
+        × Entries (now (t .entry)) (now (named .exit)) (now (held .exit)) (now (head .exit)) (now (next .exit)) (i + 1)) ⌝ }
+{
+    if !is_entry_right(t, gone, class, i) {
+        return false;
+    }
+    if !hold_turn(t, held, i) {
+        return false;
+    }
+    name_turn(t, named, i);
+    chain_turn(t, head, next, i)
+}

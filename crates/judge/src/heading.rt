@@ -1,0 +1,130 @@
+// A heading, by itself and as other records name it.
+use crate::read::raw_of;
+use crate::read::two_of;
+use crate::zeros::are_zeros;
+use records::block::blocks;
+use records::bytes::Bytes;
+use records::bytes::Room;
+use records::code::Code;
+use records::heading::Heading;
+ghost use mathlib.Core.Path.{_≡_};
+ghost use mathlib.Core.Bool.{_&&_};
+ghost use Prim.Native.Nat.{_<_, _≤_, _%_};
+ghost use lib.Dec.{leb};
+ghost use lib.ListN.{length};
+ghost use Rattle.paper.specs.Record.{isKind, textLength, directory, simple};
+ghost use Rattle.paper.specs.Table.{rooms, rec};
+ghost use Rattle.judge_laws.specs.Mask.{without};
+ghost use Rattle.judge_laws.specs.Places.{weight};
+ghost use Rattle.judge_laws.specs.Shapes.{plainTest, headingRight};
+
+// Whether record h is a heading that stays.
+pub(crate) fn is_heading(t: &[u8], gone: &[u8; Room::MOST], h: usize) -> bool
+    requires { ⌜ (length (now t) % 32 ≡ 0) × (length (now t) ≤ 65536) ⌝ }
+    ensures { λ r. ⌜ r ≡ isKind 1 (rec (without (now (gone .entry)) (now (t .entry))) h) ⌝ }
+{
+    if t.len() / Room::SIZE <= h {
+        return false;
+    }
+    if raw_of(t, h, Room::KIND) != Heading::KIND {
+        return false;
+    }
+    gone[h] == 0
+}
+
+// Whether record h is a directory's heading that stays.
+pub(crate) fn is_directory(t: &[u8], gone: &[u8; Room::MOST], h: usize) -> bool
+    requires { ⌜ (length (now t) % 32 ≡ 0) × (length (now t) ≤ 65536) ⌝ }
+    ensures { λ r. ⌜ r ≡ directory (rec (without (now (gone .entry)) (now (t .entry))) h) ⌝ }
+{
+    if t.len() / Room::SIZE <= h {
+        return false;
+    }
+    if raw_of(t, h, Room::KIND) != Heading::KIND {
+        return false;
+    }
+    if raw_of(t, h, Heading::TYPE) != Heading::DIRECTORY {
+        return false;
+    }
+    gone[h] == 0
+}
+
+// Whether record i is a simple file's heading that stays.
+pub(crate) fn is_simple(t: &[u8], gone: &[u8; Room::MOST], i: usize) -> bool
+    requires { ⌜ (i < rooms (now t)) × (length (now t) % 32 ≡ 0) × (length (now t) ≤ 65536) ⌝ }
+    ensures { λ r. ⌜ r ≡ simple (rec (without (now (gone .entry)) (now (t .entry))) i) ⌝ }
+{
+    if raw_of(t, i, Room::KIND) != Heading::KIND {
+        return false;
+    }
+    if raw_of(t, i, Heading::TYPE) != Heading::SIMPLE {
+        return false;
+    }
+    gone[i] == 0
+}
+
+// How many text records record i asks for.
+pub(crate) fn weight_of(t: &[u8], gone: &[u8; Room::MOST], i: usize) -> usize
+    requires { ⌜ (i < rooms (now t)) × (length (now t) % 32 ≡ 0) × (length (now t) ≤ 65536) ⌝ }
+    ensures { λ r. ⌜ (r ≡ weight (rec (without (now (gone .entry)) (now (t .entry))) i)) × (r < 2732) ⌝ }
+{
+    if is_simple(t, gone, i) {
+        return blocks(Bytes(two_of(t, i, Heading::LENGTH))).0;
+    }
+    0
+}
+
+// Whether heading i, if it is a directory's, has lifetime M and length 0.
+fn is_plain(t: &[u8], i: usize) -> bool
+    requires { ⌜ i < rooms (now t) ⌝ }
+    ensures { λ r. ⌜ r ≡ plainTest (rec (now (t .entry)) i) ⌝ }
+{
+    if raw_of(t, i, Heading::TYPE) != Heading::DIRECTORY {
+        return true;
+    }
+    if raw_of(t, i, Heading::LIFETIME) != Heading::MEDIUM {
+        return false;
+    }
+    two_of(t, i, Heading::LENGTH) == 0
+}
+
+// Whether heading i is right.
+fn is_heading_right(t: &[u8], i: usize) -> bool
+    requires { ⌜ i < rooms (now t) ⌝ }
+    ensures { λ r. ⌜ r ≡ headingRight (rec (now (t .entry)) i) ⌝ }
+{
+    if Heading::SIMPLE < raw_of(t, i, Heading::TYPE) {
+        return false;
+    }
+    if Heading::LAST_LEVEL < raw_of(t, i, Heading::LEVEL) {
+        return false;
+    }
+    if Code::ALL < raw_of(t, i, Heading::CODE) {
+        return false;
+    }
+    let lifetime = raw_of(t, i, Heading::LIFETIME);
+    if lifetime < Heading::MEDIUM {
+        return false;
+    }
+    if Heading::LONG < lifetime {
+        return false;
+    }
+    if !are_zeros(t, i, Heading::GAP, Heading::GAP_SIZE) {
+        return false;
+    }
+    if !are_zeros(t, i, Heading::REST, Heading::REST_SIZE) {
+        return false;
+    }
+    is_plain(t, i)
+}
+
+// Whether heading i is right and its length fit.
+pub(crate) fn heading_turn(t: &[u8], i: usize) -> bool
+    requires { ⌜ i < rooms (now t) ⌝ }
+    ensures { λ r. ⌜ r ≡ (headingRight (rec (now (t .entry)) i) && leb (textLength (rec (now (t .entry)) i)) 24000) ⌝ }
+{
+    if !is_heading_right(t, i) {
+        return false;
+    }
+    two_of(t, i, Heading::LENGTH) <= Heading::MOST_LENGTH
+}

@@ -1,0 +1,58 @@
+// Bytes and numbers of a record, read where the caller knows that the record is there.
+use records::bytes::Room;
+ghost use mathlib.Core.Path.{_≡_};
+ghost use Prim.Native.Nat.{_<_};
+ghost use Rattle.paper.specs.Number.{numberAt};
+ghost use Rattle.paper.specs.Record.{byte, two, three};
+ghost use Rattle.paper.specs.Table.{rooms, rec};
+
+pub(crate) fn wide(x: u8) -> usize
+    ensures { λ r. ⌜ (r ≡ x) × (r < 256) ⌝ }
+{
+    x as usize
+}
+
+pub(crate) fn wide16(x: u16) -> usize
+    ensures { λ r. ⌜ (r ≡ x) × (r < 65536) ⌝ }
+{
+    x as usize
+}
+
+// The byte at place j of record i.
+pub(crate) fn raw_of(t: &[u8], i: usize, j: usize) -> u8
+    requires { ⌜ (i < rooms (now t)) × (j < 32) ⌝ }
+    ensures { λ r. ⌜ r ≡ byte (rec (now (t .entry)) i) j ⌝ }
+{
+    t[i * Room::SIZE + j]
+}
+
+pub(crate) fn byte_of(t: &[u8], i: usize, j: usize) -> usize
+    requires { ⌜ (i < rooms (now t)) × (j < 32) ⌝ }
+    ensures { λ r. ⌜ (r ≡ byte (rec (now (t .entry)) i) j) × (r < 256) ⌝ }
+{
+    wide(raw_of(t, i, j))
+}
+
+// The two-byte number at place j of record i, low byte first.
+pub(crate) fn two_of(t: &[u8], i: usize, j: usize) -> usize
+    requires { ⌜ (i < rooms (now t)) × (j < 31) ⌝ }
+    ensures { λ r. ⌜ (r ≡ two (rec (now (t .entry)) i) j) × (r < 65536) ⌝ }
+{
+    byte_of(t, i, j) + byte_of(t, i, j + 1) * 256
+}
+
+// The three-byte number at place j of record i, low byte first.
+pub(crate) fn three_of(t: &[u8], i: usize, j: usize) -> usize
+    requires { ⌜ (i < rooms (now t)) × (j < 30) ⌝ }
+    ensures { λ r. ⌜ (r ≡ three (rec (now (t .entry)) i) j) × (r < 16777216) ⌝ }
+{
+    byte_of(t, i, j) + byte_of(t, i, j + 1) * 256 + byte_of(t, i, j + 2) * 65536
+}
+
+// The four-byte number at place j of record i, low byte first: one read.
+pub(crate) fn four_of(t: &[u8], i: usize, j: usize) -> usize
+    requires { ⌜ (i < rooms (now t)) × (j < 29) ⌝ }
+    ensures { λ r. ⌜ r ≡ numberAt 4 (rec (now (t .entry)) i) j ⌝ }
+{
+    two_of(t, i, j) + two_of(t, i, j + 2) * 65536
+}

@@ -1,0 +1,433 @@
+-- One pass over the table: what each kind of record adds to what is known, what it refutes, and what is known at the end.
+-- Each clause is a scan of the records below i; a record of one kind moves the scans of its kind and leaves the others.
+use mathlib.Core.Bool.{Bool, true, false, _&&_, not, cond}
+use mathlib.Core.List.{List}
+use mathlib.Core.Logic.{_⊎_, inl, inr, _≢_, by-cases}
+use mathlib.Core.Path.{_≡_, refl, sym, ap, _∙_}
+use Prim.Native.Nat.{ℕ, _+_, _≤_, _<_}
+use native.Mathlib.Omega.{arith}
+use native.Mathlib.Decide.{ℕ-discrete}
+use lib.ListN.{length, getD, set, length-set}
+use lib.Seq.{getD-set-same, getD-set-other}
+use lib.Dec.{eqb, leb}
+use borrow.Author.Count.{below-more, below-none}
+use borrow.Author.Tests.{eqb-true, eq-eqb, ne-eqb, leb-true, leb-false, le-leb, lt-leb}
+use Rattle.judge_laws.specs.Mask.{stays, without}
+use Rattle.judge_laws.specs.Pass.{naming, holding, baseEntry, basing, Numbered, Held, Entries, Passed}
+use Rattle.judge_laws.specs.Places.{textFits, shortAt, textSound, texts, starts, slotOf, Laid, Marked, fresh}
+use Rattle.judge_laws.specs.Shapes.{headingRight, entryRight, rightAt, shaped}
+use Rattle.judge_laws.specs.Twins.{hashOf, single}
+use Rattle.paper.specs.Entry.{inDirectory, holder, stands, crowd, limit, named}
+use Rattle.paper.specs.Record.{byte, isKind, headingType, textLength, simple, directory, headingNamed, holderOf, userOf, names, headingOf, position, zeros}
+use Rattle.paper.specs.Scan.{anyBelow, countBelow}
+use Rattle.paper.specs.Sound.{textAsAbove, isBase, notCrowded, noneCrowded, allNamed, inPlace, sound}
+use Rattle.paper.specs.Table.{rooms, rec}
+use Rattle.laws.proofs.Counts.{count-more, count-none, count-up, count-most, count-mono, count-least}
+use Rattle.laws.proofs.Entries.{stands-true}
+use Rattle.laws.proofs.Lay.{Whole, within}
+use Rattle.laws.proofs.Scans.{any-true, any-here}
+use Rattle.laws.proofs.Sound.{every-here, every-true}
+use Rattle.laws.proofs.Tests.{truth, and-left, and-right, and-both, and-no-right, not-both, false-by, implies-by}
+use Rattle.judge_laws.proofs.Chains.{chains-none, chains-other}
+use Rattle.judge_laws.proofs.Clauses.{shaped-all, shaped-not, right-heading, right-entry, right-text, right-other}
+use Rattle.judge_laws.proofs.Mask.{rooms-without, whole-without, rec-stays, rec-entry, text-without, simple-without, right-gone, twins-without, crowded-without}
+use Rattle.judge_laws.proofs.Shapes.{heading-view, Entered, entry-view, base-holder, base-user}
+use Rattle.judge_laws.proofs.Sound.{sound-not-shaped, sound-not-text, sound-not-twins, sound-not-crowded, sound-left}
+use Rattle.judge_laws.proofs.Text.{by-slots, sound-not-long, sound-not-apart}
+use Rattle.judge_laws.proofs.TextTurns.{marked-none, marked, unmarked, mark-refused, code-slot, starts-up, texts-none, texts-more, texts-most}
+use Rattle.judge_laws.proofs.Twins.{single-all, twin-one}
+
+-- numbers that stay, and one that is one more
+pub numbered-same : (f g : ℕ → ℕ) (a : List ℕ) → Numbered f a → ((h : ℕ) → h < 2048 → g h ≡ f h) → Numbered g a
+numbered-same f g a n e = record { at = λ h l. n .at h l ∙ sym (e h l); long = n .long }
+
+pub numbered-more : (f g : ℕ → ℕ) (a : List ℕ) (k v : ℕ) → Numbered f a → k < 2048 → v ≡ g k → ((h : ℕ) → h < 2048 → h ≢ k → g h ≡ f h)
+    → Numbered g (set a k v)
+numbered-more f g a k v n l e x =
+    record {
+      at = λ h b. by-cases (ℕ-discrete h k)
+          (λ (q : h ≡ k). rw q (getD-set-same a k v 0 (omega (arith, n .long)) ∙ e))
+          (λ (q : h ≢ k). getD-set-other a k h v 0 q ∙ n .at h b ∙ sym (x h b q));
+      long = length-set a k v ∙ n .long;
+    }
+
+numbered-none : (f : ℕ → ℕ) (a : List ℕ) → length a ≡ 2048 → ((h : ℕ) → h < 2048 → getD a h 0 ≡ 0) → ((h : ℕ) → f h ≡ 0) → Numbered f a
+numbered-none f a l z e = record { at = λ h b. z h b ∙ sym (e h); long = l }
+
+-- none exactly where none is counted
+pub counted-any : (p : ℕ → Bool) (n : ℕ) → not (eqb (countBelow p n) 0) ≡ anyBelow p n
+counted-any p n = go (truth (anyBelow p n))
+  where
+    go : (anyBelow p n ≡ true) ⊎ (anyBelow p n ≡ false) → not (eqb (countBelow p n) 0) ≡ anyBelow p n
+    go (inl e) =
+        let i = any-true p n e in
+        let l = count-least p n (i .0) (i .1) (i .2) in
+        rw (e, ne-eqb (countBelow p n) 0 (λ (z : countBelow p n ≡ 0). let y : ⊥ = omega arith in y))
+    go (inr e) =
+        let z : countBelow p n ≡ 0 = count-none p n (λ i l. false-by (p i) (λ q. not-both (any-here p n i l q) e)) in
+        rw (e, z)
+
+module _ (t : List ℕ) (i : ℕ) where
+  naming-more : (h : ℕ) → naming t (i + 1) h ≡ cond (names h (rec t i)) (naming t i h + 1) (naming t i h)
+  unfolding naming
+  naming-more h = count-more (λ j. names h (rec t j)) i
+
+  holding-more : (d : ℕ) → holding t (i + 1) d ≡ cond (stands (inDirectory d) (rec t i)) (holding t i d + 1) (holding t i d)
+  unfolding holding
+  holding-more d = count-more (λ j. stands (inDirectory d) (rec t j)) i
+
+  basing-more : basing t (i + 1) ≡ cond (baseEntry t i) (basing t i + 1) (basing t i)
+  unfolding basing
+  basing-more = count-more (baseEntry t) i
+
+  pub naming-most : (h : ℕ) → naming t i h ≤ i
+  unfolding naming
+  naming-most h = count-most (λ j. names h (rec t j)) i
+
+  pub basing-most : basing t i ≤ i
+  unfolding basing
+  basing-most = count-most (baseEntry t) i
+
+  -- an entry is counted for the heading that it names
+  module _ (k : isKind 2 (rec t i) ≡ true) where
+    pub named-more : (named : List ℕ) (v : ℕ) → Numbered (naming t i) named → headingNamed (rec t i) < 2048
+        → v ≡ getD named (headingNamed (rec t i)) 0 + 1 → Numbered (naming t (i + 1)) (set named (headingNamed (rec t i)) v)
+    named-more named v n l e =
+        numbered-more (naming t i) (naming t (i + 1)) named h v n l
+        (e ∙ rw (n .at h l, naming-more h, k, eq-eqb h h refl))
+        (λ g b q. naming-more g ∙ rw (k, ne-eqb h g (λ x. q (sym x))))
+      where
+        h : ℕ
+        h = headingNamed (rec t i)
+
+    -- .. and for the directory that holds it
+    pub held-base : (held : List ℕ) → Held t held i → isBase (rec t i) ≡ true → Held t held (i + 1)
+    unfolding stands
+    held-base held s b =
+        let q : holderOf (rec t i) ≡ 65535 = eqb-true _ _ b in
+        let e : (d : ℕ) → d < 2048 → holding t (i + 1) d ≡ holding t i d =
+        λ d l. holding-more d ∙ rw (k, ne-eqb (holderOf (rec t i)) d (λ (x : holderOf (rec t i) ≡ d). let z : ⊥ = omega arith in z)) in
+        record { counts = numbered-same (holding t i) (holding t (i + 1)) held (s .counts) e; most = λ d l. rw (e d l) (s .most d l) }
+
+    module _ (z : userOf (rec t i) ≡ 0) where
+      pub held-more : (held : List ℕ) (v : ℕ) → Held t held i → holderOf (rec t i) < 2048 → v ≡ getD held (holderOf (rec t i)) 0 + 1
+          → getD held (holderOf (rec t i)) 0 < 112 → Held t (set held (holderOf (rec t i)) v) (i + 1)
+      unfolding stands
+      held-more held v s l e b =
+          record {
+            counts = numbered-more (holding t i) (holding t (i + 1)) held d v (s .counts) l (e ∙ rw (s .counts .at d l, own)) other;
+            most = λ g m. by-cases (ℕ-discrete g d)
+                (λ (q : g ≡ d). rw (q, own) (omega (arith, s .counts .at d l)))
+                (λ (q : g ≢ d). rw (other g m q) (s .most g m));
+          }
+        where
+          d : ℕ
+          d = holderOf (rec t i)
+
+          own : holding t (i + 1) d ≡ holding t i d + 1
+          own = holding-more d ∙ rw (k, z, eq-eqb d d refl)
+
+          other : (g : ℕ) → g < 2048 → g ≢ d → holding t (i + 1) g ≡ holding t i g
+          other g m q = holding-more g ∙ rw (k, ne-eqb d g (λ x. q (sym x)))
+
+      -- a directory that holds 112 before it is crowded
+      pub held-full : (held : List ℕ) → Held t held i → isBase (rec t i) ≡ false → holderOf (rec t i) < 2048 → i < rooms t
+          → 112 ≤ getD held (holderOf (rec t i)) 0 → noneCrowded t ≡ false
+      unfolding noneCrowded crowd stands holding
+      held-full held s b l m f =
+          false-by (noneCrowded t) (λ e.
+          let d = holderOf (rec t i) in
+          let c : countBelow (λ j. stands (holder (rec t i)) (rec t j)) (rooms t) ≤ limit (holder (rec t i)) =
+          leb-true _ _ (every-true 2 (notCrowded t) t e i m (eqb-true _ _ k)) in
+          let c′ : holding t (rooms t) d ≤ 112 = rw (z, b) at c in
+          let u = count-up (λ j. stands (inDirectory d) (rec t j)) (i + 1) (rooms t) (omega arith) in
+          let o : holding t (i + 1) d ≡ holding t i d + 1 = holding-more d ∙ rw (k, z, eq-eqb d d refl) in
+          let y = s .counts .at d l in
+          omega arith)
+
+-- a record that is no entry leaves what the entries left
+entries-other : (t named held head next : List ℕ) (i : ℕ) → isKind 2 (rec t i) ≡ false → Entries t named held head next i
+    → Entries t named held head next (i + 1)
+unfolding stands
+entries-other t named held head next i k s =
+    let e : (d : ℕ) → holding t (i + 1) d ≡ holding t i d = λ d. holding-more t i d ∙ rw k in
+    record {
+      single = below-more _ _ (s .single) (rw k);
+      naming = numbered-same (naming t i) (naming t (i + 1)) named (s .naming) (λ h l. naming-more t i h ∙ rw k);
+      holding = record {
+        counts = numbered-same (holding t i) (holding t (i + 1)) held (s .holding .counts) (λ d l. e d);
+        most = λ d l. rw (e d) (s .holding .most d l);
+      };
+      chains = chains-other hashOf t head next i (s .chains) k;
+    }
+
+-- no base list is crowded where there are few entries of base files, and no directory
+few-bases : (t named held head next : List ℕ) → Entries t named held head next (rooms t) → basing t (rooms t) ≤ 100
+    → ((i : ℕ) → i < rooms t → byte (rec t i) 0 ≡ 2 → cond (isBase (rec t i)) (leb (userOf (rec t i)) 999999) (eqb (userOf (rec t i)) 0) ≡ true)
+    → ((i : ℕ) → i < rooms t → byte (rec t i) 0 ≡ 2 → isBase (rec t i) ≡ false → holderOf (rec t i) < 2048)
+    → noneCrowded t ≡ true
+unfolding noneCrowded crowd holding basing
+few-bases t named held head next s few users there = every-here 2 (notCrowded t) t (λ i l k. go i l k (truth (isBase (rec t i))))
+  where
+    go : (i : ℕ) → i < rooms t → byte (rec t i) 0 ≡ 2 → (isBase (rec t i) ≡ true) ⊎ (isBase (rec t i) ≡ false) → notCrowded t i (rec t i) ≡ true
+    go i l k (inl b) =
+        let m = count-mono (λ j. stands (holder (rec t i)) (rec t j)) (baseEntry t) (rooms t)
+        (λ j _ e. let f = stands-true (holder (rec t i)) (rec t j) e in
+        and-both (isKind 2 (rec t j)) _ (eq-eqb _ _ (f .kind)) (eq-eqb _ _ (f .heading ∙ eqb-true _ _ b))) in
+        rw b (le-leb (countBelow (λ j. stands (holder (rec t i)) (rec t j)) (rooms t)) 100 (omega arith))
+    go i l k (inr b) =
+        let u : userOf (rec t i) ≡ 0 = eqb-true _ _ (rw b at (users i l k)) in
+        rw (b, u) (le-leb (countBelow (λ j. stands (inDirectory (holderOf (rec t i))) (rec t j)) (rooms t)) 112 (s .holding .most _ (there i l k b)))
+
+module _ (gone t : List ℕ) (w : Whole t) where
+  -- an entry that is right names a record of the table, and stands in one or in a base list
+  pub entry-names : (r : List ℕ) → entryRight (without gone t) r ≡ true → headingNamed r < rooms t
+  entry-names r e =
+      let k : byte (rec (without gone t) (headingNamed r)) 0 ≡ 1 = eqb-true _ _ (entry-view (without gone t) r e .named) in
+      rw (← (rooms-without gone t)) (within (without gone t) (headingNamed r) (whole-without gone t w)
+      (λ (z : byte (rec (without gone t) (headingNamed r)) 0 ≡ 0). let y : ⊥ = omega arith in y))
+
+  pub entry-stands : (r : List ℕ) → entryRight (without gone t) r ≡ true → isBase r ≡ false → (holderOf r < rooms t) × (userOf r ≡ 0)
+  entry-stands r e b =
+      let p = entry-view (without gone t) r e .place in
+      let d : directory (rec (without gone t) (holderOf r)) ≡ true = rw b at (base-holder (without gone t) r p) in
+      let u : eqb (userOf r) 0 ≡ true = rw b at (base-user (without gone t) r p) in
+      let k : byte (rec (without gone t) (holderOf r)) 0 ≡ 1 = eqb-true _ _ (and-left (isKind 1 (rec (without gone t) (holderOf r))) _ d) in (
+        rw (← (rooms-without gone t)) (within (without gone t) (holderOf r) (whole-without gone t w)
+            (λ (z : byte (rec (without gone t) (holderOf r)) 0 ≡ 0). let y : ⊥ = omega arith in y)),
+        eqb-true _ _ u,
+      )
+
+  -- what one record refutes
+  module _ (i : ℕ) (l : i < rooms t) where
+    pub refuted : rightAt (without gone t) i ≡ false → sound (without gone t) ≡ false
+    refuted e = sound-not-shaped (without gone t) (shaped-not (without gone t) i (rw (rooms-without gone t) l) e)
+
+    pub refuted-long : shortAt (without gone t) i ≡ false → sound (without gone t) ≡ false
+    unfolding textSound
+    refuted-long e =
+        sound-not-text (without gone t) (sound-not-long (without gone t) (whole-without gone t w) i (rw (rooms-without gone t) l) e)
+
+    pub refuted-twin : single t i ≡ false → sound (without gone t) ≡ false
+    refuted-twin e = sound-not-twins (without gone t) (twins-without gone t ∙ twin-one t i l e)
+
+    pub refuted-entry : isKind 2 (rec t i) ≡ true → entryRight (without gone t) (rec t i) ≡ false → sound (without gone t) ≡ false
+    refuted-entry k e =
+        let q = rec-entry gone t w i k in
+        refuted (right-entry (without gone t) i (ap (λ r. byte r 0) q ∙ eqb-true _ _ k) ∙ rw q e)
+
+    pub heading-right : byte (rec t i) 0 ≡ 1 → stays gone i ≡ true → rightAt (without gone t) i ≡ headingRight (rec t i)
+    heading-right k s =
+        let z = rec-stays gone t w i s in
+        right-heading (without gone t) i (ap (λ r. byte r 0) z ∙ k) ∙ rw z
+
+    -- a heading that is not right, or too long: a directory's has length 0
+    pub refuted-heading : byte (rec t i) 0 ≡ 1 → stays gone i ≡ true → (headingRight (rec t i) && leb (textLength (rec t i)) 24000) ≡ false
+        → sound (without gone t) ≡ false
+    refuted-heading k s f = go (truth (headingRight (rec t i)))
+      where
+        long : headingRight (rec t i) ≡ true → 24000 < textLength (rec t i) → sound (without gone t) ≡ false
+        long e n =
+            let v = heading-view (rec t i) e in
+            by-cases (ℕ-discrete (headingType (rec t i)) 0)
+            (λ (q : headingType (rec t i) ≡ 0). let y = v .plain q .1 in let b : ⊥ = omega arith in absurd b)
+            (λ (q : headingType (rec t i) ≢ 0).
+            let one : headingType (rec t i) ≡ 1 = omega (arith, v .type) in
+            refuted-long (rw (rec-stays gone t w i s, k, one) (lt-leb (textLength (rec t i)) 24000 n)))
+
+        go : (headingRight (rec t i) ≡ true) ⊎ (headingRight (rec t i) ≡ false) → sound (without gone t) ≡ false
+        go (inr e) = refuted (heading-right k s ∙ e)
+        go (inl e) = long e (leb-false _ _ (rw e at f))
+
+    -- a record of no other kind
+    pub free-right : (byte (rec t i) 0 ≡ 1 → ⊥) → (byte (rec t i) 0 ≡ 2 → ⊥) → (byte (rec t i) 0 ≡ 3 → ⊥) → stays gone i ≡ true
+        → rightAt (without gone t) i ≡ zeros 0 32 (rec t i)
+    free-right n1 n2 n3 s =
+        let z = rec-stays gone t w i s in
+        let y : byte (rec (without gone t) i) 0 ≡ byte (rec t i) 0 = ap (λ r. byte r 0) z in
+        right-other (without gone t) i (λ q. n1 (sym y ∙ q)) (λ q. n2 (sym y ∙ q)) (λ q. n3 (sym y ∙ q)) ∙ rw z
+
+  pub refuted-crowd : noneCrowded t ≡ false → sound (without gone t) ≡ false
+  refuted-crowd e = sound-not-crowded (without gone t) (crowded-without gone t ∙ e)
+
+  -- more slots than records, or another number of text records than of slots
+  pub refuted-slots : (i : ℕ) → i < rooms t → rooms t < starts (without gone t) (i + 1) → sound (without gone t) ≡ false
+  unfolding textSound
+  refuted-slots i l m =
+      let q = rooms-without gone t in
+      let b = starts-up (without gone t) (i + 1) (rooms (without gone t)) (omega arith) in
+      let d = texts-most (without gone t) (rooms (without gone t)) in
+      sound-not-text (without gone t) (sound-not-apart (without gone t) (whole-without gone t w)
+      (λ (e : texts (without gone t) (rooms (without gone t)) ≡ starts (without gone t) (rooms (without gone t))). omega arith))
+
+  pub refuted-total : (texts (without gone t) (rooms t) ≡ starts (without gone t) (rooms t) → ⊥) → sound (without gone t) ≡ false
+  unfolding textSound
+  refuted-total n =
+      sound-not-text (without gone t) (sound-not-apart (without gone t) (whole-without gone t w) (rw (rooms-without gone t) n))
+
+  -- a text record takes its slot
+  module _ (start mark : List ℕ) (i : ℕ) (a : Laid (without gone t) start) (l : i < rooms t) (m : Marked (without gone t) mark i)
+      (k : byte (rec t i) 0 ≡ 3) (s : getD gone i 0 ≡ 0) where
+    same : rec (without gone t) i ≡ rec t i
+    same = rec-stays gone t w i (eq-eqb _ _ s)
+
+    kind : byte (rec (without gone t) i) 0 ≡ 3
+    kind = ap (λ r. byte r 0) same ∙ k
+
+    pub text-right : rightAt (without gone t) i ≡ textAsAbove 0 (rec t i)
+    text-right = right-text (without gone t) i kind ∙ rw same
+
+    stale : fresh (without gone t) mark i ≡ false → sound (without gone t) ≡ false
+    unfolding textSound
+    stale e = sound-not-text (without gone t) (mark-refused (without gone t) start mark i a (rw (rooms-without gone t) l) m e)
+
+    -- in the file of heading h, from slot v on
+    module _ (h v : ℕ) (eh : h ≡ headingOf (rec t i)) where
+      pub misplaced : inPlace (rec (without gone t) h) (rec t i) ≡ false → sound (without gone t) ≡ false
+      misplaced e = stale (rw (kind, same, ← eh, e))
+
+      module _ (p : ℕ) (ep : p ≡ position (rec t i)) (e : inPlace (rec (without gone t) h) (rec t i) ≡ true) (ev : v ≡ getD start h 0) where
+        slot : (v + p ≡ slotOf (without gone t) i) × (v + p < 2048)
+        slot =
+            code-slot (without gone t) start i h v p a kind (eh ∙ ap headingOf (sym same)) (ep ∙ ap position (sym same)) (rw same e) ev
+
+        pub slot-below : v + p < 2048
+        slot-below = slot .1
+
+        fits : textFits (without gone t) i ≡ true
+        fits = rw (kind, same, ← eh, e)
+
+        pub slot-taken : (getD mark (v + p) 0 ≡ 0 → ⊥) → sound (without gone t) ≡ false
+        slot-taken n = stale (and-no-right (textFits (without gone t) i) _ (rw (kind, ← (slot .0)) (ne-eqb (getD mark (v + p) 0) 0 n)))
+
+        pub slot-marked : getD mark (v + p) 0 ≡ 0 → Marked (without gone t) (set mark (v + p) 1) (i + 1)
+        slot-marked z =
+            rw (slot .0) (marked (without gone t) start mark i a (rw (rooms-without gone t) l) m
+            (and-both (textFits (without gone t) i) _ fits (rw (kind, ← (slot .0), z))) (eq-eqb _ _ kind))
+
+  -- what is known before the first record
+  pub passed-none : (start mark named held head next : List ℕ) → Laid (without gone t) start → length mark ≡ 2048 → length named ≡ 2048
+      → length held ≡ 2048 → length head ≡ 2048 → length next ≡ 2048 → ((s : ℕ) → s < 2048 → getD mark s 0 ≡ 0)
+      → ((s : ℕ) → s < 2048 → getD named s 0 ≡ 0) → ((s : ℕ) → s < 2048 → getD held s 0 ≡ 0) → ((s : ℕ) → s < 2048 → getD head s 0 ≡ 0)
+      → Passed gone t mark named held head next 0 0 0
+  unfolding naming holding basing countBelow
+  passed-none start mark named held head next a lm ln lh lf lx zm zn zh zf =
+      record {
+        right = below-none _;
+        short = below-none _;
+        text = marked-none (without gone t) start mark a lm zm;
+        entries = record {
+          single = below-none _;
+          naming = numbered-none (naming t 0) named ln zn (λ h. refl);
+          holding = record { counts = numbered-none (holding t 0) held lh zh (λ h. refl); most = λ d l. omega arith };
+          chains = chains-none hashOf t head next lf lx zf;
+        };
+        texted = sym (texts-none (without gone t));
+        based = refl;
+      }
+
+  -- what one more record adds
+  module _ (start mark named held head next : List ℕ) (x b i : ℕ) (a : Laid (without gone t) start) (l : i < rooms t)
+      (p : Passed gone t mark named held head next x b i) where
+    below : i < rooms (without gone t)
+    below = rw (rooms-without gone t) l
+
+    pub passed-entry : (named′ held′ head′ next′ : List ℕ) (b′ : ℕ) → isKind 2 (rec t i) ≡ true → entryRight (without gone t) (rec t i) ≡ true
+        → Entries t named′ held′ head′ next′ (i + 1) → b′ ≡ b + cond (isBase (rec t i)) 1 0
+        → Passed gone t mark named′ held′ head′ next′ x b′ (i + 1)
+    passed-entry named′ held′ head′ next′ b′ k e s q =
+        record {
+          right = below-more _ _ (p .right) (right-entry (without gone t) i (ap (λ r. byte r 0) z ∙ k′) ∙ rw z e);
+          short = below-more _ _ (p .short) (rw (z, k′));
+          text = unmarked (without gone t) start mark i a below (p .text) n;
+          entries = s;
+          texted = p .texted ∙ sym (texts-more (without gone t) i ∙ rw n (omega arith));
+          based = q ∙ rw (p .based) (sym (basing-more t i ∙ rw k (go (isBase (rec t i)))));
+        }
+      where
+        k′ : byte (rec t i) 0 ≡ 2
+        k′ = eqb-true _ _ k
+
+        z : rec (without gone t) i ≡ rec t i
+        z = rec-entry gone t w i k
+
+        n : isKind 3 (rec (without gone t) i) ≡ false
+        n = rw (z, k′)
+
+        go : (f : Bool) → cond f (basing t i + 1) (basing t i) ≡ basing t i + cond f 1 0
+        go true = refl
+        go false = omega arith
+
+    pub passed-other : (mark′ : List ℕ) (x′ : ℕ) → isKind 2 (rec t i) ≡ false → rightAt (without gone t) i ≡ true → shortAt (without gone t) i ≡ true
+        → Marked (without gone t) mark′ (i + 1) → x′ ≡ x + cond (isKind 3 (rec (without gone t) i)) 1 0
+        → Passed gone t mark′ named held head next x′ b (i + 1)
+    passed-other mark′ x′ k r s m q =
+        record {
+          right = below-more _ _ (p .right) r;
+          short = below-more _ _ (p .short) s;
+          text = m;
+          entries = entries-other t named held head next i k (p .entries);
+          texted = q ∙ rw (p .texted) (sym (texts-more (without gone t) i));
+          based = p .based ∙ sym (basing-more t i ∙ rw k);
+        }
+
+    -- no entry and no text: right, and short if it is a heading
+    pub passed-plain : isKind 2 (rec t i) ≡ false → isKind 3 (rec (without gone t) i) ≡ false → rightAt (without gone t) i ≡ true
+        → shortAt (without gone t) i ≡ true → Passed gone t mark named held head next x b (i + 1)
+    passed-plain k n r s = passed-other mark x k r s (unmarked (without gone t) start mark i a below (p .text) n) (rw n (omega arith))
+
+    pub passed-gone : isKind 2 (rec t i) ≡ false → stays gone i ≡ false → Passed gone t mark named held head next x b (i + 1)
+    passed-gone k s =
+        passed-plain k (text-without gone t w i ∙ rw (s, and-no-right (isKind 3 (rec t i)) false refl)) (right-gone gone t i l k s)
+        (rw (simple-without gone t w i, s, and-no-right (simple (rec t i)) false refl))
+
+    pub passed-heading : byte (rec t i) 0 ≡ 1 → stays gone i ≡ true → (headingRight (rec t i) && leb (textLength (rec t i)) 24000) ≡ true
+        → Passed gone t mark named held head next x b (i + 1)
+    passed-heading k s e =
+        let z = rec-stays gone t w i s in
+        passed-plain (rw k) (rw (z, k)) (heading-right i l k s ∙ and-left (headingRight (rec t i)) _ e)
+        (implies-by (simple (rec (without gone t) i)) _ (λ _. rw z (and-right (headingRight (rec t i)) _ e)))
+
+    pub passed-free : (byte (rec t i) 0 ≡ 1 → ⊥) → (byte (rec t i) 0 ≡ 2 → ⊥) → (byte (rec t i) 0 ≡ 3 → ⊥) → stays gone i ≡ true
+        → zeros 0 32 (rec t i) ≡ true → Passed gone t mark named held head next x b (i + 1)
+    passed-free n1 n2 n3 s e =
+        let z = rec-stays gone t w i s in
+        let y : (m : ℕ) → (byte (rec t i) 0 ≡ m → ⊥) → isKind m (rec (without gone t) i) ≡ false = λ m n. rw z (ne-eqb (byte (rec t i) 0) m n) in
+        passed-plain (ne-eqb (byte (rec t i) 0) 2 n2) (y 3 n3) (free-right i l n1 n2 n3 s ∙ e) (rw (y 1 n1))
+
+  -- what is known past the last record
+  module _ (start mark named held head next : List ℕ) (x b : ℕ) (a : Laid (without gone t) start)
+      (p : Passed gone t mark named held head next x b (rooms t)) where
+    all-right : shaped (without gone t) ≡ true
+    all-right = shaped-all (without gone t) (λ j l. p .right j (rw (rooms-without gone t) at l))
+
+    all-text : x ≡ starts (without gone t) (rooms t) → textSound (without gone t) ≡ true
+    all-text e =
+        let q = rooms-without gone t in
+        by-slots (without gone t) (a .whole) (λ j l. p .short j (rw q at l)) (λ j l. p .text .fits j (rw q at l))
+        (rw q (sym (p .texted) ∙ e))
+        (λ s l. rw q (p .text .once s l))
+
+    pub passed-all : x ≡ starts (without gone t) (rooms t) → allNamed (without gone t) ≡ true → sound (without gone t) ≡ noneCrowded t
+    unfolding textSound
+    passed-all e n =
+        sound-left (without gone t) all-right n (all-text e) (twins-without gone t ∙ single-all t (p .entries .single)) ∙ crowded-without gone t
+
+    pub passed-few : length t ≤ 65536 → b ≤ 100 → noneCrowded t ≡ true
+    passed-few small few =
+        few-bases t named held head next (p .entries) (omega (arith, p .based))
+        (λ i l k. base-user (without gone t) (rec t i) (entered i l k .place))
+        (λ i l k n. omega (arith, entry-stands (rec t i) (entry i l k) n .0))
+      where
+        entry : (i : ℕ) → i < rooms t → byte (rec t i) 0 ≡ 2 → entryRight (without gone t) (rec t i) ≡ true
+        entry i l k =
+            let z = rec-entry gone t w i (eq-eqb _ _ k) in
+            rw (← z) (sym (right-entry (without gone t) i (ap (λ r. byte r 0) z ∙ k)) ∙ p .right i l)
+
+        entered : (i : ℕ) → i < rooms t → byte (rec t i) 0 ≡ 2 → Entered (without gone t) (rec t i)
+        entered i l k = entry-view (without gone t) (rec t i) (entry i l k)
+
+-- the numbers tell whether a heading is named
+pub named-tells : (t a : List ℕ) (i : ℕ) → Numbered (naming t (rooms t)) a → i < 2048 → not (eqb (getD a i 0) 0) ≡ named t i
+unfolding naming named
+named-tells t a i n l = rw (n .at i l) (counted-any (λ j. names i (rec t j)) (rooms t))

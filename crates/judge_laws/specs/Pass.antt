@@ -1,0 +1,58 @@
+-- One pass over the table: what is known and counted once the records before i are judged.
+use mathlib.Core.Bool.{Bool, true, _&&_}
+use mathlib.Core.List.{List}
+use mathlib.Core.Path.{_≡_}
+use Prim.Native.Nat.{ℕ, _<_, _≤_}
+use lib.ListN.{getD, length}
+use Rattle.paper.specs.Entry.{inDirectory, stands}
+use Rattle.paper.specs.Record.{isKind, names}
+use Rattle.paper.specs.Scan.{countBelow}
+use Rattle.paper.specs.Sound.{isBase}
+use Rattle.paper.specs.Table.{rec}
+use Rattle.judge_laws.specs.Chains.{Chains}
+use Rattle.judge_laws.specs.Mask.{without}
+use Rattle.judge_laws.specs.Places.{shortAt, texts, Marked}
+use Rattle.judge_laws.specs.Shapes.{rightAt}
+use Rattle.judge_laws.specs.Twins.{hashOf, single}
+
+-- how many entries below i name heading h
+unfoldable pub naming : List ℕ → ℕ → ℕ → ℕ
+naming t i h = countBelow (λ j. names h (rec t j)) i
+
+-- how many entries below i stand in directory d
+unfoldable pub holding : List ℕ → ℕ → ℕ → ℕ
+holding t i d = countBelow (λ j. stands (inDirectory d) (rec t j)) i
+
+-- record j is an entry of a base file
+abbrev pub baseEntry : List ℕ → ℕ → Bool
+baseEntry t j = isKind 2 (rec t j) && isBase (rec t j)
+
+-- how many entries of base files there are below i
+unfoldable pub basing : List ℕ → ℕ → ℕ
+basing t i = countBelow (baseEntry t) i
+
+-- each record a table may have, with its number
+pub record Numbered (f : ℕ → ℕ) (a : List ℕ) : Type 0 where
+  pub at : (h : ℕ) → h < 2048 → getD a h 0 ≡ f h
+  pub long : length a ≡ 2048
+
+-- what the directories hold below i, none of them too much
+pub record Held (t held : List ℕ) (i : ℕ) : Type 0 where
+  pub counts : Numbered (holding t i) held
+  pub most : (d : ℕ) → d < 2048 → holding t i d ≤ 112
+
+-- the entries below i are counted for the headings they name and the directories that hold them, and no two are twins
+pub record Entries (t named held head next : List ℕ) (i : ℕ) : Type 0 where
+  pub single : (j : ℕ) → j < i → single t j ≡ true
+  pub naming : Numbered (naming t i) named
+  pub holding : Held t held i
+  pub chains : Chains hashOf t head next i
+
+-- the records below i are judged, without those that go: so much text, and so many entries of base files
+pub record Passed (gone t mark named held head next : List ℕ) (text-count base-count i : ℕ) : Type 0 where
+  pub right : (j : ℕ) → j < i → rightAt (without gone t) j ≡ true
+  pub short : (j : ℕ) → j < i → shortAt (without gone t) j ≡ true
+  pub text : Marked (without gone t) mark i
+  pub entries : Entries t named held head next i
+  pub texted : text-count ≡ texts (without gone t) i
+  pub based : base-count ≡ basing t i
