@@ -17,6 +17,8 @@ pub mod Listed
 pub mod Standing
 -- give and take: `nobody-more`, `never-displaces`
 pub mod Received
+-- parts of a sheet: `parts-join`, `part-shown`, `part-read`, `dashes-whole`, `octal-asked`
+pub mod Parts
 -- lines and texts longer than any that is read: `requested-cut`
 pub mod Long
 -- ---- what several of them stand on

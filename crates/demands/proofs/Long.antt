@@ -44,7 +44,7 @@ module _ (t reply : List ℕ) (u k : ℕ) (text : List ℕ) (l : 24000 < length 
   acted-long (unread f) = refl
   acted-long (request (crd name level code)) = refl
   acted-long (request (wrs lifetime level code name)) = rw (lt-ltb 24000 (length text) l, lt-ltb 24000 (length (take 24001 text)) m)
-  acted-long (request (rds from name)) = refl
+  acted-long (request (rds from name first count)) = refl
   acted-long (request (cpy from old new lifetime level code)) = refl
   acted-long (request (dup from old to new code)) = refl
   acted-long (request (chn old link)) = refl

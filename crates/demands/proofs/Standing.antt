@@ -415,7 +415,7 @@ del-steps u l (w ∷ ws) t reply k n made c = one (λ t₁. del-steps u l ws t�
 abbrev pub By : Request → Aim → Type 0
 By (crd name lev code) w = w ≡ mine name
 By (wrs life lev code name) w = w ≡ mine name
-By (rds from name) w = ⊥
+By (rds from name first count) w = ⊥
 By (cpy from old new life lev code) w = w ≡ mine new
 By (dup from old to new code) w = w ≡ aim to new
 By (chn old link) w = w ≡ mine old
@@ -453,8 +453,8 @@ entry-stood t line body reply u k = go (course t line body reply u)
     grants c l (crd name lev code) q h = one _ q (mine name) refl (crdPlan t u name lev code) c (crd-sets t c u l name lev code h)
     grants c l (wrs life lev code name) q h =
         one _ q (mine name) refl (wrsPlan t u body life lev code name) c (wrs-sets t c u l body life lev code name h)
-    grants c l (rds from name) q h =
-        shows (rdsPlan t (listOf u from) reply (begun from name))
+    grants c l (rds from name first count) q h =
+        shows (rdsPlan t (listOf u from) reply (begun from name) first count)
         (end-by Shows 1 (λ _ _ _. tt) t (listOf u from) (begun from name) _ (λ _ _ _ _. refl))
     grants c l (cpy from old new life lev code) q h =
         one _ q (mine new) refl (cpyPlan t (listOf u from) u (begun from old) new life lev code) c

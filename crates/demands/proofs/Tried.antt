@@ -36,9 +36,9 @@ module _ (t line text reply : List ℕ) (u : ℕ) where
       by-plan (wrsPlan t u text lifetime level code name)
       (wrs-safe t c u text lifetime level code name (named-last name (h .name) .short))
       (wrs-keeps t c u text lifetime level code name m h)
-  tries c m (rds from name) a h =
-      by-plan (rdsPlan t (listOf u from) reply (begun from name)) (rds-safe t c (listOf u from) reply (begun from name))
-      (rds-keeps t (listOf u from) reply (begun from name) c)
+  tries c m (rds from name first count) a h =
+      by-plan (rdsPlan t (listOf u from) reply (begun from name) first count) (rds-safe t c (listOf u from) reply (begun from name) first count)
+      (rds-keeps t (listOf u from) reply (begun from name) first count c)
   tries c m (cpy from old new lifetime level code) a h =
       by-plan (cpyPlan t (listOf u from) u (begun from old) new lifetime level code)
       (cpy-safe t c (listOf u from) u (begun from old) new lifetime level code (named-last new (h .new) .short))

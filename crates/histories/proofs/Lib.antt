@@ -5,6 +5,8 @@ pub mod PenStays
 pub mod ClearedLast
 -- nobody learns a byte of a file that is read-inhibited in its heading: `seal-stays`, `seal-gone`
 pub mod SealStays
+-- "Read part of a sheet": a part never shows a byte of another file: `part-own`
+pub mod PartOwn
 -- "Copies must not drop a level": `no-copy-drops`, `level-kept`
 pub mod LevelKept
 -- the tables between the stores of a call are those after it is cut: `between-stores`, `heads-between`

@@ -10,12 +10,13 @@ use Rattle.paper.specs.Check.{verdict}
 use Rattle.paper.specs.Scan.{joinBelow}
 use Rattle.laws.proofs.Tests.{not-both}
 use Rattle.laws.proofs.Scans.{any-false}
+use Rattle.demands.proofs.Parts.{bringing}
 use Rattle.job.specs.Sheet.{count, sheet, job}
 use Rattle.job.specs.Refusal.{each, admission}
 use Rattle.job.specs.Filing.{Filing, filing}
 use Rattle.job.specs.Reading.{Reading, rdsLine, readBack, reading}
 use Rattle.job.specs.Lamp.{Lit, green, red, refusal, afterReading, afterFiling, lit}
-use Rattle.job_demands.proofs.Bringing.{bringing, read-again}
+use Rattle.job_demands.proofs.Bringing.{read-again}
 use Rattle.job_demands.proofs.Admitting as A
 use Rattle.job_demands.proofs.Admitting.{test, tests, Fails, Passes, Admitted, admitted}
 use Rattle.job_demands.proofs.Turns as T

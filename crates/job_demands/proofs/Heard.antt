@@ -12,7 +12,7 @@ use Rattle.paper.specs.Name.{same, wellFormed, legalBase, baseName}
 use Rattle.paper.specs.Declaration.{Declared, right, wrong, wrsLifetime, notGiven, declared, declaration, lifetimeAt, pointAt, typeLetter, lifetimeLetter, fits, fitWrs}
 use Rattle.paper.specs.Line.{Word, words, word, legalLine}
 use Rattle.paper.specs.Check.{Check, Verdict, passed, refused, verdict}
-use Rattle.paper.specs.Request.{Request, own, wrs, rds, Read, request, unread, readAs, after, needed, counted, miscounted, misnamed, declaredAt, readWrs, readRds, readFunction, read, textTooLong, withText, asked}
+use Rattle.paper.specs.Request.{Request, own, wrs, rds, Read, request, unread, readAs, after, needed, counted, miscounted, misnamed, declaredAt, octalAt, readWrs, readRds, readFunction, read, textTooLong, withText, asked}
 use Rattle.laws.proofs.Tests.{clash, and-parts}
 use Rattle.laws.proofs.Lists.{Every}
 use Rattle.demands.proofs.Request.Fair.{Idle, verdict-idle}
@@ -52,7 +52,7 @@ read-as q r cs e = go (verdict cs) refl e
 
 -- ---- by the words
 
-pub counted-words : (least most : ℕ) (line : List ℕ) → Idle (miscounted least most line)
+counted-words : (least most : ℕ) (line : List ℕ) → Idle (miscounted least most line)
     → (least ≤ length (spoken line) - 1) × (length (spoken line) - 1 ≤ most)
 unfolding counted
 counted-words least most line e =
@@ -117,17 +117,17 @@ heard line a d ws r e f =
       medium = λ m. let z = rw m at y in cc;
     }
 
--- a name that passes the checks of one function passes those of RDS, from one's own base list
+-- a name that passes the checks of one function passes those of RDS, from one's own base list, and is read whole
 pub rds-passes : (line : List ℕ) (a n : List (List ℕ)) → namesOf (words line) ≡ a ∷ n ∷ [] → wellFormed n ≡ true → legalBase (baseName n) ≡ true
-    → readRds line ≡ request (rds own (word line 1))
-unfolding readRds counted word verdict
+    → readRds line ≡ request (rds own (word line 1) notGiven notGiven)
+unfolding readRds counted word octalAt verdict
 rds-passes line a n e f l = go (words line) refl e
   where
     or-right : (b : Bool) → (b || true) ≡ true
     or-right true = refl
     or-right false = refl
 
-    go : (ws : List Word) → words line ≡ ws → namesOf ws ≡ a ∷ n ∷ [] → readRds line ≡ request (rds own (word line 1))
+    go : (ws : List Word) → words line ≡ ws → namesOf ws ≡ a ∷ n ∷ [] → readRds line ≡ request (rds own (word line 1) notGiven notGiven)
     go [] q p = absurd (nil≢cons p)
     go (v ∷ []) q p = absurd (nil≢cons (tail-eq-of-cons-eq p))
     go (v ∷ w ∷ []) q p = let g : w .names ≡ n = cc in rw (q, legal-own w (rw g l), g, f, l, or-right)

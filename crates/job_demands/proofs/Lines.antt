@@ -11,10 +11,11 @@ use lib.Dec.{leb}
 use borrow.Author.Tests.{eqb-true, leb-true, le-leb}
 use Rattle.paper.specs.Name as N
 use Rattle.paper.specs.Name.{pointed, dotW, all, inName, linkName, wellFormed, legalBase, baseName}
-use Rattle.paper.specs.Declaration.{notGiven, declared}
+use Rattle.paper.specs.Declaration.{Part, notGiven, declared}
+use Rattle.paper.specs.Octal.{partOf}
 use Rattle.paper.specs.Line.{inLine, Spot, blankSpot, atColon, close, closed, grow, split, Word, solid, word, legalLine}
 use Rattle.paper.specs.Check.{verdict}
-use Rattle.paper.specs.Request.{Begin, own, oldFrom, Request, wrs, rds, request, readRds, readFunction, read, asked}
+use Rattle.paper.specs.Request.{own, oldFrom, Request, wrs, rds, request, octalAt, readRds, readFunction, read, asked}
 use Rattle.paper.specs.Effect.{chainOf}
 use Rattle.laws.proofs.Tests.{truth, clash, and-right, and-both, and-parts}
 use Rattle.demands.proofs.Request.Formed.{Named}
@@ -23,7 +24,7 @@ use Rattle.job.specs.Filing.{below, wrsLine}
 use Rattle.job.specs.Reading.{rdsLine}
 use Rattle.job_demands.proofs.Bare.{bare, namesOf, spoken, spoken-words}
 use Rattle.job_demands.proofs.Closed.{split-some, names-some, front, lastPiece, one-word, fore}
-use Rattle.job_demands.proofs.Heard.{asked-read, read-by, read-as, counted-words, word-is, function-wrs, function-rds, function-none, heard, rds-passes}
+use Rattle.job_demands.proofs.Heard.{asked-read, read-by, read-as, word-is, function-wrs, function-rds, function-none, heard, rds-passes}
 
 -- ---- the words of the two lines
 
@@ -108,25 +109,21 @@ filing-word s a = word-is (filingLine s) 2 (a .names) (rw (spoken-wrs s (a .apar
 
 -- `RDS` joined to the rest is no function: 5
 reading-read : (s : List ℕ) (r : Request) → readFunction (readingLine s) ≡ request r
-    → Apart s × (r ≡ rds (oldFrom (word (readingLine s) 1)) (word (readingLine s) 1))
+    → (w : Word) × (first : Part) × (count : Part) × (r ≡ rds (oldFrom w) w first count)
 unfolding readRds
 reading-read s r e = go (truth (atColon (rest s)))
   where
-    go : (atColon (rest s) ≡ true) ⊎ (atColon (rest s) ≡ false) → Apart s × (r ≡ rds (oldFrom (word (readingLine s) 1)) (word (readingLine s) 1))
+    go : (atColon (rest s) ≡ true) ⊎ (atColon (rest s) ≡ false) → (w : Word) × (first : Part) × (count : Part) × (r ≡ rds (oldFrom w) w first count)
     go (inl c) = let f = function-none (readingLine s) _ _ _ _ (joined s c .rds) in clash (cc)
     go (inr c) =
-        let w = spoken-rds s c in
-        let x = read-as _ r _ (sym (function-rds (readingLine s) _ w) ∙ e) in
-        let k = counted-words 1 1 (readingLine s) (x .1 .0) in
-        let n = ap length w in
-        let o = one-left (restWords s) (omega arith) in
-        (record { apart = c; names = o .0; one = o .1 }, x .0)
+        let x = read-as _ r _ (sym (function-rds (readingLine s) _ (spoken-rds s c)) ∙ e) in
+        (word (readingLine s) 1, partOf (octalAt (readingLine s) 2), partOf (octalAt (readingLine s) 3), x .0)
 
 reading-word : (s : List ℕ) (a : Apart s) → word (readingLine s) 1 .names ≡ a .names
 reading-word s a = word-is (readingLine s) 1 (a .names) (rw (spoken-rds s (a .apart), a .one))
 
 reading-passes : (s : List ℕ) (a : Apart s) → wellFormed (a .names) ≡ true → legalBase (baseName (a .names)) ≡ true
-    → readFunction (readingLine s) ≡ request (rds own (word (readingLine s) 1))
+    → readFunction (readingLine s) ≡ request (rds own (word (readingLine s) 1) notGiven notGiven)
 reading-passes s a f l =
     let w = spoken-rds s (a .apart) in
     let v = spoken-words (readingLine s) ∙ w in
@@ -176,21 +173,11 @@ wrs-names chain link text r l e =
     let x = filing-read (below chain link) r (read-by _ r (asked-read _ text r e) .1) in
     (word (filingLine (below chain link)) 2, x .1, named chain link l (word (filingLine (below chain link)) 2) (x .0) (filing-word _ (x .0)))
 
-pub rds-names : (chain link text : List ℕ) (from : Begin) (w : Word) → linkName link ≡ true → asked (rdsLine chain link) text ≡ request (rds from w)
-    → chainOf w ≡ prefix chain ++ link ∷ []
-unfolding rdsLine
-rds-names chain link text from w l e =
-    let x = reading-read (below chain link) (rds from w) (read-by _ (rds from w) (asked-read _ text (rds from w) e) .1) in
-    let y = x .1 in
-    let q : w ≡ word (readingLine (below chain link)) 1 = cc in
-    rw q (named chain link l (word (readingLine (below chain link)) 1) (x .0) (reading-word _ (x .0)))
-
 -- the reading line, if it is read, is an RDS, whatever the link
-pub rds-read : (chain link : List ℕ) (r : Request) → read (rdsLine chain link) ≡ request r → (w : Word) × (r ≡ rds (oldFrom w) w)
+pub rds-read : (chain link : List ℕ) (r : Request) → read (rdsLine chain link) ≡ request r
+    → (w : Word) × (first : Part) × (count : Part) × (r ≡ rds (oldFrom w) w first count)
 unfolding rdsLine
-rds-read chain link r e =
-    let x = reading-read (below chain link) r (read-by (readingLine (below chain link)) r e .1) in
-    (word (readingLine (below chain link)) 1, x .1)
+rds-read chain link r e = reading-read (below chain link) r (read-by (readingLine (below chain link)) r e .1)
 
 -- a line that is legal after `WRS M ` is legal after `RDS `
 legal-shorter : (s : List ℕ) → legalLine (filingLine s) ≡ true → legalLine (readingLine s) ≡ true
@@ -200,9 +187,9 @@ legal-shorter s e =
     let n = leb-true (length (filingLine s)) 256 (f .0) in
     and-both (leb (length (readingLine s)) 256) (all inLine (readingLine s)) (le-leb (length (readingLine s)) 256 (omega arith)) (f .1)
 
--- where the filing line is read, so is the reading line, whatever text is lent with it
+-- where the filing line is read, so is the reading line, whatever text is lent with it: the same chain, and whole
 pub rds-reads : (chain link text x : List ℕ) (r : Request) → linkName link ≡ true → asked (wrsLine chain link) text ≡ request r
-    → (w : Word) × (asked (rdsLine chain link) x ≡ request (rds own w))
+    → (w : Word) × (asked (rdsLine chain link) x ≡ request (rds own w notGiven notGiven)) × (chainOf w ≡ prefix chain ++ link ∷ [])
 unfolding wrsLine rdsLine asked read verdict
 rds-reads chain link text x r l e =
     let s = below chain link in
@@ -212,4 +199,5 @@ rds-reads chain link text x r l e =
     let n : Named (word (filingLine s) 2) = subst (Right text) (e ∙ ap request (f .1)) (read-right (filingLine s) text) .name in (
       word (readingLine s) 1,
       rw (legal-shorter s (g .0), reading-passes s (f .0) (rw q at (n .formed)) (rw q at (n .legal))),
+      named chain link l (word (readingLine s) 1) (f .0) (reading-word s (f .0)),
     )

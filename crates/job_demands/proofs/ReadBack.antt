@@ -12,6 +12,7 @@ use Rattle.paper.specs.Table.{sized}
 use Rattle.paper.specs.Name.{linkName}
 use Rattle.paper.specs.Line.{Word}
 use Rattle.paper.specs.Check.{Verdict, passed, refused}
+use Rattle.paper.specs.Declaration.{notGiven}
 use Rattle.paper.specs.Request.{own, Request, rds, request, asked}
 use Rattle.paper.specs.Sound.{sound}
 use Rattle.paper.specs.Walk.{State, start, reached, stopped}
@@ -28,22 +29,22 @@ use Rattle.laws.proofs.Tests.{clash}
 use Rattle.laws.proofs.Entries.{same-refl}
 use Rattle.laws.proofs.Lists.{Every}
 use Rattle.demands.proofs.Sound.Clauses.{Sound, sound-clauses}
-use Rattle.job_demands.proofs.Lines.{prefix, rds-names, rds-reads}
+use Rattle.job_demands.proofs.Lines.{prefix, rds-reads}
 use Rattle.job_demands.proofs.Walks.{Meets, walk-last}
-use Rattle.job_demands.proofs.ReadOne.{admits, Wrote, rds-writes, rds-stops}
+use Rattle.job_demands.proofs.ReadOne.{sound-admits, Wrote, rds-writes, rds-stops}
 use Rattle.job_demands.proofs.Proper.{Proper, Apart, job-proper, job-apart}
 use Rattle.job_demands.proofs.JobFiled.{walk, Standing, Held, job-held}
 
 -- the line of the reading is read where that of the filing was, and names the same directory
 pub record Readable (chain link : List ℕ) : Type 0 where
   pub word : Word
-  pub asked : asked (rdsLine chain link) [] ≡ request (rds own word)
+  pub asked : asked (rdsLine chain link) [] ≡ request (rds own word notGiven notGiven)
   pub names : chainOf word ≡ prefix chain ++ link ∷ []
 
 pub readable : (chain link text : List ℕ) (r : Request) → linkName link ≡ true → asked (wrsLine chain link) text ≡ request r → Readable chain link
 readable chain link text r l q =
     let a = rds-reads chain link text [] r l q in
-    record { word = a .0; asked = a .1; names = rds-names chain link [] own (a .0) l (a .1) }
+    record { word = a .0; asked = a .1; names = a .2 }
 
 -- ---- one sheet read back
 
@@ -53,7 +54,7 @@ module _ (t chain back : List ℕ) (u : ℕ) (x : Sheet) (c : Sound t) (l : u �
       → Wrote t back (x .text) (readBack t chain back u x)
   unfolding readBack granted
   read-whole d w s m =
-      rw (admits t (rdsLine chain (x .link)) [] back u 0 (rds own (n .word)) c l (n .asked))
+      rw (sound-admits t (rdsLine chain (x .link)) [] back u 0 (rds own (n .word) notGiven notGiven) c l (n .asked))
       (rds-writes t back u 0 (n .word) (prefix chain) (x .link) (n .names) (x .text) d
       (walk-last t 1 (start u) (prefix chain) (x .link) [] ∙ w) (s .stood) m)
 
@@ -62,7 +63,7 @@ module _ (t chain back : List ℕ) (u : ℕ) (x : Sheet) (c : Sound t) (l : u �
       → readBack t chain back u x ≡ refusing t back (record { number = number; place = 1; link = link })
   unfolding readBack granted
   read-stopped number link w =
-      admits t (rdsLine chain (x .link)) [] back u 0 (rds own (n .word)) c l (n .asked)
+      sound-admits t (rdsLine chain (x .link)) [] back u 0 (rds own (n .word) notGiven notGiven) c l (n .asked)
       ∙ rds-stops t back u 0 (n .word) (prefix chain) (x .link) (n .names) number link
       (walk-last t 1 (start u) (prefix chain) (x .link) [] ∙ w)
 

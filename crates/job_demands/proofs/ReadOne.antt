@@ -6,24 +6,24 @@ use Prim.Native.Nat.{ℕ, _≤_}
 use native.Mathlib.Omega.{arith}
 use lib.ListN.{length, drop}
 use borrow.Author.Tests.{le-ltb, le-leb}
+use Rattle.paper.specs.Declaration.{notGiven}
 use Rattle.paper.specs.Line.{Word}
 use Rattle.paper.specs.Check.{verdict}
 use Rattle.paper.specs.Request.{Request, request, asked}
 use Rattle.paper.specs.Walk.{State, start, look, reached, stopped, toDirectory, ended}
 use Rattle.paper.specs.Store.{run}
 use Rattle.paper.specs.Effect.{chainOf, rdsPlan}
-use Rattle.paper.specs.Answer.{Outcome, refusing, ran, single, granted, entrance, requested}
+use Rattle.paper.specs.Answer.{Outcome, refusing, ran, single, granted, requested}
 use Rattle.demands.proofs.Sound.Clauses.{Sound, clauses-sound}
+use Rattle.demands.proofs.Request.Course.{admits}
+use Rattle.demands.proofs.Parts.{part-whole}
 use Rattle.job_demands.proofs.Kept.{Stood}
 use Rattle.job_demands.proofs.Walks.{last-of}
 
--- what was read is tried where the entrance lets it through
-pub admits : (t line text reply : List ℕ) (u k : ℕ) (r : Request) → Sound t → u ≤ 999999 → asked line text ≡ request r
+-- what was read is tried on a sound table
+pub sound-admits : (t line text reply : List ℕ) (u k : ℕ) (r : Request) → Sound t → u ≤ 999999 → asked line text ≡ request r
     → requested t line text reply u k ≡ granted t text reply u k r
-unfolding requested entrance verdict
-admits t line text reply u k r c l q =
-    let z = clauses-sound t c in
-    rw (z .0, z .1, le-ltb 999999 u l, q)
+sound-admits t line text reply u k r c = let z = clauses-sound t c in admits t line text reply u k r (z .0) (z .1)
 
 -- the text is written to the front of the buffer, and the table stays
 pub record Wrote (t buffer text : List ℕ) (o : Outcome) : Type 0 where
@@ -34,14 +34,26 @@ pub record Wrote (t buffer text : List ℕ) (o : Outcome) : Type 0 where
 
 module _ (t reply : List ℕ) (u k : ℕ) (w : Word) (pre : List (List ℕ)) (n : List ℕ) (e : chainOf w ≡ pre ++ n ∷ []) where
   pub rds-writes : (text : List ℕ) (d : State) → toDirectory t 1 (start u) (pre ++ n ∷ []) ≡ reached d → Stood t (d .holder) n text
-      → length text ≤ length reply → Wrote t reply text (single t reply k (ran k (rdsPlan t u reply w)))
+      → length text ≤ length reply → Wrote t reply text (single t reply k (ran k (rdsPlan t u reply w notGiven notGiven)))
   unfolding rdsPlan ended look verdict run
   rds-writes text d q s l =
-      rw (e, q, last-of pre n, s .found, s .code, s .simple, s .reads, le-ltb (length reply) (length text) l, le-leb 0 k (omega arith))
+      rw (
+        e,
+        q,
+        last-of pre n,
+        s .found,
+        s .code,
+        s .simple,
+        s .reads,
+        part-whole text,
+        le-ltb (length reply) (length text) l,
+        le-ltb (length text) 0 (omega arith),
+        le-leb 0 k (omega arith),
+      )
       (record { number = refl; bytes = refl; table = refl; reply = refl })
 
   -- the walk stops: so does the reading, with its number
   pub rds-stops : (number link : ℕ) → toDirectory t 1 (start u) (pre ++ n ∷ []) ≡ stopped number link
-      → single t reply k (ran k (rdsPlan t u reply w)) ≡ refusing t reply (record { number = number; place = 1; link = link })
+      → single t reply k (ran k (rdsPlan t u reply w notGiven notGiven)) ≡ refusing t reply (record { number = number; place = 1; link = link })
   unfolding rdsPlan ended
   rds-stops number link q = rw (e, q)

@@ -91,7 +91,8 @@ unfoldable pub granted : List ℕ → List ℕ → List ℕ → ℕ → ℕ → 
 granted t text reply u k (crd name level code) = single t reply k (ran k (crdPlan t u name level code))
 granted t text reply u k (wrs lifetime level code name) =
     single t reply k (ran k (wrsPlan t u text lifetime level code name))
-granted t text reply u k (rds from name) = single t reply k (ran k (rdsPlan t (listOf u from) reply (begun from name)))
+granted t text reply u k (rds from name first count) =
+    single t reply k (ran k (rdsPlan t (listOf u from) reply (begun from name) first count))
 granted t text reply u k (cpy from old new lifetime level code) =
     single t reply k (ran k (cpyPlan t (listOf u from) u (begun from old) new lifetime level code))
 granted t text reply u k (dup from old to new code) =

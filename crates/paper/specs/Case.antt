@@ -1,15 +1,15 @@
 -- "At the edges": the cases marked P, one list. `proofs/Cases.antt` has the one claim over it; a new case is a new line.
 use mathlib.Core.Bool.{Bool, true, false, _&&_, not}
 use mathlib.Core.List.{List, [], _∷_, _++_}
-use Prim.Native.Nat.{ℕ}
+use Prim.Native.Nat.{ℕ, _-_}
 use lib.Dec.{eqb}
-use lib.ListN.{replicate, take, drop}
+use lib.ListN.{length, replicate, take, drop}
 use Rattle.paper.specs.Record.{blank}
 use Rattle.paper.specs.Name.{same, dotR}
 use Rattle.paper.specs.Declaration.{Declared, right, wrong, declared}
 use Rattle.paper.specs.Code.{joined}
 use Rattle.paper.specs.Block.{blocks}
-use Rattle.paper.specs.Answer.{Answer, Outcome, requested, mending}
+use Rattle.paper.specs.Answer.{Answer, Outcome, yesNo, requested, mending}
 
 pub data Case : Type 0 where
   -- a code joined with another is this code
@@ -128,6 +128,19 @@ cpyRG letter = 67 ∷ 80 ∷ 89 ∷ 32 ∷ dotR ++ 32 ∷ 46 ∷ 71 ∷ 32 ∷ 4
 abbrev pub entryG : List ℕ
 entryG = 2 ∷ 0 ∷ 255 ∷ 255 ∷ 2 ∷ 0 ∷ 1 ∷ 0 ∷ 0 ∷ 2 ∷ 46 ∷ 71 ∷ replicate 20 0
 
+-- the simple file `.R` of user 1, its text `ABCDEFGHI`
+abbrev pub lettered : List ℕ
+lettered =
+    1 ∷ 1 ∷ 0 ∷ 0 ∷ 1 ∷ 0 ∷ 0 ∷ 0 ∷ 0 ∷ 0 ∷ 9 ∷ replicate 21 0
+    ++ 3 ∷ 9 ∷ 0 ∷ 0 ∷ 0 ∷ 0 ∷ 0 ∷ 0 ∷ 65 ∷ 66 ∷ 67 ∷ 68 ∷ 69 ∷ 70 ∷ 71 ∷ 72 ∷ 73 ∷ replicate 15 0
+    ++ entryR
+
+-- `RDS .R` and what follows, on a table, with a reply buffer of n zeros: the number, the place, and the bytes written
+abbrev pub reads : (table after : List ℕ) (n number place : ℕ) → List ℕ → Case
+reads table after n number place out =
+    asks table (rds (dotR ++ after)) [] (replicate n 0) 1 9
+    (answer number place (yesNo (eqb number 0)) 0 (length out) 0) table (out ++ replicate (n - length out) 0)
+
 unfoldable pub cases : List Case
 cases =
     -- "code 1 joined with 4 is 5; 2 with 6 is 6"
@@ -185,4 +198,26 @@ cases =
     ∷ asks (sheet 2 ++ entryR ++ pair) (cpyRG 65) [] [] 1 9 (answer 0 0 1 0 0 2) (sheet 2 ++ entryR ++ sheet 2 ++ entryG) []
     ∷ asks (sheet 2 ++ entryR ++ pair) (cpyRG 80) [] [] 1 9 (answer 25 3 0 0 0 0) (sheet 2 ++ entryR ++ pair) []
     ∷ asks (sheet 2 ++ entryR) (cpyRG 80) [] [] 1 9 (answer 19 0 0 0 0 0) (sheet 2 ++ entryR) []
+    -- document 02: "RDS name first count, both octal": ` 1 2`, ` 10`; a buffer exactly long enough, and one byte less
+    ∷ reads lettered (32 ∷ 49 ∷ 32 ∷ 50 ∷ []) 2 0 0 (66 ∷ 67 ∷ [])
+    ∷ reads lettered (32 ∷ 49 ∷ 32 ∷ 50 ∷ []) 1 20 0 []
+    ∷ reads lettered (32 ∷ 49 ∷ 48 ∷ []) 9 0 0 (73 ∷ [])
+    -- "a dash or nothing means 0 and to the end": ` - 2`, ` 7 -`, ` - -`, nothing
+    ∷ reads lettered (32 ∷ 45 ∷ 32 ∷ 50 ∷ []) 9 0 0 (65 ∷ 66 ∷ [])
+    ∷ reads lettered (32 ∷ 55 ∷ 32 ∷ 45 ∷ []) 9 0 0 (72 ∷ 73 ∷ [])
+    ∷ reads lettered (32 ∷ 45 ∷ 32 ∷ 45 ∷ []) 9 0 0 (65 ∷ 66 ∷ 67 ∷ 68 ∷ 69 ∷ 70 ∷ 71 ∷ 72 ∷ 73 ∷ [])
+    ∷ reads lettered [] 9 0 0 (65 ∷ 66 ∷ 67 ∷ 68 ∷ 69 ∷ 70 ∷ 71 ∷ 72 ∷ 73 ∷ [])
+    -- "First beyond the length is refused; first equal to it gives no bytes; a count past the end gives what there is": ` 12`, ` 11 1`, ` 7 7`
+    ∷ reads lettered (32 ∷ 49 ∷ 50 ∷ []) 9 28 2 []
+    ∷ reads lettered (32 ∷ 49 ∷ 49 ∷ 32 ∷ 49 ∷ []) 9 0 0 []
+    ∷ reads lettered (32 ∷ 55 ∷ 32 ∷ 55 ∷ []) 9 0 0 (72 ∷ 73 ∷ [])
+    -- an empty file: ` 0`, ` 1`
+    ∷ reads (sheet 0 ++ entryR) (32 ∷ 48 ∷ []) 0 0 0 []
+    ∷ reads (sheet 0 ++ entryR) (32 ∷ 49 ∷ []) 0 28 2 []
+    -- "A count of 0 is refused": ` - 00`; ` 8 0`, ` 1:2`, and seven digits, are no numbers; six are
+    ∷ reads lettered (32 ∷ 45 ∷ 32 ∷ 48 ∷ 48 ∷ []) 9 27 3 []
+    ∷ reads lettered (32 ∷ 56 ∷ 32 ∷ 48 ∷ []) 9 27 2 []
+    ∷ reads lettered (32 ∷ 49 ∷ 58 ∷ 50 ∷ []) 9 27 2 []
+    ∷ reads lettered (32 ∷ replicate 7 48) 9 27 2 []
+    ∷ reads lettered (32 ∷ replicate 5 48 ++ 55 ∷ []) 9 0 0 (72 ∷ 73 ∷ [])
     ∷ []

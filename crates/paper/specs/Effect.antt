@@ -274,16 +274,30 @@ delAt t place d f =
 unfoldable pub delPlan : List ℕ → ℕ → ℕ → Word → Planned
 delPlan t u place name = toEnd t u place name (delAt t place)
 
--- a plan that stores nothing and writes to the reply buffer
-abbrev pub writing : List Check → List ℕ → List ℕ → Planned
-writing checks out reply =
-    plan (record { checks = checks ++ tooShort out reply ∷ []; stores = []; displaced = false; reply = out })
+-- a plan that stores nothing and writes to the reply buffer, with the checks before 20 and those after it
+abbrev pub showing : List Check → List ℕ → List ℕ → List Check → Planned
+showing checks out reply late =
+    plan (record { checks = checks ++ tooShort out reply ∷ late; stores = []; displaced = false; reply = out })
 
--- "RDS writes the text to the front of the reply buffer."
-unfoldable pub rdsPlan : List ℕ → ℕ → List ℕ → Word → Planned
-rdsPlan t u reply name =
+abbrev pub writing : List Check → List ℕ → List ℕ → Planned
+writing checks out reply = showing checks out reply []
+
+-- "RDS name first count .. in bytes; a dash or nothing means 0 and to the end": that part of a text. "first equal to [the length]
+-- gives no bytes; a count past the end gives what there is"
+unfoldable pub part : List ℕ → Part → Part → List ℕ
+part text first count = take (orElse count (length text)) (drop (orElse first 0) text)
+
+-- 28: "First beyond the length is refused"
+abbrev pub beyondEnd : ℕ → Part → List ℕ → Check
+beyondEnd place first text = check (ltb (length text) (orElse first 0)) 28 place
+
+-- "RDS writes the text to the front of the reply buffer": the part of it that was asked for
+unfoldable pub rdsPlan : List ℕ → ℕ → List ℕ → Word → Part → Part → Planned
+rdsPlan t u reply name first count =
     toEnd t u 1 name
-    (λ _ f. writing (readInhibited 1 f ∷ notSimple 1 t f ∷ []) (fileText t (file t f)) reply)
+    (λ _ f.
+    let text = fileText t (file t f) in
+    showing (readInhibited 1 f ∷ notSimple 1 t f ∷ []) (part text first count) reply (beyondEnd 2 first text ∷ []))
 
 -- "LST writes one line an entry"
 unfoldable pub lstPlan : List ℕ → ℕ → List ℕ → Word → Planned

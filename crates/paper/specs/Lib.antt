@@ -4,6 +4,7 @@ pub mod Record
 pub mod Table
 pub mod Name
 pub mod Declaration
+pub mod Octal
 pub mod Line
 pub mod Check
 pub mod Request

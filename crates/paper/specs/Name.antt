@@ -91,14 +91,14 @@ inNumber b = leb 48 b && leb b 57
 unfoldable pub userName : List ℕ → Bool
 userName n = pointed n && eqb (length n) 7 && all inNumber (drop 1 n)
 
--- the number that digits make, after the number k
-unfoldable pub counting : ℕ → List ℕ → ℕ
-counting k [] = k
-counting k (b ∷ s) = counting (k * 10 + (b - 48)) s
+-- the number that digits make in a base, after the number k
+unfoldable pub counting : ℕ → ℕ → List ℕ → ℕ
+counting base k [] = k
+counting base k (b ∷ s) = counting base (k * base + (b - 48)) s
 
 -- .. and of `.nnnnnn`: "that user"
 unfoldable pub userNumber : List ℕ → ℕ
-userNumber n = counting 0 (drop 1 n)
+userNumber n = counting 10 0 (drop 1 n)
 
 -- "names in ascending byte order, a name before its longer continuations"
 unfoldable pub before : List ℕ → List ℕ → Bool

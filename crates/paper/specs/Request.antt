@@ -1,4 +1,4 @@
--- "The first word is the function." Reading a line: the request, or number 4 to 9, and 10 for its text.
+-- "The first word is the function." Reading a line: the request, or number 4 to 9 or 27, and 10 for its text.
 use mathlib.Core.Bool.{Bool, false, _&&_, _||_, not, cond}
 use mathlib.Core.List.{List, [], _∷_, _++_}
 use Prim.Native.Nat.{ℕ, suc, _+_, _-_}
@@ -6,6 +6,7 @@ use lib.Dec.{eqb, leb, ltb}
 use lib.ListN.{length, getD, take, drop}
 use Rattle.paper.specs.Name.{linkName, pointed, chain, alone, dash, lonePoint, wellFormed, legalBase, baseName, userName, userNumber}
 use Rattle.paper.specs.Declaration.{Part, given, notGiven, Parts, Declared, right, nothing, declared, partsOf, fits, fitCrd, fitCpy, fitDup, wrsLifetime, dprCode}
+use Rattle.paper.specs.Octal.{Octal, number, octal, partOf, isNumber, isCount}
 use Rattle.paper.specs.Line.{Word, words, word, legalLine}
 use Rattle.paper.specs.Check.{Refusal, Check, check, Verdict, passed, refused, verdict}
 
@@ -19,7 +20,7 @@ pub data Begin : Type 0 where
 pub data Request : Type 0 where
   crd : (name : Word) (level code : Part) → Request
   wrs : (lifetime : ℕ) (level code : Part) (name : Word) → Request
-  rds : (from : Begin) (name : Word) → Request
+  rds : (from : Begin) (name : Word) (first count : Part) → Request
   cpy : (from : Begin) (old new : Word) (lifetime level code : Part) → Request
   dup : (from : Begin) (old : Word) (to : Begin) (new : Word) (code : Part) → Request
   chn : (old link : Word) → Request
@@ -120,6 +121,14 @@ declaredAt line k = cond (ltb k (length (words line))) (declared (word line k .n
 abbrev pub partsAt : List ℕ → ℕ → Parts
 partsAt line k = partsOf (declaredAt line k)
 
+-- the number that word k is, or nothing given where there is no word k
+unfoldable pub octalAt : List ℕ → ℕ → Octal
+octalAt line k = cond (ltb k (length (words line))) (octal (word line k .names)) (number notGiven)
+
+-- 27: "bad number"
+abbrev pub badNumber : ℕ → Bool → Check
+badNumber place fit = check (not fit) 27 place
+
 -- the request with the number of a part that it needs, or 9 for the declaration at this place
 abbrev pub needed : ℕ → Part → (ℕ → Request) → Read
 needed place (given n) r = request (r n)
@@ -137,13 +146,19 @@ readWrs line =
     after (verdict (miscounted 2 2 line ∷ misnamed 2 3 line))
     (needed 1 (wrsLifetime (declaredAt line 1)) (λ lifetime. wrs lifetime (partsAt line 1 .level) (partsAt line 1 .code) (word line 2)))
 
--- "RDS, LST name"
+-- "RDS name first count": "27 bad number, straight after 9"
 unfoldable pub readRds : List ℕ → Read
 readRds line =
-    readAs (rds (oldFrom (word line 1)) (word line 1))
-    (verdict (miscounted 1 1 line ∷ malformed 1 (word line 1) ∷ illegalBut isTake 1 (word line 1) ∷ []))
+    readAs (rds (oldFrom (word line 1)) (word line 1) (partOf (octalAt line 2)) (partOf (octalAt line 3)))
+    (verdict
+    (miscounted 1 3 line
+    ∷ malformed 1 (word line 1)
+    ∷ illegalBut isTake 1 (word line 1)
+    ∷ badNumber 2 (isNumber (octalAt line 2))
+    ∷ badNumber 3 (isCount (octalAt line 3))
+    ∷ []))
 
--- "LST of a lone point lists the user's base files other than `.W`."
+-- "LST name". "LST of a lone point lists the user's base files other than `.W`."
 unfoldable pub readLst : List ℕ → Read
 readLst line =
     cond (lonePoint (word line 1 .names)) (readAs lstBase (verdict (miscounted 1 1 line ∷ [])))
@@ -236,7 +251,7 @@ read line = cond (legalLine line) (readFunction line) (unread (record { number =
 abbrev pub textTooLong : Request → List ℕ → Bool
 textTooLong (crd name level code) text = false
 textTooLong (wrs lifetime level code name) text = ltb 24000 (length text)
-textTooLong (rds from name) text = false
+textTooLong (rds from name first count) text = false
 textTooLong (cpy from old new lifetime level code) text = false
 textTooLong (dup from old to new code) text = false
 textTooLong (chn old link) text = false
@@ -249,6 +264,6 @@ abbrev pub withText : List ℕ → Read → Read
 withText text (request r) = readAs r (verdict (check (textTooLong r text) 10 0 ∷ []))
 withText text (unread f) = unread f
 
--- what a line and its text ask for, or number 4 to 10
+-- what a line and its text ask for, or number 4 to 10 or 27
 unfoldable pub asked : List ℕ → List ℕ → Read
 asked line text = withText text (read line)

@@ -12,7 +12,7 @@ use Rattle.paper.specs.Line.{Word}
 use Rattle.paper.specs.Check.{Refusal, Check}
 use Rattle.paper.specs.Request.{Begin, own, takeOf, giveTo}
 use Rattle.paper.specs.Walk.{State}
-use Rattle.paper.specs.Effect.{Plan, Planned, plan, halted, toHolder, toEnd, Making, making, linkTaken, linking, writing, readInhibited, notSimple, noDirectory, writeInhibited, tooShort, crdPlan, wrsPlan, rdsPlan, cpyPlan, dupPlan, chnPlan, delPlan, dprPlan, lstPlan, lstBasePlan}
+use Rattle.paper.specs.Effect.{Plan, Planned, plan, halted, toHolder, toEnd, Making, making, linkTaken, linking, showing, readInhibited, notSimple, noDirectory, writeInhibited, tooShort, crdPlan, wrsPlan, rdsPlan, cpyPlan, dupPlan, chnPlan, delPlan, dprPlan, lstPlan, lstBasePlan}
 use Rattle.laws.proofs.Lists.{Every, every-append, every-parts}
 use Rattle.demands.proofs.Request.Fair.{Idle, Fair, FairCheck, verdict-fair, fair-line, fair-at}
 use Rattle.demands.proofs.Request.Steps.{Walks, holder-by, end-by}
@@ -107,25 +107,26 @@ module _ (t reply : List ℕ) (u : ℕ) where
       fair-end t reply u place w _ l (λ _ _. record { checks = (fair-at 14 place 0 refl l, (fair-at 18 place 0 refl l, tt)); fits = λ h. omega arith })
 
   -- a plan that writes: 20 where the buffer is too short
-  fair-writing : (cs : List Check) (out : List ℕ) → Every FairCheck cs → FairPlanned reply (writing cs out reply)
-  fair-writing cs out h =
+  fair-showing : (cs late : List Check) (out : List ℕ) → Every FairCheck cs → Every FairCheck late → FairPlanned reply (showing cs out reply late)
+  fair-showing cs late out h l =
       record {
-        checks = every-append FairCheck cs _ h (fair-line 20 0 refl, tt);
-        fits = λ i. ltb-false _ _ (every-parts Idle cs (tooShort out reply ∷ []) i .1 .0);
+        checks = every-append FairCheck cs _ h (fair-line 20 0 refl, l);
+        fits = λ i. ltb-false _ _ (every-parts Idle cs (tooShort out reply ∷ late) i .1 .0);
       }
 
-  pub fair-rdsPlan : (w : Word) → FairPlanned reply (rdsPlan t u reply w)
+  pub fair-rdsPlan : (w : Word) (first count : Part) → FairPlanned reply (rdsPlan t u reply w first count)
   unfolding rdsPlan
-  fair-rdsPlan w =
+  fair-rdsPlan w first count =
       fair-end t reply u 1 w _ (omega arith) (λ _ f.
-      fair-writing (readInhibited 1 f ∷ notSimple 1 t f ∷ []) _ (fair-at 13 1 0 refl (omega arith), (fair-at 15 1 0 refl (omega arith), tt)))
+      fair-showing (readInhibited 1 f ∷ notSimple 1 t f ∷ []) _ _ (fair-at 13 1 0 refl (omega arith), (fair-at 15 1 0 refl (omega arith), tt))
+      (fair-at 28 2 0 refl (omega arith), tt))
 
   pub fair-lstPlan : (w : Word) → FairPlanned reply (lstPlan t u reply w)
   unfolding lstPlan
   fair-lstPlan w =
       fair-end t reply u 1 w _ (omega arith) (λ _ f.
-      fair-writing (readInhibited 1 f ∷ noDirectory 1 t f ∷ []) _ (fair-at 13 1 0 refl (omega arith), (fair-at 15 1 0 refl (omega arith), tt)))
+      fair-showing (readInhibited 1 f ∷ noDirectory 1 t f ∷ []) [] _ (fair-at 13 1 0 refl (omega arith), (fair-at 15 1 0 refl (omega arith), tt)) tt)
 
   pub fair-lstBasePlan : FairPlanned reply (lstBasePlan t u reply)
   unfolding lstBasePlan
-  fair-lstBasePlan = fair-writing [] _ tt
+  fair-lstBasePlan = fair-showing [] [] _ tt tt

@@ -16,7 +16,7 @@ use Rattle.demands.proofs.Answered.Numbered.{FairPlanned, fair-crdPlan,
 abbrev pub isDel : Request → Bool
 isDel (crd w level code) = false
 isDel (wrs lifetime level code w) = false
-isDel (rds from w) = false
+isDel (rds from w first count) = false
 isDel (cpy from old new lifetime level code) = false
 isDel (dup from old to new code) = false
 isDel (chn old link) = false
@@ -44,8 +44,9 @@ came t line text reply u = go (course t line text reply u)
     grants (crd w level code) q = planned (crd w level code) q refl (crdPlan t u w level code) (fair-crdPlan t reply u w level code)
     grants (wrs lifetime level code w) q =
         planned (wrs lifetime level code w) q refl (wrsPlan t u text lifetime level code w) (fair-wrsPlan t reply u text lifetime level code w)
-    grants (rds from w) q =
-        planned (rds from w) q refl (rdsPlan t (listOf u from) reply (begun from w)) (fair-rdsPlan t reply (listOf u from) (begun from w))
+    grants (rds from w first count) q =
+        planned (rds from w first count) q refl (rdsPlan t (listOf u from) reply (begun from w) first count)
+        (fair-rdsPlan t reply (listOf u from) (begun from w) first count)
     grants (cpy from old new lifetime level code) q =
         planned (cpy from old new lifetime level code) q refl (cpyPlan t (listOf u from) u (begun from old) new lifetime level code)
         (fair-cpyPlan t reply u (listOf u from) (begun from old) new lifetime level code)

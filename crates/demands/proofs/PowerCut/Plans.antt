@@ -134,9 +134,9 @@ module _ (t : List ℕ) (c : Sound t) where
   del-safe u place name =
       end-safe t u place name _ (λ d f q _. losing-shaped t c [] tt (f .entry) blank (last-looked t d (chainOf name) f q .stands .kind) length-blank)
 
-  pub rds-safe : (u : ℕ) (reply : List ℕ) (name : Word) → Safe t (rdsPlan t u reply name)
+  pub rds-safe : (u : ℕ) (reply : List ℕ) (name : Word) (first count : Part) → Safe t (rdsPlan t u reply name first count)
   unfolding rdsPlan
-  rds-safe u reply name = end-safe t u 1 name _ (λ d f _ _. none refl)
+  rds-safe u reply name first count = end-safe t u 1 name _ (λ d f _ _. none refl)
 
   pub lst-safe : (u : ℕ) (reply : List ℕ) (name : Word) → Safe t (lstPlan t u reply name)
   unfolding lstPlan

@@ -4,9 +4,9 @@ use mathlib.Core.Bool.{true}
 use mathlib.Core.List.{List}
 use mathlib.Core.Path.{_≡_, refl}
 use Prim.Native.Nat.{ℕ, _≤_}
-use borrow.Author.Tests.{not-false, ltb-false}
+use borrow.Author.Tests.{le-ltb, not-false, ltb-false}
 use Rattle.paper.specs.Table.{sized}
-use Rattle.paper.specs.Check.{Refusal, Verdict, passed, refused}
+use Rattle.paper.specs.Check.{Refusal, Verdict, passed, refused, verdict}
 use Rattle.paper.specs.Request.{Request, Read, request, unread, asked}
 use Rattle.paper.specs.Sound.{sound}
 use Rattle.paper.specs.Answer.{refusing, granted, entrance, requested}
@@ -20,6 +20,12 @@ pub record Admitted (t line text : List ℕ) (u : ℕ) (r : Request) : Type 0 wh
   pub user : u ≤ 999999
   pub asked : asked line text ≡ request r
   pub told : Told text r
+
+-- what was read is tried where the entrance lets it through
+pub admits : (t line text reply : List ℕ) (u k : ℕ) (r : Request) → sized t ≡ true → sound t ≡ true → u ≤ 999999 → asked line text ≡ request r
+    → requested t line text reply u k ≡ granted t text reply u k r
+unfolding requested entrance verdict
+admits t line text reply u k r z c l q = rw (z, c, le-ltb 999999 u l, q)
 
 pub data Course (t line text reply : List ℕ) (u : ℕ) : Type 0 where
   untried : (f : Refusal) → Fair f → ((k : ℕ) → requested t line text reply u k ≡ refusing t reply f) → Course t line text reply u

@@ -30,20 +30,31 @@ verdict-idle (c ∷ cs) e = go (c .when) refl e (λ f. verdict-idle cs f)
 abbrev pub placeless : ℕ → Bool
 placeless n = leb n 6 || eqb n 10 || eqb n 19 || eqb n 20 || eqb n 22
 
--- the numbers that refuse: 1 to 21 of document 01, and 25
+-- the numbers that refuse: 1 to 21 of document 01, then 25, 27 and 28
+abbrev pub later : ℕ → Bool
+later n = eqb n 25 || eqb n 27 || eqb n 28
+
 abbrev pub refuses : ℕ → Bool
-refuses n = leb 1 n && leb n 21 || eqb n 25
+refuses n = leb 1 n && leb n 21 || later n
 
 -- the numbers of answers: granted, refused, and "stop number reached with stores left"
 abbrev pub answers : ℕ → Bool
 answers n = eqb n 0 || (refuses n || eqb n 22)
 
 refuses-some : (n : ℕ) → refuses n ≡ true → 1 ≤ n
-refuses-some n e = go (or-cases (leb 1 n && leb n 21) (eqb n 25) e)
+refuses-some n e = go (or-cases (leb 1 n && leb n 21) (later n) e)
   where
-    go : ((leb 1 n && leb n 21) ≡ true) ⊎ (eqb n 25 ≡ true) → 1 ≤ n
+    one : (eqb n 25 ≡ true) ⊎ (eqb n 27 ≡ true) → 1 ≤ n
+    one (inl f) = omega (arith, eqb-true n 25 f)
+    one (inr f) = omega (arith, eqb-true n 27 f)
+
+    late : ((eqb n 25 || eqb n 27) ≡ true) ⊎ (eqb n 28 ≡ true) → 1 ≤ n
+    late (inl f) = one (or-cases (eqb n 25) (eqb n 27) f)
+    late (inr f) = omega (arith, eqb-true n 28 f)
+
+    go : ((leb 1 n && leb n 21) ≡ true) ⊎ (later n ≡ true) → 1 ≤ n
     go (inl f) = leb-true _ _ (and-left (leb 1 n) _ f)
-    go (inr f) = omega (arith, eqb-true n 25 f)
+    go (inr f) = late (or-cases (eqb n 25 || eqb n 27) (eqb n 28) f)
 
 -- a refusal's number is one of these, and its place is 0 exactly where the list says
 pub record Fair (f : Refusal) : Type 0 where

@@ -13,8 +13,9 @@ use Rattle.paper.specs.Scan.{at}
 use Rattle.paper.specs.Name.{linkName, chain, wellFormed, legalBase, baseName, lonePoint}
 use Rattle.paper.specs.Declaration.{Part, given, notGiven, isGiven, Parts, fits, fitWrs, fitCpy, fitDup, wrsLifetime, dprCode}
 use Rattle.paper.specs.Line.{Word, words, word, legalLine}
+use Rattle.paper.specs.Octal.{partOf}
 use Rattle.paper.specs.Check.{Check, check, Verdict, passed, refused, verdict}
-use Rattle.paper.specs.Request.{declaredAt, partsAt, Begin, oldFrom, isTake, isTakeWithin, illegalBut, Request, crd, wrs, rds, cpy, dup, chn, del, dpr, lst, lstBase, Read, request, unread, after, needed, readAs, counted, miscounted, malformed, illegal, unfit, each, between, misnamed, readCrd, readWrs, readRds, readLst, readCpy, readDup, linkAlone, readChn, readDpr, readDel, isFunction, readFunction, read, textTooLong, withText, asked}
+use Rattle.paper.specs.Request.{declaredAt, octalAt, partsAt, Begin, oldFrom, isTake, isTakeWithin, illegalBut, Request, crd, wrs, rds, cpy, dup, chn, del, dpr, lst, lstBase, Read, request, unread, after, needed, readAs, counted, miscounted, malformed, illegal, unfit, each, between, misnamed, readCrd, readWrs, readRds, readLst, readCpy, readDup, linkAlone, readChn, readDpr, readDel, isFunction, readFunction, read, textTooLong, withText, asked}
 use Rattle.paper.specs.Walk.{lastName}
 use Rattle.paper.specs.Effect.{begun}
 use Rattle.laws.proofs.Tests.{and-left, and-right, and-parts, either}
@@ -67,7 +68,7 @@ pub record DprRead (w : Word) (c : ℕ) : Type 0 where
 abbrev pub Told : List ℕ → Request → Type 0
 Told text (crd name level code) = CrdRead name level code
 Told text (wrs lifetime level code name) = WrsRead text lifetime level code name
-Told text (rds from name) = Named (begun from name)
+Told text (rds from name first count) = Named (begun from name)
 Told text (cpy from old new lifetime level code) = CpyRead (begun from old) new lifetime level code
 Told text (dup from old to new code) = DupRead (begun from old) (begun to new) to code
 Told text (chn old link) = ChnRead old link
@@ -219,22 +220,24 @@ module _ (line text : List ℕ) where
         text = ltb-false _ _ short;
       }))
 
-  -- the count, and a name that may be a take
-  take-read : (r : Request) → (Named (begun (oldFrom (word line 1)) (word line 1)) → Told text r)
-      → Heard text (readAs r (verdict (miscounted 1 1 line ∷ malformed 1 (word line 1) ∷ illegalBut isTake 1 (word line 1) ∷ [])))
-  take-read r told =
-      heard-after text (request r) _ (fair-line 6 0 refl, (fair-at 7 1 _ refl (omega arith), (fair-at 8 1 1 refl (omega arith), tt)))
+  -- the count, a name that may be a take, and the checks after it
+  take-read : (most : ℕ) (late : List Check) (r : Request) → Every FairCheck late → (Named (begun (oldFrom (word line 1)) (word line 1)) → Told text r)
+      → Heard text (readAs r (verdict (miscounted 1 most line ∷ malformed 1 (word line 1) ∷ illegalBut isTake 1 (word line 1) ∷ late)))
+  take-read most late r fair told =
+      heard-after text (request r) _ (fair-line 6 0 refl, (fair-at 7 1 _ refl (omega arith), (fair-at 8 1 1 refl (omega arith), fair)))
       (λ h _. told (old-named isTake 1 (word line 1) (λ e. e) (h .1 .0) (h .1 .1 .0)))
 
   heard-rds : Heard text (readRds line)
   unfolding readRds
-  heard-rds = take-read (rds (oldFrom (word line 1)) (word line 1)) (λ n. n)
+  heard-rds =
+      take-read 3 _ (rds (oldFrom (word line 1)) (word line 1) (partOf (octalAt line 2)) (partOf (octalAt line 3)))
+      (fair-at 27 2 0 refl (omega arith), (fair-at 27 3 0 refl (omega arith), tt)) (λ n. n)
 
   heard-lst : Heard text (readLst line)
   unfolding readLst
   heard-lst =
       either (Heard text) (lonePoint (word line 1 .names)) _ _ (heard-after text (request lstBase) _ (fair-line 6 0 refl, tt) (λ _ _. tt))
-      (take-read (lst (oldFrom (word line 1)) (word line 1)) (λ n. n))
+      (take-read 1 [] (lst (oldFrom (word line 1)) (word line 1)) tt (λ n. n))
 
   heard-cpy : Heard text (readCpy line)
   unfolding readCpy

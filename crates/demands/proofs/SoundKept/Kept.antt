@@ -11,6 +11,7 @@ use borrow.Author.Tests.{eqb-true, ltb-false}
 use Rattle.paper.specs.Scan.{Found, at, nowhere}
 use Rattle.paper.specs.Table.{rec, frees, room}
 use Rattle.paper.specs.Name.{linkName, legalBase}
+use Rattle.paper.specs.Declaration.{Part}
 use Rattle.paper.specs.Line.{Word}
 use Rattle.paper.specs.Check.{Check, passed, verdict}
 use Rattle.paper.specs.Entry.{find, full}
@@ -79,9 +80,9 @@ chn-keeps t u old link c n b =
 
 -- ---- RDS and LST store nothing
 
-pub rds-keeps : (t : List ℕ) (u : ℕ) (reply : List ℕ) (name : Word) → Sound t → Keeps t (rdsPlan t u reply name)
+pub rds-keeps : (t : List ℕ) (u : ℕ) (reply : List ℕ) (name : Word) (first count : Part) → Sound t → Keeps t (rdsPlan t u reply name first count)
 unfolding rdsPlan run
-rds-keeps t u reply name c = end-keeps t u 1 name _ (λ _ _ _ _ _. c)
+rds-keeps t u reply name first count c = end-keeps t u 1 name _ (λ _ _ _ _ _. c)
 
 pub lst-keeps : (t : List ℕ) (u : ℕ) (reply : List ℕ) (name : Word) → Sound t → Keeps t (lstPlan t u reply name)
 unfolding lstPlan run

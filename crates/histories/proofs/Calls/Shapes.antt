@@ -258,9 +258,9 @@ module _ (t : List ℕ) (c : Sound t) where
       let k = last-looked t d (chainOf name) f q .stands .kind in
       over-shaped [] tt (f .entry) blank k length-blank (cleared k refl))
 
-  pub rds-shape : (u : ℕ) (reply : List ℕ) (name : Word) → Shape t (rdsPlan t u reply name)
+  pub rds-shape : (u : ℕ) (reply : List ℕ) (name : Word) (first count : Part) → Shape t (rdsPlan t u reply name first count)
   unfolding rdsPlan
-  rds-shape u reply name = end-shape t u 1 name _ (λ d f _ _. plain tt)
+  rds-shape u reply name first count = end-shape t u 1 name _ (λ d f _ _. plain tt)
 
   pub lst-shape : (u : ℕ) (reply : List ℕ) (name : Word) → Shape t (lstPlan t u reply name)
   unfolding lstPlan

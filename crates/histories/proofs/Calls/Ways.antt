@@ -27,8 +27,8 @@ module _ (t line text reply : List ℕ) (u : ℕ) where
       by-plan c (crdPlan t u name level code) (crd-shape t c u name level code (named-last name (h .name) .short))
   granted-way c (wrs lifetime level code name) h =
       by-plan c (wrsPlan t u text lifetime level code name) (wrs-shape t c u text lifetime level code name (named-last name (h .name) .short))
-  granted-way c (rds from name) h =
-      by-plan c (rdsPlan t (listOf u from) reply (begun from name)) (rds-shape t c (listOf u from) reply (begun from name))
+  granted-way c (rds from name first count) h =
+      by-plan c (rdsPlan t (listOf u from) reply (begun from name) first count) (rds-shape t c (listOf u from) reply (begun from name) first count)
   granted-way c (cpy from old new lifetime level code) h =
       by-plan c (cpyPlan t (listOf u from) u (begun from old) new lifetime level code)
       (cpy-shape t c (listOf u from) u (begun from old) new lifetime level code (named-last new (h .new) .short))

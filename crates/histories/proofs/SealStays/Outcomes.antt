@@ -120,10 +120,11 @@ module _ (h : ℕ) (t s text reply : List ℕ) (u j : ℕ) (v : Veil h t s) (c :
       let l = named-last name (w .name) .short in
       by-plan (wrsPlan t u text life lev code name) (wrsPlan s u text life lev code name)
       (wrs-shape t c u text life lev code name l) (wrs-same h t s v c n u text life lev code name l)
-  granted-agree (rds from name) w =
+  granted-agree (rds from name first count) w =
       let a : ℕ = listOf u from in
       let b : Word = begun from name in
-      by-plan (rdsPlan t a reply b) (rdsPlan s a reply b) (rds-shape t c a reply b) (rds-same h t s v c n a reply b)
+      by-plan (rdsPlan t a reply b first count) (rdsPlan s a reply b first count) (rds-shape t c a reply b first count)
+      (rds-same h t s v c n a reply b first count)
   granted-agree (cpy from old new life lev code) w =
       let l = named-last new (w .new) .short in
       let a : ℕ = listOf u from in

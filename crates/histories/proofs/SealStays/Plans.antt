@@ -190,9 +190,10 @@ module _ (h : ℕ) (t s : List ℕ) (v : Veil h t s) (c : Sound t) (seal : noRea
   unfolding verdict
   thirteen f rest e = rw e
 
-  pub rds-same : (u : ℕ) (reply : List ℕ) (name : Word) → Same (rdsPlan t u reply name) (rdsPlan s u reply name)
+  pub rds-same : (u : ℕ) (reply : List ℕ) (name : Word) (first count : Part)
+      → Same (rdsPlan t u reply name first count) (rdsPlan s u reply name first count)
   unfolding rdsPlan
-  rds-same u reply name =
+  rds-same u reply name first count =
       end-same u 1 name _ _ (λ d f r. by-cases (ℕ-discrete (file t f) h)
       (λ (q : file t f ≡ h).
       let z = sealed d f _ r q in
