@@ -4,11 +4,11 @@ use mathlib.Core.Bool.{Bool, true, _&&_}
 use mathlib.Core.List.{List}
 use mathlib.Core.Logic.{by-cases}
 use mathlib.Core.Path.{_≡_, refl, ap, _∙_}
-use Prim.Native.Nat.{ℕ, zero, suc, _+_, _*_, _%_, _≤_, _<_}
+use Prim.Native.Nat.{ℕ, zero, suc, _+_, _*_, _/_, _%_, _≤_, _<_}
 use native.Mathlib.Omega.{arith}
 use native.Mathlib.Decide.{decLt}
 use lib.Dec.{eqb, leb, ltb}
-use lib.ListN.{length, length-append, length-take, length-drop}
+use lib.ListN.{length, take, drop, length-append, length-take, length-drop}
 use borrow.Author.Tests.{eqb-true, eq-eqb, leb-true, lt-ltb}
 use Rattle.paper.specs.Scan.{anyBelow, countBelow, allBelow, joinBelow}
 use Rattle.paper.specs.Record.{byte, isKind, headingType, textLength, simple, bytesHeld, headingOf, position, held, textAt}
@@ -21,6 +21,9 @@ use Rattle.laws.proofs.Lay.{length-rec, within}
 use Rattle.laws.proofs.Entries.{text-true, TextAt}
 use Rattle.records.proofs.Shares.{share-full, share-rest}
 use Rattle.scans.proofs.Turns.{any-count}
+use Rattle.effects.specs.Listed.{textRooms, gathered}
+use Rattle.effects.proofs.Gathers.{part-between}
+use Rattle.effects.proofs.Papers.{text-gathered}
 
 -- ---- shares
 
@@ -109,10 +112,22 @@ module _ (t : List ℕ) (h : ℕ) (fit : sized t ≡ true) (right : sound t ≡ 
       (implies-use (isKind 3 (rec t i)) _ (all-true _ (rooms t) i (g .below) (texts t right .other)) (eq-eqb _ _ (w .kind))))
       (share-most (textLength (rec t h)) p m)
 
-  pub text-length : length (fileText t h) ≡ textLength (rec t h)
-  unfolding fileText textRoom
-  text-length =
-      shares-all (λ p. held (rec t (textRoom t h p))) (textLength (rec t h))
-      (λ p m.
+  shares : (p : ℕ) → p < blocksOf t h → length (held (rec t (textRoom t h p))) ≡ share (textLength (rec t h)) p
+  unfolding textRoom
+  shares p m =
       let g = least (λ i. textAt h p (rec t i)) (rooms t) (here p m) in
-      ap (λ f. length (held (rec t (place t f)))) (first-least (λ i. textAt h p (rec t i)) (rooms t) (here p m)) ∙ its-share p (g .0) m (g .1))
+      ap (λ f. length (held (rec t (place t f)))) (first-least (λ i. textAt h p (rec t i)) (rooms t) (here p m)) ∙ its-share p (g .0) m (g .1)
+
+  pub text-length : length (fileText t h) ≡ textLength (rec t h)
+  unfolding fileText
+  text-length = shares-all (λ p. held (rec t (textRoom t h p))) (textLength (rec t h)) shares
+
+  -- a part needs its own text records alone: k bytes of the text from byte a on are in those from position a / 24 on
+  pub text-part : (a k : ℕ) → a + k ≤ textLength (rec t h)
+      → take k (drop (a % 24) (gathered t (textRooms t h) (a / 24) (blocks (a + k)))) ≡ take k (drop a (fileText t h))
+  unfolding fileText
+  text-part a k l =
+      let f : ℕ → List ℕ = λ p. held (rec t (textRoom t h p)) in
+      let n : ℕ = textLength (rec t h) in
+      ap (λ (s : List ℕ). take k (drop (a % 24) s)) (text-gathered t h (a / 24) (blocks (a + k)) fit (omega (arith, length-few)))
+      ∙ part-between f n (shares-before f n shares) (shares-all f n shares) a k l

@@ -3,19 +3,20 @@
 use mathlib.Core.Bool.{true}
 use mathlib.Core.List.{List, _∷_}
 use mathlib.Core.Path.{_≡_, ap, _∙_}
-use Prim.Native.Nat.{ℕ, _+_, _%_, _≤_, _<_}
+use Prim.Native.Nat.{ℕ, _+_, _-_, _%_, _≤_, _<_}
 use native.Mathlib.Omega.{arith}
 use lib.Dec.{eqb, leb}
 use lib.ListN.{getD, length, take}
 use lib.Seq.{sets, sets-eq, take-append-seam}
 use borrow.Author.Tests.{leb-true}
-use Rattle.paper.specs.Table.{sized, rooms, room, textRoom}
-use Rattle.paper.specs.Block.{blocks, blocksOf, fileText}
+use Rattle.paper.specs.Record.{held}
+use Rattle.paper.specs.Table.{sized, rooms, rec, room, textRoom}
+use Rattle.paper.specs.Block.{blocks, blocksOf}
 use Rattle.paper.specs.Store.{Store, puts, clear}
 use Rattle.paper.specs.Effect.{newFile, freed}
 use Rattle.laws.proofs.Tests.{and-right}
 use Rattle.laws.proofs.Lists.{join-cong, length-each, getD-each}
-use Rattle.effects.specs.Listed.{freeRooms, textRooms, gathered}
+use Rattle.effects.specs.Listed.{freeRooms, textRooms, between, gathered}
 use Rattle.effects.specs.Stage.{textStore, textStores, clearStores}
 use Rattle.effects.proofs.Places.{room-most, text-most}
 
@@ -44,9 +45,9 @@ unfolding freed clearStores
 file-freed t h e l =
     ap (λ (ss : List Store). clear h ∷ ss) (join-cong _ _ (blocksOf t h) (λ p m. rw (text-room t h p e (omega arith))))
 
-pub file-text : (t : List ℕ) (h : ℕ) → sized t ≡ true → blocksOf t h ≤ 1000 → fileText t h ≡ gathered t (textRooms t h) (blocksOf t h)
-unfolding fileText
-file-text t h e l = join-cong _ _ (blocksOf t h) (λ p m. rw (text-room t h p e (omega arith)))
+pub text-gathered : (t : List ℕ) (h p q : ℕ) → sized t ≡ true → q ≤ 1000
+    → gathered t (textRooms t h) p q ≡ between (λ k. held (rec t (textRoom t h k))) p q
+text-gathered t h p q e l = join-cong _ _ (q - p) (λ i m. rw (text-room t h (p + i) e (omega arith)))
 
 -- ---- how many, and how long
 

@@ -1,7 +1,7 @@
 -- Record numbers in lists of two-byte numbers, which every number of a table of fit size is; and the text of the records listed.
 use mathlib.Core.Bool.{Bool, _&&_, cond}
 use mathlib.Core.List.{List}
-use Prim.Native.Nat.{ℕ, _%_}
+use Prim.Native.Nat.{ℕ, _+_, _-_, _%_}
 use lib.Dec.{eqb}
 use lib.ListN.{getD, set}
 use Rattle.paper.specs.Scan.{eachBelow, joinBelow}
@@ -24,6 +24,10 @@ textOf h r = isKind 3 r && eqb (headingOf r) h
 abbrev pub withText : List ℕ → ℕ → ℕ → List ℕ → List ℕ
 withText t h i a = cond (textOf h (rec t i)) (set a (position (rec t i)) (i % 65536)) a
 
--- what the first n records listed hold, one after the other
-abbrev pub gathered : List ℕ → List ℕ → ℕ → List ℕ
-gathered t r n = joinBelow (λ p. held (rec t (getD r p 0))) n
+-- lists from one number up to another, one after the other
+abbrev pub between : (ℕ → List ℕ) → ℕ → ℕ → List ℕ
+between f p q = joinBelow (λ i. f (p + i)) (q - p)
+
+-- what the records listed from place p up to place q hold
+abbrev pub gathered : List ℕ → List ℕ → ℕ → ℕ → List ℕ
+gathered t r p q = between (λ k. held (rec t (getD r k 0))) p q

@@ -8,11 +8,12 @@ use denote.Enum.Declared.{tagOf}
 use lib.Dec.{ltb}
 use lib.ListN.{length}
 use types.Run.{OneOf, miss}
+use Rattle.paper.specs.Declaration.{Part, given, notGiven}
 use Rattle.paper.specs.Request as asked
 use Rattle.paper.specs.Request.{crd, wrs, rds, cpy, dup, chn, del, dpr, lst, lstBase, request, unread, read, textTooLong}
 use Rattle.paper.specs.Request.{own, takeOf, giveTo}
 use Rattle.laws.proofs.Tests.{clash}
-use Rattle.words.specs.Shown.{beginShown, beginMeant}
+use Rattle.words.specs.Shown.{beginShown, beginMeant, shownPart, meantPart}
 use Rattle.declarations.proofs.Parts.{lifetime-back, level-back, digit-back}
 use Rattle.reader.specs.Asked.{shownRequest, shownRead}
 use Rattle.reader.specs.Tied.{Tied, TiedRead}
@@ -31,10 +32,14 @@ begin-back own = refl
 begin-back (takeOf n) = refl
 begin-back (giveTo n) = refl
 
+part-back : (p : Part) → meantPart (shownPart p) ≡ p
+part-back (given n) = refl
+part-back notGiven = refl
+
 pub request-back : (line : List ℕ) (q : asked.Request) → Tied line q → requestMeant line (shownRequest q) ≡ q
 request-back line (crd w v d) t = rw (word-there line 1 w t, level-back v, digit-back d)
 request-back line (wrs f v d w) t = rw (word-there line 2 w t, level-back v, digit-back d)
-request-back line (rds b w) t = rw (begin-back b, word-there line 1 w t)
+request-back line (rds b w f n) t = rw (begin-back b, word-there line 1 w t, part-back f, part-back n)
 request-back line (cpy b o n f v d) t =
     rw (begin-back b, word-there line 1 o (t .0), word-there line 2 n (t .1), lifetime-back f, level-back v, digit-back d)
 request-back line (dup b o e n d) t =
@@ -61,7 +66,7 @@ pub no-text : (line text : List ℕ) (r : Request) → OneOf (0 ∷ 2 ∷ 3 ∷ 
     → textTooLong (requestMeant line r) text ≡ false
 no-text line text (Crd n v d) h = refl
 no-text line text (Wrs f v d n) h = absurd (miss (0 ∷ 2 ∷ 3 ∷ 4 ∷ 5 ∷ 6 ∷ 7 ∷ 8 ∷ 9 ∷ []) 1 tt h)
-no-text line text (Rds b n) h = refl
+no-text line text (Rds b n f c) h = refl
 no-text line text (Cpy b o n f v d) h = refl
 no-text line text (Dup b o e n d) h = refl
 no-text line text (Chn o l) h = refl

@@ -15,9 +15,10 @@ use Rattle.paper.specs.Walk.{lastName}
 use Rattle.paper.specs.Answer.{Outcome, granted, requested, ran, single}
 use Rattle.laws.proofs.Tests.{truth}
 use Rattle.words.specs.Place.{joined, namesFrom}
-use Rattle.words.specs.Shown.{beginMeant}
+use Rattle.words.specs.Shown.{beginMeant, meantPart}
 use Rattle.words.specs.declared.begin.Begin.{Begin}
 use Rattle.words.specs.declared.begin.Begin.the-variants.{Own, Take, Give}
+use Rattle.words.specs.declared.octal.Part.{Part}
 use Rattle.declarations.specs.Given.{lifetimePart, levelPart, digitPart}
 use Rattle.declarations.specs.declared.part.Lifetime.{Lifetime}
 use Rattle.declarations.specs.declared.part.Level.{Level}
@@ -173,10 +174,12 @@ module _ {t line text : List ℕ} {u : ℕ} {r : Request} (a : Admitted t line t
     del-done p n e h =
         subst (λ (o : Outcome). Promised o z v reply) (sym (comes (Del p n) e reply k)) (promised-names t u reply k (drop 1 (words line)) z v h)
 
-    pub rds-done : (b : Begin) (p : ℕ) → r ≡ Rds b p → Wrote t reply (reading Text t (list b) reply (from b p)) z v
+    pub rds-done : (b : Begin) (p : ℕ) (f n : Part) → r ≡ Rds b p f n → Wrote t reply (reading (Text f n) t (list b) reply (from b p)) z v
         → Promised (requested t line text reply u k) z t v
     unfolding granted rdsPlan
-    rds-done b p e h = writing-done (Rds b p) e (rdsPlan t (list b) reply (from b p)) refl (rds-storeless t (list b) reply (from b p)) h
+    rds-done b p f n e h =
+        let x : Planned = rdsPlan t (list b) reply (from b p) (meantPart f) (meantPart n) in
+        writing-done (Rds b p f n) e x refl (rds-storeless t (list b) reply (from b p) (meantPart f) (meantPart n)) h
 
     pub lst-done : (b : Begin) (p : ℕ) → r ≡ Lst b p → Wrote t reply (reading Lines t (list b) reply (from b p)) z v
         → Promised (requested t line text reply u k) z t v

@@ -100,9 +100,9 @@ any-stop t reply k (plan p) h = go (verdict (p .checks))
         rw (le-leb (length (p .stores)) k (omega arith), le-leb (length (p .stores)) 0 (omega arith))
     go (refused f) = refl
 
-pub rds-storeless : (t : List ℕ) (u : ℕ) (reply : List ℕ) (name : Word) → Storeless (rdsPlan t u reply name)
+pub rds-storeless : (t : List ℕ) (u : ℕ) (reply : List ℕ) (name : Word) (first count : Part) → Storeless (rdsPlan t u reply name first count)
 unfolding rdsPlan
-rds-storeless t u reply name = end-by Storeless 1 (λ _ _ _. tt) t u name _ (λ d f _ _. refl)
+rds-storeless t u reply name first count = end-by Storeless 1 (λ _ _ _. tt) t u name _ (λ d f _ _. refl)
 
 pub lst-storeless : (t : List ℕ) (u : ℕ) (reply : List ℕ) (name : Word) → Storeless (lstPlan t u reply name)
 unfolding lstPlan

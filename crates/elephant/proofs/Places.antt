@@ -84,7 +84,7 @@ module _ (line : List ℕ) where
 
   near-rds : Near (readRds line)
   unfolding readRds
-  near-rds = near-as _ _ (omega arith, (omega arith, (omega arith, tt)))
+  near-rds = near-as _ _ (omega arith, (omega arith, (omega arith, (omega arith, (omega arith, tt)))))
 
   near-lst : Near (readLst line)
   unfolding readLst

@@ -1,20 +1,24 @@
 -- RDS and LST at the end of their walks, by the tests that the code makes: 13, 15, and then what is written.
 -- Both are one reading, over the file that is asked for and what is written of it.
 use mathlib.Core.Bool.{true, false, not}
-use mathlib.Core.List.{List, []}
-use mathlib.Core.Path.{_≡_, sym, _∙_}
-use Prim.Native.Nat.{ℕ, _≤_, _<_}
+use mathlib.Core.List.{List, [], _∷_}
+use mathlib.Core.Logic.{by-cases}
+use mathlib.Core.Path.{_≡_, sym, ap, _∙_}
+use Prim.Native.Nat.{ℕ, _-_, _≤_, _<_, min}
 use native.Mathlib.Omega.{arith}
-use lib.ListN.{length}
-use lib.Seq.{sets}
+use native.Mathlib.Decide.{decLt}
+use lib.ListN.{length, take, drop, length-take, length-drop}
+use lib.Seq.{sets, take-all}
+use borrow.Author.Tests.{lt-ltb, le-ltb}
 use Rattle.paper.specs.Record.{textLength, simple}
 use Rattle.paper.specs.Table.{rec}
 use Rattle.paper.specs.Block.{fileText}
 use Rattle.paper.specs.Code.{noRead}
-use Rattle.paper.specs.Check.{check}
+use Rattle.paper.specs.Declaration.{Part, orElse}
+use Rattle.paper.specs.Check.{Check, check}
 use Rattle.paper.specs.Walk.{file}
 use Rattle.paper.specs.Answer.{plain, granting}
-use Rattle.paper.specs.Effect.{readInhibited, writing}
+use Rattle.paper.specs.Effect.{readInhibited, showing, part, beyondEnd}
 use Rattle.effects.proofs.Lengths.{text-length}
 use Rattle.listing.proofs.Promised.{sets-front}
 use Rattle.walk.specs.Shown.{meant}
@@ -22,9 +26,9 @@ use Rattle.walk.specs.declared.state.State.{State}
 use Rattle.answers.specs.Shown.{shown}
 use Rattle.answers.specs.declared.Answer.{Answer}
 use Rattle.elephant.specs.Done.{Fit, Wrote}
-use Rattle.elephant.specs.Reading.{isRight, written, readingAt}
+use Rattle.elephant.specs.Reading.{isRight, written, late, readingAt}
 use Rattle.elephant.specs.declared.reply.Sheet.{Sheet}
-use Rattle.elephant.proofs.Verdicts.{first-holds, second-holds, wrote-refused, wrote-short, wrote-out, wrote-after}
+use Rattle.elephant.proofs.Verdicts.{first-holds, first-passes, none-left, second-holds, wrote-refused, wrote-short, wrote-late, wrote-out, wrote-after}
 
 module _ (s : Sheet) (t reply : List ℕ) (f : State) where
   pub reading-shut : noRead (f .code .0) ≡ true → Wrote t reply (readingAt s t reply (meant f)) (shown (plain 13 1 0 0)) reply
@@ -36,22 +40,48 @@ module _ (s : Sheet) (t reply : List ℕ) (f : State) where
         wrote-refused t reply _ _
         (second-holds (readInhibited 1 (meant f)) (check (not (isRight s (rec t (file t (meant f))))) 15 1) _ a (rw (← g) b))
 
-    pub reading-on : not (isRight s (rec t h)) ≡ false → (r : Answer) (w : List ℕ) → Wrote t reply (writing [] (written s t h) reply) r w
-        → Wrote t reply (readingAt s t reply (meant f)) r w
+    pub reading-on : not (isRight s (rec t h)) ≡ false → (r : Answer) (w : List ℕ)
+        → Wrote t reply (showing [] (written s t h) reply (late s t h)) r w → Wrote t reply (readingAt s t reply (meant f)) r w
     reading-on b r w y =
-        wrote-after t reply (written s t (file t (meant f))) (readInhibited 1 (meant f)) (check (not (isRight s (rec t (file t (meant f))))) 15 1)
-        a (rw (← g) b) r w (rw g at y)
+        wrote-after t reply (written s t (file t (meant f))) (late s t (file t (meant f))) (readInhibited 1 (meant f))
+        (check (not (isRight s (rec t (file t (meant f))))) 15 1) a (rw (← g) b) r w (rw g at y)
 
--- the text of a simple file, by its heading's length
-module _ (t reply : List ℕ) (h n : ℕ) (f : Fit t) (s : simple (rec t h) ≡ true) (q : n ≡ textLength (rec t h)) where
+-- as many bytes as there are, of i that are asked for
+take-most : (i m : ℕ) (l : List ℕ) → m ≡ min i (length l) → take m l ≡ take i l
+take-most i m l e =
+    by-cases (decLt i (length l)) (λ (o : i < length l). let z : m ≡ i = omega arith in ap (λ (k : ℕ). take k l) z)
+    (λ (o : ¬ (i < length l)). take-all m l (omega arith) ∙ sym (take-all i l (omega arith)))
+
+-- a part of the text of a simple file, m bytes long by its heading's length
+module _ (t reply : List ℕ) (h n : ℕ) (f : Fit t) (s : simple (rec t h) ≡ true) (q : n ≡ textLength (rec t h)) (first count : Part) (m : ℕ)
+    (e : m ≡ min (orElse count n) (n - orElse first 0)) where
   size : length (fileText t h) ≡ n
   size = text-length t h (f .sized) (f .sound) s ∙ sym q
 
-  pub text-short : length reply < n → Wrote t reply (writing [] (fileText t h) reply) (shown (plain 20 0 0 0)) reply
-  text-short m = wrote-short t reply (fileText t h) (omega (arith, size))
+  abbrev out : List ℕ
+  out = part (fileText t h) first count
 
-  pub text-written : (w : List ℕ) → n ≤ length reply → w ≡ sets reply 0 (fileText t h)
-      → Wrote t reply (writing [] (fileText t h) reply) (shown (granting false n 0)) w
-  text-written w m e =
-      let l : length (fileText t h) ≤ length reply = omega (arith, size) in
-      rw (← size) (wrote-out t reply (fileText t h) w l (e ∙ sets-front (fileText t h) reply l))
+  abbrev after : List Check
+  after = beyondEnd 2 first (fileText t h) ∷ []
+
+  out-size : length out ≡ m
+  unfolding part
+  out-size = rw (length-take, length-drop, size) (sym e)
+
+  pub part-short : length reply < m → Wrote t reply (showing [] out reply after) (shown (plain 20 0 0 0)) reply
+  part-short l = wrote-short t reply out after (omega (arith, out-size))
+
+  pub part-beyond : m ≤ length reply → n < orElse first 0 → Wrote t reply (showing [] out reply after) (shown (plain 28 2 0 0)) reply
+  part-beyond l b =
+      wrote-late t reply out after (record { number = 28; place = 2; link = 0 }) (omega (arith, out-size))
+      (first-holds (beyondEnd 2 first (fileText t h)) [] (lt-ltb (length (fileText t h)) (orElse first 0) (omega (arith, size))))
+
+  pub part-written : (w : List ℕ) → m ≤ length reply → orElse first 0 ≤ n → w ≡ sets reply 0 (take m (drop (orElse first 0) (fileText t h)))
+      → Wrote t reply (showing [] out reply after) (shown (granting false m 0)) w
+  unfolding part
+  part-written w l b z =
+      let o : take m (drop (orElse first 0) (fileText t h)) ≡ out =
+      take-most (orElse count (length (fileText t h))) m (drop (orElse first 0) (fileText t h)) (rw (length-drop, size) e) in
+      let k : length out ≤ length reply = omega (arith, out-size) in
+      let v = first-passes (beyondEnd 2 first (fileText t h)) [] (le-ltb (length (fileText t h)) (orElse first 0) (omega (arith, size))) ∙ none-left in
+      rw (← out-size) (wrote-out t reply out after w k v (z ∙ ap (sets reply 0) o ∙ sets-front out reply k))

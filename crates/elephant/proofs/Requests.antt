@@ -87,7 +87,7 @@ del-read line first count e = go (read line) (tied line) e
         (a ∙ ap firstStart t, b ∙ ap length t)
     go (request (crd w v d)) t z = clash (cc)
     go (request (wrs f v d w)) t z = clash (cc)
-    go (request (rds b w)) t z = clash (cc)
+    go (request (rds b w f n)) t z = clash (cc)
     go (request (cpy b o n f v d)) t z = clash (cc)
     go (request (dup b o e n d)) t z = clash (cc)
     go (request (chn o l)) t z = clash (cc)

@@ -11,7 +11,7 @@ use borrow.Author.Tests.{leb-true, lt-ltb, le-ltb}
 use Rattle.laws.proofs.Tests.{clash}
 use Rattle.paper.specs.Check.{Refusal, Check, check, Verdict, passed, refused, verdict}
 use Rattle.paper.specs.Store.{run}
-use Rattle.paper.specs.Effect.{Plan, plan, tooShort, writing}
+use Rattle.paper.specs.Effect.{Plan, plan, tooShort, showing}
 use Rattle.paper.specs.Answer.{Outcome, plain, granting, stores, done, cut, ran, single, refusing}
 use Rattle.effects.specs.Stage.{Made}
 use Rattle.answers.specs.Shown.{shown, stored}
@@ -129,16 +129,22 @@ module _ (t reply : List ℕ) where
       let w = single-refused t reply 0 p g e in
       record { answer = sym (ap (λ (o : Outcome). shown (o .answer)) w); reply = sym (ap (λ (o : Outcome). o .reply) w) }
 
-  module _ (out : List ℕ) where
+  -- with the checks after 20
+  module _ (out : List ℕ) (late : List Check) where
     -- it does not fit
-    pub wrote-short : length reply < length out → Wrote t reply (writing [] out reply) (shown (plain 20 0 0 0)) reply
-    wrote-short l = wrote-refused _ _ (first-holds (tooShort out reply) [] (lt-ltb _ _ l))
+    pub wrote-short : length reply < length out → Wrote t reply (showing [] out reply late) (shown (plain 20 0 0 0)) reply
+    wrote-short l = wrote-refused _ _ (first-holds (tooShort out reply) late (lt-ltb _ _ l))
+
+    -- it fits, and a check after 20 holds
+    pub wrote-late : (g : Refusal) → length out ≤ length reply → verdict late ≡ refused g
+        → Wrote t reply (showing [] out reply late) (shown (plain (g .number) (g .place) 0 0)) reply
+    wrote-late g l e = wrote-refused _ g (first-passes (tooShort out reply) late (le-ltb _ _ l) ∙ e)
 
     -- it fits, and the rest is as it was
-    pub wrote-out : (w : List ℕ) → length out ≤ length reply → w ≡ out ++ drop (length out) reply
-        → Wrote t reply (writing [] out reply) (shown (granting false (length out) 0)) w
-    wrote-out w l e =
-        let fits : verdict (tooShort out reply ∷ []) ≡ passed = first-passes (tooShort out reply) [] (le-ltb _ _ l) ∙ none-left in
+    pub wrote-out : (w : List ℕ) → length out ≤ length reply → verdict late ≡ passed → w ≡ out ++ drop (length out) reply
+        → Wrote t reply (showing [] out reply late) (shown (granting false (length out) 0)) w
+    wrote-out w l v e =
+        let fits : verdict (tooShort out reply ∷ late) ≡ passed = first-passes (tooShort out reply) late (le-ltb _ _ l) ∙ v in
         record { answer = rw fits; reply = e ∙ rw fits }
 
     abbrev with : List Check → Plan
@@ -150,13 +156,14 @@ module _ (t reply : List ℕ) where
 
     -- two checks before it that do not hold
     module _ (c d : Check) (e : c .when ≡ false) (f : d .when ≡ false) where
-      same : single t reply 0 (ran 0 (writing (c ∷ d ∷ []) out reply)) ≡ single t reply 0 (ran 0 (writing [] out reply))
+      same : single t reply 0 (ran 0 (showing (c ∷ d ∷ []) out reply late)) ≡ single t reply 0 (ran 0 (showing [] out reply late))
       same =
-          let short : List Check = tooShort out reply ∷ [] in
+          let short : List Check = tooShort out reply ∷ late in
           ap (λ (v : Verdict). single t reply 0 (stores 0 (with (c ∷ d ∷ short)) v)) (first-passes c (d ∷ short) e ∙ first-passes d short f)
           ∙ alike (c ∷ d ∷ short) short (verdict short)
 
-      pub wrote-after : (r : Answer) (w : List ℕ) → Wrote t reply (writing [] out reply) r w → Wrote t reply (writing (c ∷ d ∷ []) out reply) r w
+      pub wrote-after : (r : Answer) (w : List ℕ) → Wrote t reply (showing [] out reply late) r w
+          → Wrote t reply (showing (c ∷ d ∷ []) out reply late) r w
       wrote-after r w h =
           record {
             answer = h .answer ∙ sym (ap (λ (o : Outcome). shown (o .answer)) same);

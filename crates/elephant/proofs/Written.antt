@@ -2,18 +2,18 @@
 -- list of rooms holds, its text is as long as its heading says; and 2,048 lines of at most 21 bytes each are few.
 use mathlib.Core.Bool.{Bool, true, false, cond}
 use mathlib.Core.List.{List}
-use mathlib.Core.Path.{_≡_, sym}
-use Prim.Native.Nat.{ℕ, zero, suc, _+_, _*_, _≤_, _<_}
+use mathlib.Core.Path.{_≡_}
+use Prim.Native.Nat.{ℕ, zero, suc, _+_, _*_, _/_, _%_, _≤_, _<_}
 use native.Mathlib.Omega.{arith}
 use lib.ListN.{length, take, drop}
-use lib.Seq.{sets}
+use lib.Seq.{sets, take-all}
 use Rattle.paper.specs.Record.{nameOf, textLength, simple}
 use Rattle.paper.specs.Table.{rooms, rec}
 use Rattle.paper.specs.Block.{blocks, fileText}
 use Rattle.paper.specs.Listing.{listed, lines}
 use Rattle.effects.specs.Listed.{textRooms, gathered}
-use Rattle.effects.proofs.Papers.{sized-most, file-text, taken-front}
-use Rattle.effects.proofs.Lengths.{length-few, blocks-few, text-length}
+use Rattle.effects.proofs.Papers.{sized-most, taken-front}
+use Rattle.effects.proofs.Lengths.{length-few, text-length, text-part}
 use Rattle.listing.specs.Ordered.{sizeAt, sizeBelow}
 use Rattle.listing.proofs.Sizes.{name-short, size-listed}
 use Rattle.elephant.specs.Done.{Fit}
@@ -24,10 +24,14 @@ module _ (t : List ℕ) (h : ℕ) (f : Fit t) (s : simple (rec t h) ≡ true) wh
   pub text-few : length (fileText t h) ≤ 24000
   text-few = rw (text-length t h (f .sized) (f .sound) s) (length-few t h (f .sized) (f .sound) s)
 
-  -- the text gathered from its rooms
-  pub text-there : (r : List ℕ) (b n : ℕ) → r ≡ textRooms t h → b ≡ blocks n → n ≡ textLength (rec t h) → gathered t r b ≡ fileText t h
-  text-there r b n p q o =
-      rw (p, q, o) (sym (file-text t h (f .sized) (blocks-few t h (f .sized) (f .sound) s)))
+  -- the part gathered from its own rooms: b is one past the last
+  pub part-there : (r : List ℕ) (a k b : ℕ) → r ≡ textRooms t h → b ≡ blocks (a + k) → a + k ≤ textLength (rec t h)
+      → take k (drop (a % 24) (gathered t r (a / 24) b)) ≡ take k (drop a (fileText t h))
+  part-there r a k b p q l = rw (p, q) (text-part t h (f .sized) (f .sound) s a k l)
+
+  -- the whole is a part
+  pub all-there : (n : ℕ) → n ≡ textLength (rec t h) → take n (drop 0 (fileText t h)) ≡ fileText t h
+  all-there n q = take-all n (fileText t h) (omega (arith, text-length t h (f .sized) (f .sound) s))
 
   -- .. and copied to the front of z, from where it is taken again
   pub text-copied : (z l : List ℕ) (n : ℕ) → 24000 ≤ length z → l ≡ sets z 0 (fileText t h) → n ≡ textLength (rec t h) → take n (drop 0 l) ≡ fileText t h

@@ -5,7 +5,7 @@ use lib.ListN.{drop}
 use Rattle.paper.specs.Line.{words}
 use Rattle.paper.specs.Request as asked
 use Rattle.paper.specs.Request.{crd, wrs, rds, cpy, dup, chn, del, dpr, lst, lstBase}
-use Rattle.words.specs.Shown.{beginMeant}
+use Rattle.words.specs.Shown.{beginMeant, meantPart}
 use Rattle.declarations.specs.Given.{lifetimePart, levelPart, digitPart}
 use Rattle.reader.specs.declared.request.Request.{Request}
 use Rattle.reader.specs.declared.request.Request.the-variants.{Crd, Wrs, Rds, Cpy, Dup, Chn, Del, Dpr, Lst, LstBase}
@@ -14,7 +14,7 @@ use Rattle.elephant.specs.Done.{wordAt}
 abbrev pub requestMeant : List ℕ → Request → asked.Request
 requestMeant line (Crd name level digit) = crd (wordAt line name) (levelPart level) (digitPart digit)
 requestMeant line (Wrs lifetime level digit name) = wrs lifetime (levelPart level) (digitPart digit) (wordAt line name)
-requestMeant line (Rds from name) = rds (beginMeant from) (wordAt line name)
+requestMeant line (Rds from name first count) = rds (beginMeant from) (wordAt line name) (meantPart first) (meantPart count)
 requestMeant line (Cpy from old new lifetime level digit) =
     cpy (beginMeant from) (wordAt line old) (wordAt line new) (lifetimePart lifetime) (levelPart level) (digitPart digit)
 requestMeant line (Dup from old to new digit) =

@@ -6,27 +6,33 @@ use Rattle.paper.specs.Record.{directory, simple}
 use Rattle.paper.specs.Table.{rec}
 use Rattle.paper.specs.Line.{Word}
 use Rattle.paper.specs.Block.{fileText}
-use Rattle.paper.specs.Check.{check}
+use Rattle.paper.specs.Check.{Check, check}
 use Rattle.paper.specs.Listing.{directoryLines}
 use Rattle.paper.specs.Walk.{State, file}
-use Rattle.paper.specs.Effect.{Planned, readInhibited, toEnd, writing}
+use Rattle.paper.specs.Effect.{Planned, readInhibited, toEnd, showing, part, beyondEnd}
+use Rattle.words.specs.Shown.{meantPart}
 use Rattle.elephant.specs.declared.reply.Sheet.{Sheet}
 use Rattle.elephant.specs.declared.reply.Sheet.the-variants.{Text, Lines}
 
 -- "RDS, CPY: not simple; LST: no directory"
 abbrev pub isRight : Sheet → List ℕ → Bool
-isRight Text r = simple r
+isRight (Text first count) r = simple r
 isRight Lines r = directory r
 
 -- "RDS writes the text", "LST writes one line an entry"
 abbrev pub written : Sheet → List ℕ → ℕ → List ℕ
-written Text t h = fileText t h
+written (Text first count) t h = part (fileText t h) (meantPart first) (meantPart count)
 written Lines t h = directoryLines t h
+
+-- the checks after 20: "28 first beyond the end"
+abbrev pub late : Sheet → List ℕ → ℕ → List Check
+late (Text first count) t h = beyondEnd 2 (meantPart first) (fileText t h) ∷ []
+late Lines t h = []
 
 -- at the end of the walk: `rdsPlan` and `lstPlan`
 abbrev pub readingAt : Sheet → List ℕ → List ℕ → State → Planned
 readingAt s t reply f =
-    writing (readInhibited 1 f ∷ check (not (isRight s (rec t (file t f)))) 15 1 ∷ []) (written s t (file t f)) reply
+    showing (readInhibited 1 f ∷ check (not (isRight s (rec t (file t f)))) 15 1 ∷ []) (written s t (file t f)) reply (late s t (file t f))
 
 abbrev pub reading : Sheet → List ℕ → ℕ → List ℕ → Word → Planned
 reading s t u reply name = toEnd t u 1 name (λ _ f. readingAt s t reply f)

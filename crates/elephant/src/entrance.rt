@@ -54,7 +54,12 @@ pub(crate) fn grant(
             digit,
             name,
         } => wrs(table, line, text, lifetime, level, digit, name, user, stop),
-        Request::Rds { from, name } => read(table, line, reply, Sheet::Text, from, name, user),
+        Request::Rds {
+            from,
+            name,
+            first: a,
+            count: n,
+        } => read(table, line, reply, Sheet::Text(a, n), from, name, user),
         Request::Cpy {
             from,
             old,

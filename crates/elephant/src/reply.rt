@@ -6,6 +6,7 @@ use listing::Listed;
 use listing::listed_length;
 use listing::write_lines;
 use records::block::blocks;
+use records::bytes::Bytes;
 use records::bytes::Room;
 use records::entry::heading_named;
 use records::heading::is_directory;
@@ -16,25 +17,45 @@ use walk::end::End;
 use walk::end::to_end;
 use walk::state::State;
 use words::begin::Begin;
+use words::octal::Part;
 ghost use mathlib.Core.Bool.{true};
-ghost use mathlib.Core.List.{[]};
+ghost use mathlib.Core.List.{[], _∷_};
 ghost use mathlib.Core.Path.{_≡_};
+ghost use Prim.Native.Nat.{_+_, _-_, _≤_, min};
+ghost use lib.ListN.{take, drop};
 ghost use lib.Seq.{sets};
 ghost use Rattle.paper.specs.Block.{fileText};
-ghost use Rattle.paper.specs.Effect.{writing, lstBasePlan, listOf, begun};
+ghost use Rattle.paper.specs.Declaration.{orElse};
+ghost use Rattle.paper.specs.Effect.{showing, writing, part, beyondEnd, lstBasePlan, listOf, begun};
 ghost use Rattle.paper.specs.Listing.{listed, lines};
-ghost use Rattle.paper.specs.Record.{simple};
+ghost use Rattle.paper.specs.Record.{simple, textLength};
 ghost use Rattle.paper.specs.Table.{rec};
 ghost use Rattle.listing.specs.Shown.{isListed};
-ghost use Rattle.words.specs.Shown.{beginMeant};
+ghost use Rattle.words.specs.Shown.{beginMeant, meantPart};
 ghost use Rattle.walk.specs.Shown.{meant};
 ghost use Rattle.elephant.specs.Done.{Fit, wordAt, Wrote};
-ghost use Rattle.elephant.specs.Reading.{isRight, written, readingAt, reading};
+ghost use Rattle.elephant.specs.Reading.{isRight, written, late, readingAt, reading};
 
-// What is read of a file: the text of a simple one, or the lines of a directory.
+// What is read of a file: of the text of a simple one, the part from a first byte on, so many bytes; or the lines of a directory.
 pub(crate) enum Sheet {
-    Text,
+    Text(Part, Part),
     Lines,
+}
+
+// So many bytes of a simple file's text, from one on, copied to the front of the reply; from the text records that hold them alone.
+fn copy_part(table: &[u8], heading: Room, first: Bytes, count: Bytes, reply: &mut [u8])
+    requires { ⌜ Fit (now table) × (simple (rec (now table) (heading .0)) ≡ true) × (first .0 + count .0 ≤ textLength (rec (now table) (heading .0))) ⌝ }
+    ensures { λ _. ⌜ now (reply .exit) ≡ sets (now (reply .entry)) 0
+        (take (count .0) (drop (first .0) (fileText (now (table .entry)) (heading .0)))) ⌝ }
+{
+    let mut rooms = [0u16; Text::MOST];
+    text_rooms(table, heading, &mut rooms);
+    let a = first.0;
+    let end = a + count.0;
+    let from = Room(a / Text::MOST_HELD);
+    let last = blocks(Bytes(end));
+    let skip = Bytes(a % Text::MOST_HELD);
+    read_text(table, &rooms, from, last, skip, count, reply);
 }
 
 // The text of a simple file copied to the front of the reply.
@@ -42,24 +63,55 @@ pub(crate) fn copy_text(table: &[u8], heading: Room, reply: &mut [u8])
     requires { ⌜ Fit (now table) × (simple (rec (now table) (heading .0)) ≡ true) ⌝ }
     ensures { λ _. ⌜ now (reply .exit) ≡ sets (now (reply .entry)) 0 (fileText (now (table .entry)) (heading .0)) ⌝ }
 {
-    let mut rooms = [0u16; Text::MOST];
-    text_rooms(table, heading, &mut rooms);
-    let count = blocks(text_length(table, heading));
-    read_text(table, &rooms, count, reply);
+    copy_part(table, heading, Bytes(0), text_length(table, heading), reply);
 }
 
-// The text of a simple file, where it fits.
-fn write_text(table: &[u8], heading: Room, reply: &mut [u8]) -> Answer
+// The first byte of the part.
+fn first_byte(first: Part) -> usize
+    ensures { λ r. ⌜ r ≡ orElse (meantPart first) 0 ⌝ }
+{
+    let Part::Given(a) = first else {
+        return 0;
+    };
+    a as usize
+}
+
+// How many bytes the part from byte a on has, of a text of n bytes.
+fn part_length(n: usize, a: usize, count: Part) -> usize
+    ensures { λ r. ⌜ r ≡ min (orElse (meantPart count) n) (n - a) ⌝ }
+{
+    if n <= a {
+        return 0;
+    }
+    let rest = n - a;
+    let Part::Given(most) = count else {
+        return rest;
+    };
+    let bytes = most as usize;
+    if bytes < rest {
+        return bytes;
+    }
+    rest
+}
+
+// The part of a simple file's text, where it fits, and 28 where it starts beyond the end.
+fn write_text(table: &[u8], heading: Room, first: Part, count: Part, reply: &mut [u8]) -> Answer
     requires { ⌜ Fit (now table) × (simple (rec (now table) (heading .0)) ≡ true) ⌝ }
     ensures { λ r. ⌜ Wrote (now (table .entry)) (now (reply .entry))
-        (writing [] (fileText (now (table .entry)) (heading .0)) (now (reply .entry))) r (now (reply .exit)) ⌝ }
+        (showing [] (part (fileText (now (table .entry)) (heading .0)) (meantPart first) (meantPart count)) (now (reply .entry))
+        (beyondEnd 2 (meantPart first) (fileText (now (table .entry)) (heading .0)) ∷ [])) r (now (reply .exit)) ⌝ }
 {
     let n = text_length(table, heading).0;
-    if reply.len() < n {
+    let a = first_byte(first);
+    let m = part_length(n, a, count);
+    if reply.len() < m {
         return Answer::refused(20, 0);
     }
-    copy_text(table, heading, reply);
-    Answer::granted(false, n as u32, 0)
+    if n < a {
+        return Answer::refused(28, 2);
+    }
+    copy_part(table, heading, Bytes(a), Bytes(m), reply);
+    Answer::granted(false, m as u32, 0)
 }
 
 // The lines of what is listed, where they fit.
@@ -81,7 +133,7 @@ fn is_right(table: &[u8], sheet: Sheet, heading: Room) -> bool
     ensures { λ r. ⌜ r ≡ isRight sheet (rec (now (table .entry)) (heading .0)) ⌝ }
 {
     match sheet {
-        Sheet::Text => is_simple(table, heading),
+        Sheet::Text(_, _) => is_simple(table, heading),
         Sheet::Lines => is_directory(table, heading),
     }
 }
@@ -90,10 +142,11 @@ fn is_right(table: &[u8], sheet: Sheet, heading: Room) -> bool
 fn write(table: &[u8], sheet: Sheet, heading: Room, reply: &mut [u8]) -> Answer
     requires { ⌜ Fit (now table) × (isRight sheet (rec (now table) (heading .0)) ≡ true) ⌝ }
     ensures { λ r. ⌜ Wrote (now (table .entry)) (now (reply .entry))
-        (writing [] (written sheet (now (table .entry)) (heading .0)) (now (reply .entry))) r (now (reply .exit)) ⌝ }
+        (showing [] (written sheet (now (table .entry)) (heading .0)) (now (reply .entry)) (late sheet (now (table .entry)) (heading .0)))
+        r (now (reply .exit)) ⌝ }
 {
     match sheet {
-        Sheet::Text => write_text(table, heading, reply),
+        Sheet::Text(first, count) => write_text(table, heading, first, count, reply),
         Sheet::Lines => list(table, Listed::Directory(heading), reply),
     }
 }

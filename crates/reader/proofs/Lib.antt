@@ -1,3 +1,4 @@
 pub mod Verdicts
 pub mod Functions
+pub mod Numbers
 pub mod Ties

@@ -2,6 +2,7 @@
 use mathlib.Core.Bool.{cond}
 use mathlib.Core.List.{List, [], _∷_}
 use Prim.Native.Nat.{ℕ}
+use lib.Dec.{leb}
 use lib.ListN.{length}
 use Rattle.paper.specs.Line.{Word}
 use Rattle.paper.specs.Name.{alone}
@@ -9,7 +10,10 @@ use Rattle.paper.specs.Check as paper
 use Rattle.paper.specs.Check.{Check, passed, refused}
 use Rattle.paper.specs.Request.{malformed, illegal, illegalBut, isTake, isTakeWithin, isGive, miscounted, readCrd, readWrs, readRds, readLst, readCpy, readDup, readChn, readDpr, readDel, crd, wrs, rds, cpy, dup, chn, del, dpr, lst, lstBase, request, unread}
 use Rattle.paper.specs.Request as asked
-use Rattle.words.specs.Shown.{beginShown}
+use Rattle.words.specs.Shown.{beginShown, shownPart}
+use Rattle.words.specs.declared.octal.Part.the-variants.{Given, NotGiven}
+use Rattle.words.specs.declared.octal.Octal.{Octal}
+use Rattle.words.specs.declared.octal.Octal.the-variants.{Number, NoNumber}
 use Rattle.declarations.specs.Given.{shownLifetime, shownLevel, shownDigit}
 use Rattle.reader.specs.declared.function.Function.{Function}
 use Rattle.reader.specs.declared.function.Function.the-variants as function
@@ -32,7 +36,7 @@ firstStart (w ∷ ws) = w .start
 abbrev pub shownRequest : asked.Request → Request
 shownRequest (crd w v d) = Crd (w .start) (shownLevel v) (shownDigit d)
 shownRequest (wrs f v d w) = Wrs f (shownLevel v) (shownDigit d) (w .start)
-shownRequest (rds b w) = Rds (beginShown b) (w .start)
+shownRequest (rds b w f n) = Rds (beginShown b) (w .start) (shownPart f) (shownPart n)
 shownRequest (cpy b o n f v d) = Cpy (beginShown b) (o .start) (n .start) (shownLifetime f) (shownLevel v) (shownDigit d)
 shownRequest (dup b o e n d) = Dup (beginShown b) (o .start) (beginShown e) (n .start) (shownDigit d)
 shownRequest (chn o l) = Chn (o .start) (l .start)
@@ -65,9 +69,15 @@ faultCheck faults.IllegalTake = illegalBut isTake
 faultCheck faults.IllegalTakeWithin = illegalBut isTakeWithin
 faultCheck faults.IllegalGive = illegalBut isGive
 
--- the checks of RDS and LST: the count, then 7 and 8 of the name
-abbrev pub oldChecks : List ℕ → Word → List Check
-oldChecks line old = miscounted 1 1 line ∷ malformed 1 old ∷ illegalBut isTake 1 old ∷ []
+-- the checks of RDS and LST: the count of arguments, then 7 and 8 of the name
+abbrev pub oldChecks : ℕ → List ℕ → Word → List Check
+oldChecks most line old = miscounted 1 most line ∷ malformed 1 old ∷ illegalBut isTake 1 old ∷ []
+
+-- a number of RDS as a count: 0 is none
+abbrev pub countOf : Octal → Octal
+countOf (Number (Given n)) = cond (leb 1 n) (Number (Given n)) NoNumber
+countOf (Number NotGiven) = Number NotGiven
+countOf NoNumber = NoNumber
 
 -- the checks of CPY and DUP but for the declaration: the count, 7 of both names, then 8 of both
 abbrev pub bothChecks : List ℕ → Fault → Word → Fault → Word → List Check

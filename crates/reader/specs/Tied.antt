@@ -10,7 +10,7 @@ use Rattle.paper.specs.Request.{Request, crd, wrs, rds, cpy, dup, chn, del, dpr
 abbrev pub Tied : List ℕ → Request → Type 0
 Tied line (crd w v d) = w ≡ word line 1
 Tied line (wrs f v d w) = w ≡ word line 2
-Tied line (rds b w) = w ≡ word line 1
+Tied line (rds b w f n) = w ≡ word line 1
 Tied line (cpy b o n f v d) = (o ≡ word line 1) × (n ≡ word line 2)
 Tied line (dup b o e n d) = (o ≡ word line 1) × (n ≡ word line 2)
 Tied line (chn o l) = (o ≡ word line 1) × (l ≡ word line 2)

@@ -1,5 +1,7 @@
 // The request that a line is, or the number that refuses it.
+use crate::argument::as_count;
 use crate::argument::declared_at;
+use crate::argument::octal_at;
 use crate::function::Function;
 use declarations::declaration::Declaration;
 use declarations::part::Digit;
@@ -29,6 +31,8 @@ use words::name::has_legal_base;
 use words::name::is_legal_base;
 use words::name::is_link_name;
 use words::name::is_well_formed;
+use words::octal::Octal;
+use words::octal::Part;
 ghost use mathlib.Core.Path.{_≡_};
 ghost use mathlib.Core.List.{[], _∷_};
 ghost use Prim.Native.Nat.{_-_};
@@ -56,6 +60,8 @@ pub enum Request {
     Rds {
         from: Begin,
         name: usize,
+        first: Part,
+        count: Part,
     },
     Cpy {
         from: Begin,
@@ -150,6 +156,17 @@ fn unfit_at(place: usize) -> Read
 {
     Read::Refused(Refusal {
         number: 9,
+        place: place,
+        link: 0,
+    })
+}
+
+// 27, for the number at this place.
+fn bad_number_at(place: usize) -> Read
+    ensures { λ r. ⌜ r ≡ Read.Refused (record { number = 27; place = place; link = 0 }) ⌝ }
+{
+    Read::Refused(Refusal {
+        number: 27,
         place: place,
         link: 0,
     })
@@ -250,11 +267,11 @@ fn check_form(line: &[u8], least: usize, most: usize, a: usize, b: usize) -> Ver
     check_count(line, least, most).then(check_names(line, a, b))
 }
 
-// The count of arguments, then the one name, which is at p.
-fn check_old(line: &[u8], p: usize) -> Verdict
-    ensures { λ r. ⌜ r ≡ shownVerdict (verdict (oldChecks (now (line .entry)) (wordAt (now (line .entry)) p))) ⌝ }
+// The count of arguments, then the first of them, a name at p.
+fn check_old(line: &[u8], most: usize, p: usize) -> Verdict
+    ensures { λ r. ⌜ r ≡ shownVerdict (verdict (oldChecks most (now (line .entry)) (wordAt (now (line .entry)) p))) ⌝ }
 {
-    check_count(line, 1, 1)
+    check_count(line, 1, most)
         .then(check_name(line, p, Fault::Malformed, 1))
         .then(check_name(line, p, Fault::IllegalTake, 1))
 }
@@ -312,17 +329,25 @@ fn read_wrs(line: &[u8]) -> Read
     })
 }
 
-// RDS name
+// RDS name [first] [count]
 fn read_rds(line: &[u8]) -> Read
     ensures { λ r. ⌜ r ≡ shownRead (readRds (now (line .entry))) ⌝ }
 {
     let p = word_at(line, 1);
-    if let Verdict::Refused(refusal) = check_old(line, p) {
+    if let Verdict::Refused(refusal) = check_old(line, 3, p) {
         return Read::Refused(refusal);
     }
+    let Octal::Number(first) = octal_at(line, 2) else {
+        return bad_number_at(2);
+    };
+    let Octal::Number(count) = as_count(octal_at(line, 3)) else {
+        return bad_number_at(3);
+    };
     Read::Granted(Request::Rds {
         from: old_from(line, p),
         name: p,
+        first: first,
+        count: count,
     })
 }
 
@@ -337,7 +362,7 @@ fn read_lst(line: &[u8]) -> Read
         }
         return Read::Granted(Request::LstBase);
     }
-    if let Verdict::Refused(refusal) = check_old(line, p) {
+    if let Verdict::Refused(refusal) = check_old(line, 1, p) {
         return Read::Refused(refusal);
     }
     Read::Granted(Request::Lst {
@@ -510,7 +535,7 @@ fn read_function(line: &[u8]) -> Read
     }
 }
 
-// The request that the line is, or the number from 4 to 9 that refuses it.
+// The request that the line is, or the number from 4 to 9, or 27, that refuses it.
 pub fn read_line(line: &[u8]) -> Read
     ensures { λ r. ⌜ r ≡ shownRead (read (now (line .entry))) ⌝ }
 {

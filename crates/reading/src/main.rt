@@ -13,6 +13,7 @@ use records::bytes::Bytes;
 use records::code::Code;
 use records::heading::Heading;
 use words::begin::Begin;
+use words::octal::Part;
 ghost use Prim.Native.Nat.{_≤_};
 ghost use lib.ListN.{length};
 
@@ -120,6 +121,22 @@ fn put_wrs(lifetime: u8, level: Level, digit: Digit, name: usize) {
     put_heading(Heading::SIMPLE, lifetime, level, digit);
 }
 
+// A number of RDS.
+fn put_part(part: Part) {
+    let Part::Given(n) = part else {
+        put(b" -");
+        return;
+    };
+    put(b" ");
+    io::print_decimal(STDOUT_FILENO, n as u64);
+}
+
+fn put_rds(from: Begin, name: usize, first: Part, count: Part) {
+    put_old(b"0 RDS", from, name);
+    put_part(first);
+    put_part(count);
+}
+
 fn put_cpy(from: Begin, old: usize, new: usize, lifetime: Lifetime, level: Level, digit: Digit) {
     put_old(b"0 CPY", from, old);
     put_place(new);
@@ -142,7 +159,12 @@ fn put_request(request: Request) {
             digit,
             name,
         } => put_wrs(lifetime, level, digit, name),
-        Request::Rds { from, name } => put_old(b"0 RDS", from, name),
+        Request::Rds {
+            from,
+            name,
+            first: since,
+            count: most,
+        } => put_rds(from, name, since, most),
         Request::Cpy {
             from,
             old,

@@ -3,4 +3,4 @@ pub mod Reaches
 pub mod Pieces
 pub mod Words
 pub mod Names
-pub mod Begins
+pub mod Octals

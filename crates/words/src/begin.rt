@@ -4,6 +4,7 @@ use crate::class::end_of;
 use crate::line::name;
 use crate::name::count_names;
 use crate::name::is_pointed;
+use crate::octal::number_from;
 ghost use mathlib.Core.Path.{_≡_};
 ghost use mathlib.Core.Bool.{true};
 ghost use Rattle.paper.specs.Name.{userName, userNumber};
@@ -41,13 +42,7 @@ fn user_number(n: &[u8]) -> u32
     requires { ⌜ userName (now n) ≡ true ⌝ }
     ensures { λ r. ⌜ r ≡ userNumber (now (n .entry)) ⌝ }
 {
-    let mut k = 0;
-    let mut i = 1;
-    while i < n.len() {
-        k = k * 10 + (n[i] - b'0') as u32;
-        i += 1;
-    }
-    k
+    number_from(10, n, 1)
 }
 
 // Whether the word at p starts at another user's `.T`, as an old name.

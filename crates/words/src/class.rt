@@ -1,11 +1,12 @@
 // Classes of bytes.
 ghost use mathlib.Core.Path.{_≡_};
 ghost use Rattle.paper.specs.Name.{inName, inBase, inNumber};
+ghost use Rattle.paper.specs.Octal.{inOctal};
 ghost use Rattle.paper.specs.Line.{inLine};
 ghost use Rattle.words.specs.Place.{reach, isPlain};
 ghost use Rattle.words.specs.Shown.{test};
 
-// Blanks; what is neither blank nor colon; bytes of a line, of a link name, of a base name of three characters or more; digits.
+// Blanks; what is neither blank nor colon; bytes of a line, of a link name, of a base name of three characters or more; digits, and octal ones.
 pub(crate) enum Class {
     Blank,
     Plain,
@@ -13,6 +14,7 @@ pub(crate) enum Class {
     Name,
     Base,
     Digit,
+    Octal,
 }
 
 impl Class {
@@ -73,6 +75,15 @@ fn is_digit(b: u8) -> bool
     }
 }
 
+fn is_octal(b: u8) -> bool
+    ensures { λ r. ⌜ r ≡ inOctal b ⌝ }
+{
+    match b {
+        b'0'..=b'7' => true,
+        _ => false,
+    }
+}
+
 fn passes(class: Class, b: u8) -> bool
     ensures { λ r. ⌜ r ≡ test class b ⌝ }
 {
@@ -83,6 +94,7 @@ fn passes(class: Class, b: u8) -> bool
         Class::Name => in_name(b),
         Class::Base => in_base(b),
         Class::Digit => is_digit(b),
+        Class::Octal => is_octal(b),
     }
 }
 

@@ -3,3 +3,4 @@ pub mod begin;
 mod class;
 pub mod line;
 pub mod name;
+pub mod octal;

@@ -1,29 +1,33 @@
--- After p turns what the first p records hold is copied, and the place is its length; so each turn copies one more list.
--- Where no byte is left to write to, what would follow changes nothing.
-use mathlib.Core.Path.{_≡_, refl}
-use Prim.Native.Nat.{_-_, _≤_}
+-- What is still to be copied from the place on, copied there, is the whole copied to the front; so each turn copies the bytes of one
+-- more record that belong to it, and where no record is left nothing is to be copied.
+use mathlib.Core.List.{List}
+use mathlib.Core.Path.{_≡_, refl, sym, _∙_}
+use Prim.Native.Nat.{ℕ, _-_, _≤_}
 use native.Mathlib.Omega.{arith}
-use lib.ListN.{length, getD}
+use lib.ListN.{length, getD, take, drop}
+use lib.Seq.{sets}
 use borrow.Author.Needs.{needs}
 use Rattle.paper.specs.Record.{held}
 use Rattle.paper.specs.Table.{rec}
-use Rattle.effects.proofs.Gathers.{Read, read-none, read-more, read-full}
+use Rattle.effects.specs.Listed.{gathered}
+use Rattle.effects.proofs.Gathers.{part-none, part-more, part-most, part-done}
 use Rattle.effects.proofs.reading.read_text.Statement.{statement}
 use Rattle.effects.proofs.reading.read_text.Tie as tie
 
 abbrev Inv-loop : tie.InvT-loop
-Inv-loop table rooms into₀ n last at₀ p₀ into at p =
-    Read into₀ (λ k. held (rec table (getD rooms k 0))) into at p
+Inv-loop table rooms into₀ n last left₀ skip₀ p₀ into left skip p =
+    (sets into (n - left) (take left (drop skip (gathered table rooms p last))) ≡ sets into₀ 0 (take left₀ (drop skip₀ (gathered table rooms p₀ last))))
     × (length into ≡ length into₀)
-    × (at ≤ n)
-    × (n ≡ length into₀)
-    × (p ≤ last)
+    × (left ≤ n)
 
 abbrev μ-loop : tie.MeasureT-loop
-μ-loop table rooms into₀ n last at₀ p₀ into at p = last - p
+μ-loop table rooms into₀ n last left₀ skip₀ p₀ into left skip p = last - p
 
 loop-holds : tie.Need-loop-holds Inv-loop μ-loop
-loop-holds c = (read-none _ _, refl, omega arith, refl, omega arith)
+loop-holds c =
+    let a = c .before .before .args in
+    let s = take (a .most .0) (drop (a .first .0) (gathered (a .table .now) (a .rooms .now) (a .from .0) (a .end .0))) in
+    (part-none (a .into .now) s (a .most .0), refl, omega arith)
 
 room-at-requires : tie.Need-room-at-requires Inv-loop μ-loop
 room-at-requires c κs = search needs
@@ -31,27 +35,20 @@ room-at-requires c κs = search needs
 held-at-requires : tie.Need-held-at-requires Inv-loop μ-loop
 held-at-requires c κs = search needs
 
+part-requires : tie.Need-part-requires Inv-loop μ-loop
+part-requires c κs = search needs
+
+sub-copy-in : tie.Need-sub-copy-in Inv-loop μ-loop
+sub-copy-in c = omega arith
+
 copy-in-requires : tie.Need-copy-in-requires Inv-loop μ-loop
 copy-in-requires c κs = search needs
 
-sub-if1 : tie.Need-sub-if1 Inv-loop μ-loop
-sub-if1 c = omega arith
+sub-left : tie.Need-sub-left Inv-loop μ-loop
+sub-left c = part-most _ _ _ (c .before .before .before .before .part .ensures)
 
-same-length : tie.Need-same-length Inv-loop μ-loop
-same-length c = omega arith
-
-returns : tie.Need-returns Inv-loop μ-loop
-returns c =
-    let c3 = c .before .before .before in
-    let held = c3 .before .before .held-at in
-    let room = c3 .before .before .before .room-at in
-    let c9 = c3 .before .before .before .before .before .before in
-    read-full _ _ _ _ _ (c9 .before .before .before .args .count .0)
-    (read-more _ _ _ _ _ _ _ (c9 .loop .inv .0) (rw (room .ensures) at (held .ensures)) (c3 .copy-in .ensures))
-    (omega arith) (omega arith)
-
-add-at : tie.Need-add-at Inv-loop μ-loop
-add-at c = omega arith
+less-requires : tie.Need-less-requires Inv-loop μ-loop
+less-requires c κs = search needs
 
 add-p : tie.Need-add-p Inv-loop μ-loop
 add-p c = omega arith
@@ -61,24 +58,28 @@ loop-less c = omega arith
 
 loop-again : tie.Need-loop-again Inv-loop μ-loop
 loop-again c =
-    let c3 = c .before .before .before in
-    let held = c3 .before .before .held-at in
-    let room = c3 .before .before .before .room-at in
-    let l = c3 .before .before .before .before .before .before .loop in (
-      read-more _ _ _ _ _ _ _ (l .inv .0) (rw (room .ensures) at (held .ensures)) (c3 .copy-in .ensures),
-      omega arith,
-      omega arith,
-      refl,
-      omega arith,
-    )
+    let k = c .before .before .before in
+    let at-part = k .before .before in
+    let at-held = at-part .before in
+    let at-room = at-held .before in
+    let turn = at-room .before .before .before in
+    let a = turn .before .before .before .args in
+    let l = turn .loop in
+    let f : ℕ → List ℕ = λ i. held (rec (a .table .now) (getD (a .rooms .now) i 0)) in
+    let x = rw (at-room .room-at .ensures) at (at-held .held-at .ensures) in
+    let m =
+    part-more f _ _ _ _ (a .most .0) (l .left) (l .skip) (l .p) (a .end .0) (omega arith) (l .inv .2) x (at-part .part .ensures) (k .copy-in .ensures) in
+    (rw (c .less .ensures) (m ∙ l .inv .0), omega arith, omega arith)
 
-same-length-2 : tie.Need-same-length-2 Inv-loop μ-loop
-same-length-2 c = c .before .loop .inv .1
+same-length : tie.Need-same-length Inv-loop μ-loop
+same-length c = c .before .loop .inv .1
 
-returns-2 : tie.Need-returns-2 Inv-loop μ-loop
-returns-2 c =
-    let e : c .before .loop .p ≡ c .before .before .before .before .args .count .0 = omega arith in
-    rw e at (c .before .loop .inv .0 .bytes)
+returns : tie.Need-returns Inv-loop μ-loop
+returns c =
+    let a = c .before .before .before .before .args in
+    let l = c .before .loop in
+    let f : ℕ → List ℕ = λ i. held (rec (a .table .now) (getD (a .rooms .now) i 0)) in
+    sym (part-done f _ (a .most .0 - l .left) (l .left) (l .skip) (l .p) (a .end .0) (omega arith)) ∙ l .inv .0
 
 pub read-text-spec : {M : Type 1} → statement M
 read-text-spec =
@@ -89,13 +90,13 @@ read-text-spec =
     loop-holds
     room-at-requires
     held-at-requires
+    part-requires
+    sub-copy-in
     copy-in-requires
-    sub-if1
-    same-length
-    returns
-    add-at
+    sub-left
+    less-requires
     add-p
     loop-less
     loop-again
-    same-length-2
-    returns-2)
+    same-length
+    returns)

@@ -124,7 +124,8 @@ returns-3 c =
     let at-asked = c .before .before .before .before .before .before in
     let s = at-asked .before .before .before .before .before .before in
     let g = at-asked .asked3 .given in
-    rds-done (s .pre) (s .args .reply .now) (s .args .stop) _ _ (g .0 .0) (g .0 .1 .0) (g .1) (c .before .before .read .ensures)
+    rds-done (s .pre) (s .args .reply .now) (s .args .stop) _ _ (g .0 .0) (g .0 .1 .0) (g .0 .1 .1 .0) (g .0 .1 .1 .1 .0) (g .1)
+    (c .before .before .read .ensures)
 
 same-length-5 : tie.Need-same-length-5
 same-length-5 c = search needs

@@ -1,5 +1,6 @@
 -- The lines do not fit, or they are written to the front: the two cases of `writing`, chosen by the same test.
 -- On a sound table what is written is what document 01 lists.
+use mathlib.Core.List.{[]}
 use mathlib.Core.Path.{_∙_}
 use Prim.Native.Nat.{_≤_}
 use native.Mathlib.Omega.{arith}
@@ -7,7 +8,7 @@ use lib.ListN.{length}
 use Rattle.paper.specs.Listing.{listed, lines}
 use Rattle.listing.specs.Shown.{isListed}
 use Rattle.listing.proofs.Promised.{reply-after}
-use Rattle.elephant.proofs.Verdicts.{wrote-short, wrote-out}
+use Rattle.elephant.proofs.Verdicts.{none-left, wrote-short, wrote-out}
 use Rattle.effects.proofs.Papers.{sized-most}
 use Rattle.elephant.proofs.Written.{lines-few}
 use borrow.Author.Needs.{needs}
@@ -26,7 +27,7 @@ returns c =
     let a = start .args in
     let t = a .table .now in
     rw (c .refused .ensures)
-    (wrote-short t (a .reply .now) (lines t (listed t (isListed (a .which)))) (omega (arith, c .before .before .listed-length .ensures)))
+    (wrote-short t (a .reply .now) (lines t (listed t (isListed (a .which)))) [] (omega (arith, c .before .before .listed-length .ensures)))
 
 write-lines-requires : tie.Need-write-lines-requires
 write-lines-requires c κs = search needs
@@ -53,7 +54,7 @@ returns-2 c =
     let l : length (lines t (listed t (isListed (a .which)))) ≤ length (a .reply .now) = omega (arith, n) in
     let w = c .before .before .before .write-lines .ensures ∙ reply-after (a .which) t (a .reply .now) (sized-most t (start .pre .sized))
     (start .pre .sound) l in
-    rw (c .granted .ensures, n) (wrote-out t (a .reply .now) (lines t (listed t (isListed (a .which)))) _ l w)
+    rw (c .granted .ensures, n) (wrote-out t (a .reply .now) (lines t (listed t (isListed (a .which)))) [] _ l none-left w)
 
 pub list-spec : {M : Type 1} → statement M
 list-spec =

@@ -1,19 +1,19 @@
--- The text of a simple file or the lines of a directory: what is written is chosen by the same case as the test of the heading.
+-- A part of the text of a simple file or the lines of a directory: what is written is chosen by the same case as the test of the heading.
 -- Each is the promise of the function called.
 use borrow.Author.Needs.{needs}
 use Rattle.elephant.proofs.reply.write.Statement.{statement}
 use Rattle.elephant.proofs.reply.write.Tie as tie
 
-enum-told : tie.Need-enum-told
-enum-told c = search needs
+enum-known-sheet : tie.Need-enum-known-sheet
+enum-known-sheet c = search needs
 
 write-text-requires : tie.Need-write-text-requires
 write-text-requires c κs =
-    let p = c .before .before .before .before .before .pre in
-    (p .0, rw (c .before .enum-told .given .1) at (p .1))
+    let p = c .before .before .before .before .before .before .pre in
+    (p .0, rw (c .before .before .sheet .given .1) at (p .1))
 
-enum-told-2 : tie.Need-enum-told-2
-enum-told-2 c = search needs
+enum-told : tie.Need-enum-told
+enum-told c = search needs
 
 list-requires : tie.Need-list-requires
 list-requires c κs = search needs
@@ -24,7 +24,7 @@ same-length c = search needs
 returns : tie.Need-returns
 returns c =
     let w = c .before .before in
-    rw (w .before .before .enum-told .given .1) (w .write-text .ensures)
+    rw (w .before .before .before .sheet .given .1) (w .write-text .ensures)
 
 same-length-2 : tie.Need-same-length-2
 same-length-2 c = search needs
@@ -32,9 +32,9 @@ same-length-2 c = search needs
 returns-2 : tie.Need-returns-2
 returns-2 c =
     let w = c .before .before in
-    rw (w .before .before .enum-told2 .given .1) (w .list .ensures)
+    rw (w .before .before .enum-told .given .1) (w .list .ensures)
 
 pub write-spec : {M : Type 1} → statement M
 write-spec =
     tie.close
-    (tie.spec enum-told write-text-requires enum-told-2 list-requires same-length returns same-length-2 returns-2)
+    (tie.spec enum-known-sheet write-text-requires enum-told list-requires same-length returns same-length-2 returns-2)

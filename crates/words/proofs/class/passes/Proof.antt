@@ -37,6 +37,12 @@ enum-told-6 c = search needs
 is-digit-requires : tie.Need-is-digit-requires
 is-digit-requires c κs = tt
 
+enum-told-7 : tie.Need-enum-told-7
+enum-told-7 c = search needs
+
+is-octal-requires : tie.Need-is-octal-requires
+is-octal-requires c κs = tt
+
 returns : tie.Need-returns
 returns c = rw (c .enum-told .given .1)
 
@@ -55,6 +61,9 @@ returns-5 c = rw (c .before .enum-told5 .given .1) (c .in-base .ensures)
 returns-6 : tie.Need-returns-6
 returns-6 c = rw (c .before .enum-told6 .given .1) (c .is-digit .ensures)
 
+returns-7 : tie.Need-returns-7
+returns-7 c = rw (c .before .enum-told7 .given .1) (c .is-octal .ensures)
+
 pub passes-spec : {M : Type 1} → statement M
 passes-spec =
     tie.close
@@ -70,9 +79,12 @@ passes-spec =
     in-base-requires
     enum-told-6
     is-digit-requires
+    enum-told-7
+    is-octal-requires
     returns
     returns-2
     returns-3
     returns-4
     returns-5
-    returns-6)
+    returns-6
+    returns-7)
