@@ -59,7 +59,9 @@ enum filebox_number {
     FILEBOX_REPLY = 20,          /* reply buffer too short */
     FILEBOX_CODE = 21,           /* DPR: new code lacks a bit of the heading's */
     FILEBOX_STOPPED = 22,        /* stop number reached; the stores made stand */
-    FILEBOX_LEVEL = 25           /* CPY: level too low, below the source's */
+    FILEBOX_LEVEL = 25,          /* CPY: level too low, below the source's */
+    FILEBOX_NUMBER = 27,         /* RDS: bad number: not one to six octal digits, or a count of 0 */
+    FILEBOX_BEYOND = 28          /* RDS: first beyond the end */
 };
 
 /* An answer. On any number but 0, displaced and bytes are 0. */
@@ -85,8 +87,12 @@ struct filebox_answer {
  * unless that entry or the heading inhibits writing (DUP .R:SHEET .000777:SHEET .1), he may inhibit more of the file for everyone, by DPR,
  * or, in a directory, write and delete.
  *
+ * RDS name first count writes a part of the text: count bytes from byte first on, counted from 0, both octal and of one to six digits. A dash
+ * or nothing in their place means 0 and to the end. A count past the end gives what there is, first equal to the length no bytes; the reply
+ * buffer need hold no more than what is written.
+ *
  * Granted (0): the whole job is done, exactly as document 01 has it, in table and reply.
- * Refused (1 to 21, 25): table and reply are as lent, byte for byte. Only a DEL of several names keeps what the names before the refused
+ * Refused (1 to 21, 25, 27, 28): table and reply are as lent, byte for byte. Only a DEL of several names keeps what the names before the refused
  *   one did: names says how many, stores how many stores that took.
  * Stopped (22): exactly the first stop stores of the request were made, and reply is as lent. filebox_mend then gives, byte for byte, the
  *   table before the request or the table after it (for a DEL: after some first part of its names). So a stop number stands for a power

@@ -1,10 +1,10 @@
 //! The proved library's calls as ratios to one byte-by-byte pass over the same table in the same run, over tables of 256 to
 //! 2,048 records. The table is warm: it was just copied or read.
 //!
-//! `bench [TURNS]` prints a Markdown table, the time of the lamp beside its requests made one by one, and that of a walk among
-//! names of other lengths beside one among names of one length; it ends with status 1 if a ratio at 2,048 records, of the lamp or
-//! of the walks is above its bar. `bench count OPERATION RECORDS TIMES` runs one operation so many times
-//! (`pass`: the pass), to count its instructions with
+//! `bench [TURNS]` prints a Markdown table, the time of the lamp beside its requests made one by one, that of a walk among
+//! names of other lengths beside one among names of one length, and that of a part of a sheet beside a sheet of its length; it
+//! ends with status 1 if a ratio at 2,048 records, or one of these three, is above its bar. `bench count OPERATION RECORDS
+//! TIMES` runs one operation so many times (`pass`: the pass), to count its instructions with
 //! `valgrind --tool=callgrind --toggle-collect='*counted*' target/release/bench count rds 2048 10`: what is collected is
 //! the calls alone, without setting the table right.
 //!
@@ -14,6 +14,7 @@ mod host;
 mod lamp;
 mod names;
 mod operations;
+mod parts;
 mod tables;
 
 use std::hint::black_box;
@@ -73,6 +74,9 @@ fn bench(turns: usize) -> ExitCode {
     }
     if !names::bench(turns) {
         missing.push("names of other lengths");
+    }
+    if !parts::bench(turns) {
+        missing.push("a part of a sheet");
     }
     if missing.is_empty() {
         println!("Each is within its bar.");

@@ -1,9 +1,7 @@
 //! Names of different lengths: a walk of nine links in a full directory whose names begin like the one that is sought and are
 //! longer, beside the same walk where they have its length, so that their bytes must be compared; and the bytes compared.
 
-use turns::nanoseconds;
-
-use crate::operations::named;
+use crate::operations::times;
 use crate::tables::grown;
 
 /// The entries of the directory, as many as it may have.
@@ -89,20 +87,6 @@ fn compared(table: &[u8], request: &str, compare: Compare) -> usize {
     links(request).into_iter().map(looked).sum()
 }
 
-/// The least times of both walks, in turns.
-fn times(records: usize, turns: usize) -> [f64; 2] {
-    let mut walks =
-        ["walk", "walk-alike"].map(|name| named(name).expect("it is one").ready(records));
-    let mut least = [f64::MAX; 2];
-    for _ in 0..turns {
-        for (least, walk) in least.iter_mut().zip(&mut walks) {
-            walk.set_right();
-            *least = least.min(nanoseconds(|| walk.timed()));
-        }
-    }
-    least.map(|nanoseconds| nanoseconds / 1000.0)
-}
-
 /// The bytes compared, and the times and their ratio; is it within the bar?
 pub fn bench(turns: usize) -> bool {
     let (other, one) = (of_other_lengths(128), of_one_length(128));
@@ -116,7 +100,7 @@ pub fn bench(turns: usize) -> bool {
     );
     let mut within = true;
     for records in [128, 2048] {
-        let [other, one] = times(records, turns);
+        let [other, one] = times(["walk", "walk-alike"], records, turns);
         let ratio = other / one;
         println!("At {records} records: other lengths {other:.1} µs, one length {one:.1} µs; {ratio:.2} times, and the bar is {BAR}.");
         within &= ratio <= BAR;

@@ -1,14 +1,16 @@
 //! What is timed: calls on a table, which is set right before each turn.
 
 use filebox::{mend, request, Number, LONGEST_TEXT, NO_STOP};
+use turns::nanoseconds;
 
 use crate::names::{of_one_length, of_other_lengths, ONE_LENGTH, OTHER_LENGTHS};
+use crate::parts::part_of_long;
 use crate::tables::{cut, hundred, long_text, with_long_file, with_room_for_another, USER};
 
 /// One call of the library.
 enum Call {
     Mend,
-    Request { line: &'static str, text: Vec<u8> },
+    Request { line: String, text: Vec<u8> },
 }
 
 /// What is timed together, and on which table.
@@ -23,16 +25,16 @@ pub struct Operation {
     calls: fn(usize) -> Vec<Call>,
 }
 
-fn asks(line: &'static str) -> Call {
+fn asks(line: &str) -> Call {
     files(line, 0)
 }
 
-fn files(line: &'static str, bytes: usize) -> Call {
-    let text = vec![b'N'; bytes];
+fn files(line: &str, bytes: usize) -> Call {
+    let (line, text) = (line.to_string(), vec![b'N'; bytes]);
     Call::Request { line, text }
 }
 
-pub const OPERATIONS: [Operation; 10] = [
+pub const OPERATIONS: [Operation; 12] = [
     Operation {
         name: "rds",
         title: "RDS of 24 bytes",
@@ -46,6 +48,20 @@ pub const OPERATIONS: [Operation; 10] = [
         bar: Some(6.0),
         table: with_long_file,
         calls: |_| vec![asks("RDS .R:LONG")],
+    },
+    Operation {
+        name: "rds-part",
+        title: "RDS of 24 bytes out of 24,000",
+        bar: Some(5.0),
+        table: with_long_file,
+        calls: |records| vec![asks(&part_of_long(records))],
+    },
+    Operation {
+        name: "rds-beside",
+        title: "RDS of 24 bytes beside a long file",
+        bar: None,
+        table: with_long_file,
+        calls: |_| vec![asks("RDS .R:F12")],
     },
     Operation {
         name: "wrs-del",
@@ -104,6 +120,19 @@ pub const OPERATIONS: [Operation; 10] = [
         calls: |_| vec![asks(ONE_LENGTH)],
     },
 ];
+
+/// The least times of two operations at so many records, in turns, in microseconds.
+pub fn times(names: [&str; 2], records: usize, turns: usize) -> [f64; 2] {
+    let mut both = names.map(|name| named(name).expect("it is one").ready(records));
+    let mut least = [f64::MAX; 2];
+    for _ in 0..turns {
+        for (least, ready) in least.iter_mut().zip(&mut both) {
+            ready.set_right();
+            *least = least.min(nanoseconds(|| ready.timed()));
+        }
+    }
+    least.map(|nanoseconds| nanoseconds / 1000.0)
+}
 
 /// The operation of this name.
 pub fn named(name: &str) -> Option<&'static Operation> {
@@ -182,6 +211,8 @@ mod tests {
             for name in [
                 "rds",
                 "rds-long",
+                "rds-part",
+                "rds-beside",
                 "lst",
                 "wrs-del",
                 "mend",

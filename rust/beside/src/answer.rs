@@ -7,9 +7,9 @@ use crate::request::{read, refusal, Refusal};
 use crate::sound::{is_sound, sound, HIGHEST_USER};
 use crate::table::{length_fits, Table};
 
-/// The reply numbers: 0 to 22 of document 01, and 25 of document 02.
-pub const NUMBERS: [u32; 24] = [
-    0, 1, 2, 3, 4, 5, 6, 7, 8, 9, 10, 11, 12, 13, 14, 15, 16, 17, 18, 19, 20, 21, 22, 25,
+/// The reply numbers: 0 to 22 of document 01, and 25, 27 and 28 of document 02.
+pub const NUMBERS: [u32; 26] = [
+    0, 1, 2, 3, 4, 5, 6, 7, 8, 9, 10, 11, 12, 13, 14, 15, 16, 17, 18, 19, 20, 21, 22, 25, 27, 28,
 ];
 /// As many counts as have one for each number.
 pub const COUNTS: usize = NUMBERS[NUMBERS.len() - 1] as usize + 1;
@@ -74,7 +74,7 @@ pub fn request(
     }
 }
 
-/// Numbers 1 to 10; then what the request comes to.
+/// Numbers 1 to 10 and 27; then what the request comes to.
 fn judge(
     bytes: &[u8],
     line: &[u8],

@@ -4,6 +4,7 @@ use crate::declarations::Guard;
 use crate::entries::{check, cleared, settle, strands_entries, NewName};
 use crate::listing::listing;
 use crate::names::Chain;
+use crate::octal::Portion;
 use crate::records::{Heading, Level, Lifetime, Record, Text, Type, BLOCK};
 use crate::request::{refusal, Listed, Refusal, Request};
 use crate::table::{blocks, List, Store, Table};
@@ -46,7 +47,7 @@ pub fn outcome(asked: &Asked, request: &Request) -> Outcome {
             guard,
             name,
         } => asked.wrs(*lifetime, *guard, name),
-        Request::Rds { name } => asked.rds(name),
+        Request::Rds { name, portion } => asked.rds(name, *portion),
         Request::Cpy {
             old,
             new,
@@ -279,12 +280,17 @@ impl Asked<'_> {
         Ok(stores)
     }
 
-    /// "RDS writes the text to the front of the reply buffer."
-    fn rds(&self, name: &Chain) -> Result<Outcome, Refusal> {
+    /// "RDS writes the text to the front of the reply buffer", or the part that is asked for. 20 goes by what would be
+    /// written; 28: "first beyond the end".
+    fn rds(&self, name: &Chain, portion: Portion) -> Result<Outcome, Refusal> {
         let file = self.old_name(1, name)?;
         check(file.may_be_read(), 13, 1)?;
         check(file.heading.file_type == Type::Simple, 15, 1)?;
-        self.reply(self.table.content(file.entry.heading))
+        let content = self.table.content(file.entry.heading);
+        let part = portion.of(&content);
+        let outcome = self.reply(part.unwrap_or_default().to_vec())?;
+        check(part.is_some(), 28, 2)?;
+        Ok(outcome)
     }
 
     /// "LST writes one line an entry".

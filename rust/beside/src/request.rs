@@ -1,8 +1,9 @@
-//! Reading a request line: the request, or numbers 4 to 10 with their place.
+//! Reading a request line: the request, or numbers 4 to 10 and 27 with their place.
 
 use crate::declarations::{Declared, Guard};
 use crate::line::{line_fits, words, Word};
 use crate::names::{is_base_name, is_link_name, Chain};
+use crate::octal::{number, Portion};
 use crate::records::Lifetime;
 
 /// "WRS text above 24,000 bytes".
@@ -26,7 +27,7 @@ pub enum Listed<'a> {
     Directory(Chain<'a>),
 }
 
-/// A request as it was made out of a line, numbers 4 to 10 apart.
+/// A request as it was made out of a line, numbers 4 to 10 and 27 apart.
 #[derive(Debug, Clone, PartialEq, Eq)]
 #[allow(missing_docs)]
 pub enum Request<'a> {
@@ -41,6 +42,7 @@ pub enum Request<'a> {
     },
     Rds {
         name: Chain<'a>,
+        portion: Portion,
     },
     Cpy {
         old: Chain<'a>,
@@ -95,6 +97,10 @@ enum Part {
     New,
     Link,
     Declaration,
+    /// RDS's first byte: an octal number.
+    First,
+    /// RDS's count of bytes: the same, and not 0.
+    Count,
 }
 
 /// "The first word is the function."
@@ -115,11 +121,12 @@ fn function(word: &Word) -> Option<Function> {
 
 /// The table of functions and arguments: the least count of arguments, and what each is to be.
 fn form(function: Function) -> (usize, &'static [Part]) {
-    use Part::{Declaration, Link, Name, New, Old, Source};
+    use Part::{Count, Declaration, First, Link, Name, New, Old, Source};
     match function {
         Function::Crd => (1, &[Name, Declaration]),
         Function::Wrs => (2, &[Declaration, Name]),
-        Function::Rds | Function::Lst => (1, &[Source]),
+        Function::Rds => (1, &[Source, First, Count]),
+        Function::Lst => (1, &[Source]),
         Function::Cpy => (2, &[Source, Name, Declaration]),
         Function::Dup => (2, &[Old, New, Declaration]),
         Function::Chn => (2, &[Name, Link]),
@@ -133,7 +140,7 @@ fn is_well_formed(part: Part, word: &Word) -> bool {
     let dash = word.whole() == Some(b"-");
     match part {
         Part::Link => !dash && word.whole().is_some_and(is_link_name),
-        Part::Declaration => true,
+        Part::Declaration | Part::First | Part::Count => true,
         _ => !dash && Chain::of(word).is_well_formed(),
     }
 }
@@ -145,7 +152,7 @@ fn takes_user(part: Part, links: usize) -> bool {
         Part::Source => true,
         Part::Old => links >= 1,
         Part::New => links == 1,
-        Part::Name | Part::Link | Part::Declaration => false,
+        Part::Name | Part::Link | Part::Declaration | Part::First | Part::Count => false,
     }
 }
 
@@ -163,9 +170,18 @@ fn has_legal_base(function: Function, arguments: &[Word], part: Part, word: &Wor
     let old_is_base_file = || Chain::of(&arguments[0]).is_base_file();
     match part {
         Part::Link => !old_is_base_file() || is_base_name(word.last),
-        Part::Declaration => true,
+        Part::Declaration | Part::First | Part::Count => true,
         _ if function == Function::Lst && lone_point => true,
         _ => begins_well(part, &Chain::of(word)),
+    }
+}
+
+/// Not number 27: "bad number". "A count of 0 is refused".
+fn is_number(part: Part, word: &Word) -> bool {
+    match part {
+        Part::First => number(word).is_ok(),
+        Part::Count => number(word).is_ok_and(|given| given != Some(0)),
+        _ => true,
     }
 }
 
@@ -190,13 +206,21 @@ fn make<'a>(function: Function, arguments: &[Word<'a>]) -> Option<Request<'a>> {
         None => Some(Declared::default()),
         Some(word) => Declared::read(word),
     };
+    // A bad number is refused straight after.
+    let given = |at: usize| number(arguments.get(at)?).ok().flatten();
     Some(match function {
         Function::Crd => Request::Crd {
             name: chain(0),
             guard: declared(1)?.for_crd()?,
         },
         Function::Wrs => make_wrs(declared(0)?, chain(1))?,
-        Function::Rds => Request::Rds { name: chain(0) },
+        Function::Rds => Request::Rds {
+            name: chain(0),
+            portion: Portion {
+                first: given(1),
+                count: given(2),
+            },
+        },
         Function::Cpy => make_cpy(chain(0), chain(1), declared(2)?)?,
         Function::Dup => Request::Dup {
             old: chain(0),
@@ -255,7 +279,7 @@ pub fn refusal(number: u32, place: usize) -> Refusal {
 }
 
 /// Read a line: "Numbers 1 to 10 are tried in that order over the whole line, arguments from left to right
-/// within each." Numbers 1 to 3 are not the line's.
+/// within each." Numbers 1 to 3 are not the line's. "27 bad number, straight after 9".
 pub fn read(line: &[u8], text_length: usize) -> Result<Request<'_>, Refusal> {
     if !line_fits(line) {
         return Err(refusal(4, 0));
@@ -274,6 +298,7 @@ pub fn read(line: &[u8], text_length: usize) -> Result<Request<'_>, Refusal> {
         has_legal_base(function, arguments, part, word)
     })?;
     let request = make(function, arguments).ok_or(refusal(9, place_of_declaration(parts)))?;
+    all_arguments(27, parts, arguments, is_number)?;
     if function == Function::Wrs && text_length > LONGEST_TEXT {
         return Err(refusal(10, 0));
     }

@@ -411,7 +411,7 @@ fn a_give_has_exactly_one_link() {
 fn it_is_judged_on_the_line_with_the_other_8s() {
     let floor = floor();
     // 6 and 7 come first, over the whole line
-    floor.refuse(DAY, "RDS .000777 A", 6, 0);
+    floor.refuse(DAY, "LST .000777 A", 6, 0);
     floor.refuse(DAY, "DUP .000777", 6, 0);
     floor.refuse(DAY, "DUP .000777 @", 7, 2);
     floor.refuse(DAY, "DUP .000777 -", 7, 2);

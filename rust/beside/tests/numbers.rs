@@ -185,7 +185,7 @@ fn number_06_wrong_count_of_arguments() {
         "WRS M",
         "WRS M .G .H",
         "RDS",
-        "RDS .R:A .R:A",
+        "RDS .R:A 1 1 1",
         "LST",
         "LST . .",
         "CPY .R:A",

@@ -41,7 +41,7 @@ fn number_4_before_5_before_6_before_7() {
     let bench = Bench::new(4);
     bench.refuse("CRE .R::A\t", b"", 4, 0);
     bench.refuse("CRE .R::A", b"", 5, 0);
-    bench.refuse("RDS .R::A B", b"", 6, 0);
+    bench.refuse("RDS .R::A B C D", b"", 6, 0);
     bench.refuse("RDS .R::A", b"", 7, 1);
 }
 

@@ -7,7 +7,7 @@ use std::collections::HashMap;
 
 use beside::{
     read, takes_text, words, Chain, Declared, DeclaredLifetime, Guard, Level, Lifetime, Listed,
-    Request, Type,
+    Portion, Request, Type,
 };
 
 fn chain(text: &str) -> Chain<'_> {
@@ -61,7 +61,8 @@ fn requests_for_old_files_as_they_are_read() {
     let dpr = Request::Dpr { name, digit: 0 };
     assert_eq!(request("DPR .R:A .0"), dpr);
     let name = chain(".R:A");
-    assert_eq!(request("RDS .R:A"), Request::Rds { name });
+    let portion = Portion::default();
+    assert_eq!(request("RDS .R:A"), Request::Rds { name, portion });
     let listed = Listed::Directory(chain(".R:A"));
     assert_eq!(request("LST .R:A"), Request::Lst { listed });
     let listed = Listed::BaseList;
@@ -256,7 +257,8 @@ fn a_users_number_is_read_as_it_stands() {
     assert_eq!(read(b"DUP .000002:A .000777 : B .1", 0), Ok(give));
     let name = chain(".000777");
     assert_eq!(name.user(), Some(777));
-    assert_eq!(read(b"RDS .000777", 0), Ok(Request::Rds { name }));
+    let portion = Portion::default();
+    assert_eq!(read(b"RDS .000777", 0), Ok(Request::Rds { name, portion }));
     for own in [".R", ".W:000777", ".R:.000777", ".00777", ".0000777"] {
         assert_eq!(chain(own).user(), None, "{own}");
     }

@@ -3,7 +3,7 @@
 mod common;
 use common::*;
 
-use beside::Answer;
+use beside::{Answer, COUNTS, NUMBERS};
 
 const FUNCTIONS: [&str; 9] = [
     "CRD ", "WRS ", "RDS ", "CPY ", "DUP ", "CHN ", "DEL ", "DPR ", "LST ",
@@ -36,9 +36,11 @@ const DECLARATIONS: [&str; 12] = [
     "M", "L", "-", ".", ".1", ".4", ".7", ".U", "M.P", "L.3", "S", "QQ",
 ];
 
+const PARTS: [&str; 8] = ["0", "7", "36", "37", "777777", "-", "8", "1:2"];
+
 /// A line: any bytes; or one byte again and again; or words anyhow; or a function with what it could have.
 fn line(dice: &mut Dice) -> Vec<u8> {
-    let words = match dice.below(12) {
+    let words = match dice.below(14) {
         0 => {
             let length = dice.below(300);
             return dice.bytes(length);
@@ -53,6 +55,8 @@ fn line(dice: &mut Dice) -> Vec<u8> {
         4..=5 => vec!["DPR ", dice.pick(&NAMES), dice.pick(&DECLARATIONS)],
         6..=7 => vec!["WRS ", dice.pick(&DECLARATIONS), dice.pick(&NAMES)],
         8..=9 => vec![dice.pick(&FUNCTIONS), dice.pick(&NAMES)],
+        10 => vec!["RDS ", dice.pick(&NAMES), dice.pick(&PARTS)],
+        11 => vec!["CPY ", dice.pick(&NAMES), "B", dice.pick(&DECLARATIONS)],
         _ => vec![dice.pick(&FUNCTIONS), dice.pick(&NAMES), dice.pick(&NAMES)],
     };
     words.join(" ").into_bytes()
@@ -96,7 +100,7 @@ fn filled() -> Vec<u8> {
         "CRD .R",
         "CRD .W",
         "CRD .FULL",
-        "WRS M .R:A",
+        "WRS M.P .R:A",
         "CRD .R:D",
         "WRS L .R:D:F",
         "DUP .R .R:LOOP",
@@ -116,7 +120,7 @@ fn filled() -> Vec<u8> {
 fn fits(answer: Answer, stop: u32, line: &[u8], before: &[u8], after: &[u8]) {
     let shown = String::from_utf8_lossy(line).into_owned();
     let number = answer.number;
-    assert!(number <= 22, "{shown}");
+    assert!(NUMBERS.contains(&number), "{shown}");
     let placeless = matches!(number, 0..=6 | 10 | 19 | 20 | 22);
     assert_eq!(answer.place == 0, placeless, "{shown}: {answer:?}");
     assert!(answer.place <= 8 && answer.names <= 8 && answer.displaced <= 1);
@@ -143,7 +147,7 @@ fn any_input_has_one_answer() {
     println!("seed {seed}");
     let mut dice = Dice(seed);
     let sound = filled();
-    let mut met = [0; 23];
+    let mut met = [0; COUNTS];
     for _ in 0..40_000 {
         let before = table(&mut dice, &sound);
         let line = line(&mut dice);
@@ -161,7 +165,7 @@ fn any_input_has_one_answer() {
         met[answer.number as usize] += 1;
     }
     println!("answers by number: {met:?}");
-    assert!(met.iter().all(|answers| *answers > 0), "{met:?}");
+    assert!(NUMBERS.iter().all(|n| met[*n as usize] > 0), "{met:?}");
 }
 
 #[test]

@@ -81,7 +81,10 @@ fn made_of(line: &[u8]) -> String {
                 heading(1, life, *guard)
             )
         }
-        Request::Rds { name } => format!("0 RDS {}", old(name)),
+        Request::Rds { name, portion } => {
+            let (first, count) = (shown(portion.first), shown(portion.count));
+            format!("0 RDS {} {first} {count}", old(name))
+        }
         Request::Cpy {
             old: name,
             new,

@@ -2,6 +2,7 @@
 
 use crate::handed::{broken, Handed};
 use crate::met::Met;
+use crate::parted::Parted;
 
 /// The byte that fills a reply buffer before the call.
 pub const UNTOUCHED: u8 = 0xEE;
@@ -132,6 +133,8 @@ pub struct Comparison {
     pub met: Met,
     /// What gives and takes met.
     pub handed: Handed,
+    /// What an RDS with numbers met.
+    pub parted: Parted,
     /// The requests of the stories.
     pub requests: u64,
     /// The calls made by both: these requests again and again, and mending.
@@ -154,6 +157,7 @@ impl Comparison {
         } else {
             self.met.count(case, proved.number());
             self.handed.count(case, proved.answer);
+            self.parted.count(case, proved.answer);
             return match broken(case, &proved) {
                 None => Ok(proved),
                 Some(wrong) => Err(must_not_be(case, wrong, &proved)),

@@ -1,7 +1,8 @@
 //! The proved library against the second program, on random cases: `compare [COUNT [SEED]]`, COUNT requests on tables that
 //! grow by them. Answer, whole table and whole reply buffer are compared byte for byte, every storing request on a sound
-//! table is cut at its stop numbers and mended, and every table is mended. At the first difference it prints a case to
-//! paste into a test and ends with status 1; also when a reply number was met fewer than a hundred times.
+//! table is cut at its stop numbers and mended, every sheet read whole is read in pieces, and every table is mended. At the
+//! first difference it prints a case to paste into a test and ends with status 1; also when a reply number, or a branch of
+//! RDS's parts, was met fewer than a hundred times.
 //!
 //! `compare jobs [COUNT [SEED]]`: the same with the lamp, COUNT jobs, each cut at its stop numbers and mended; ends with
 //! status 1 also when a light was met fewer than a hundred times.
@@ -16,6 +17,8 @@ mod job;
 mod jobs;
 mod lights;
 mod met;
+mod parted;
+mod pieces;
 mod sheets;
 mod shown;
 mod story;
@@ -83,7 +86,10 @@ fn requests(count: u64, seed: u64) -> ExitCode {
     let mut comparison = Comparison::default();
     let ended = run(&mut comparison, count, seed);
     show(&comparison, seed, start);
-    verdict(ended, &comparison.met, &comparison.met.missed())
+    let Comparison { met, parted, .. } = comparison;
+    let numbers = met.missed().into_iter().map(|number| number.to_string());
+    let missed: Vec<String> = numbers.chain(parted.missed()).collect();
+    verdict(ended, format!("{met}{parted}"), &missed)
 }
 
 fn gives(count: u64, seed: u64) -> ExitCode {

@@ -4,6 +4,7 @@ use random::{requests, shelves, Random};
 
 use crate::case::{must_not_be, Asked, Case, Comparison, Difference};
 use crate::cut::cut_everywhere;
+use crate::pieces::in_pieces;
 use crate::tables::{shuffled, spoiled, Start};
 
 type Told = Result<(), Box<Difference>>;
@@ -118,6 +119,7 @@ impl<'a> Story<'a> {
         if uncut.bytes() > 0 {
             self.in_a_tight_reply(&case, uncut.bytes())?;
         }
+        in_pieces(self.comparison, self.random, &case, &uncut)?;
         if uncut.stores() > 0 {
             cut_everywhere(self.comparison, self.random, &case, &uncut)?;
         }

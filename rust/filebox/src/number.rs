@@ -64,11 +64,15 @@ pub enum Number {
     Stopped = 22,
     /// CPY: level too low, below the source's.
     LevelTooLow = 25,
+    /// RDS: bad number: not one to six octal digits, or a count of 0.
+    BadNumber = 27,
+    /// RDS: first beyond the end.
+    FirstBeyondEnd = 28,
 }
 
 impl Number {
-    /// All numbers, in order: 0 to 22, and 25.
-    pub const ALL: [Number; 24] = [
+    /// All numbers, in order: 0 to 22, 25, 27 and 28.
+    pub const ALL: [Number; 26] = [
         Number::Done,
         Number::TableLength,
         Number::TableNotSound,
@@ -93,6 +97,8 @@ impl Number {
         Number::CodeLacksBit,
         Number::Stopped,
         Number::LevelTooLow,
+        Number::BadNumber,
+        Number::FirstBeyondEnd,
     ];
 
     /// The number itself.
@@ -100,7 +106,7 @@ impl Number {
         self as u32
     }
 
-    /// What document 01's list says of it, and of 8, 16 and 25 document 02.
+    /// What document 01's list says of it, and of 8, 16 and from 25 on document 02.
     fn given_when(self) -> &'static str {
         match self {
             Number::Done => "done",
@@ -133,6 +139,8 @@ impl Number {
             Number::CodeLacksBit => "DPR: new code lacks a bit of the heading's",
             Number::Stopped => "stop number reached; the stores made stand",
             Number::LevelTooLow => "CPY: level too low, below the source's",
+            Number::BadNumber => "RDS: bad number: not one to six octal digits, or a count of 0",
+            Number::FirstBeyondEnd => "RDS: first beyond the end",
         }
     }
 }
@@ -143,7 +151,7 @@ impl fmt::Display for Number {
     }
 }
 
-/// No reply number: the documents have 0 to 22, and 25.
+/// No reply number: the documents have 0 to 22, 25, 27 and 28.
 #[derive(Debug, Clone, Copy, PartialEq, Eq)]
 pub struct NoSuchNumber(pub u32);
 
@@ -172,7 +180,7 @@ mod tests {
     #[test]
     fn each_number_is_found_by_its_code() {
         assert_eq!(Number::ALL.map(Number::code)[..23], Vec::from_iter(0..23));
-        assert_eq!(Number::ALL.map(Number::code)[23..], [25]);
+        assert_eq!(Number::ALL.map(Number::code)[23..], [25, 27, 28]);
         for number in Number::ALL {
             assert_eq!(Number::try_from(number.code()), Ok(number));
         }

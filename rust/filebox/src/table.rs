@@ -118,6 +118,33 @@ impl<B: AsMut<[u8]>> Table<B> {
         self.reply(user, &format!("RDS {name}"), LONGEST_TEXT)
     }
 
+    /// RDS of a part: so many bytes of a sheet from the first on, counted from 0; fewer where the text ends before. A count of
+    /// [`LONGEST_TEXT`] is to the end. A count of 0, and numbers of more than six octal digits, get 27; a first byte beyond the
+    /// end gets 28.
+    ///
+    /// ```
+    /// use filebox::{Number, Table};
+    ///
+    /// let mut table = Table::free(16);
+    /// table.ask(1, "CRD .R").unwrap();
+    /// table.file(1, "M", ".R:LIMITS", b"5.0 V 4.9 V").unwrap();
+    /// assert_eq!(table.part(1, ".R:LIMITS", 6, 5).unwrap(), b"4.9 V");
+    /// assert_eq!(table.part(1, ".R:LIMITS", 11, 5).unwrap(), b"");
+    /// let refused = table.part(1, ".R:LIMITS", 12, 5).unwrap_err();
+    /// assert_eq!(refused.answer().number, Number::FirstBeyondEnd);
+    /// ```
+    pub fn part(
+        &mut self,
+        user: u32,
+        name: &str,
+        first: usize,
+        count: usize,
+    ) -> Result<Vec<u8>, Refused> {
+        without_blank(name, Number::MalformedName, 1)?;
+        let line = format!("RDS {name} {first:o} {count:o}");
+        self.reply(user, &line, count.min(LONGEST_TEXT))
+    }
+
     /// LST: the lines of a directory; with a lone point, of the user's base files other than `.W`. A name with a blank in it is
     /// refused by 7, as in [`Table::file`].
     pub fn list(&mut self, user: u32, name: &str) -> Result<Vec<u8>, Refused> {

@@ -3,6 +3,7 @@
 pub mod chains;
 pub mod damage;
 pub mod lines;
+pub mod parts;
 pub mod requests;
 pub mod shelves;
 

@@ -1,5 +1,6 @@
 //! Random request lines: mostly well-formed, over few names, so that they meet each other in a small table.
 
+use crate::parts::part;
 use crate::Random;
 
 const GOOD: [&str; 11] = [
@@ -52,10 +53,10 @@ fn written(random: &mut Random) -> String {
 /// A line of one of the nine functions, now and then with one byte changed.
 pub fn line(random: &mut Random) -> Vec<u8> {
     let (one, two, declared) = (name(random), name(random), declaration(random));
-    let line = match random.below(15) {
+    let line = match random.below(17) {
         0..=2 => format!("CRD {one} {declared}"),
         3..=5 => written(random),
-        6 => format!("RDS {one}"),
+        6 | 15 | 16 => format!("RDS {one}{}", part(random)),
         7 => format!("CPY {one} {two} {declared}"),
         8 | 9 => format!("DUP {one} {two} {declared}"),
         10 => format!(

@@ -2,6 +2,7 @@
 
 use crate::chains::{base, link, new, old};
 use crate::lines;
+use crate::parts::part;
 use crate::Random;
 
 /// A declaration with this lifetime, now and then with a level, and with a digit that seldom inhibits.
@@ -21,7 +22,7 @@ pub fn declaration(random: &mut Random, lifetime: &str) -> String {
 /// A well-formed line of one of the nine functions over chains of the table.
 pub fn granted(random: &mut Random, table: &[u8], user: u32) -> String {
     let (one, other) = (old(random, table, user), new(random, table, user));
-    match random.below(39) {
+    match random.below(42) {
         0..=5 => format!("CRD {other} {}", declaration(random, "")),
         6..=10 => {
             let lifetime = random.pick(&["M", "L"]);
@@ -42,8 +43,8 @@ pub fn granted(random: &mut Random, table: &[u8], user: u32) -> String {
             let more = (0..random.below(8)).map(|_| old(random, table, user));
             format!("DEL {one} {}", more.collect::<Vec<String>>().join(" "))
         }
-        34 | 35 => format!("RDS {one}"),
-        36 | 37 => format!("LST {one}"),
+        34..=38 => format!("RDS {one}{}", part(random)),
+        39 | 40 => format!("LST {one}"),
         _ => "LST .".to_string(),
     }
 }

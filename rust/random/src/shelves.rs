@@ -1,6 +1,7 @@
 //! Request lines of users who give, take, list and read each other's shelves, and change their own.
 
 use crate::chains::{link, new, old, taken};
+use crate::parts::part;
 use crate::requests::{declaration, granted};
 use crate::Random;
 
@@ -69,7 +70,7 @@ fn shelved(random: &mut Random, table: &[u8], user: u32, other: u32) -> String {
             let declared = declaration(random, lifetime);
             format!("CPY {take} {} {declared}", new(random, table, user))
         }
-        9 | 10 => format!("RDS {take}"),
+        9 | 10 => format!("RDS {take}{}", part(random)),
         11 => format!("LST .{other:06}"),
         _ => format!("LST {take}"),
     }
