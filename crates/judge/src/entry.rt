@@ -7,6 +7,7 @@ use crate::read::byte_of;
 use crate::read::raw_of;
 use crate::read::three_of;
 use crate::read::two_of;
+use crate::twins::Walked;
 use crate::twins::chain_turn;
 use crate::zeros::are_zeros;
 use records::bytes::Room;
@@ -98,7 +99,7 @@ fn hold_turn(t: &[u8], held: &mut [u8; Room::MOST], i: usize) -> bool
     true
 }
 
-// Entry i is judged and counted: whether it is right, its directory may hold it, and no entry before it is its twin.
+// Entry i is judged and counted: whether it is right, its directory may hold it, and no entry in its chain is its twin.
 pub(crate) fn entry_turn(
     t: &[u8],
     gone: &[u8; Room::MOST],
@@ -108,19 +109,20 @@ pub(crate) fn entry_turn(
     head: &mut [u16; Room::MOST],
     next: &mut [u16; Room::MOST],
     i: usize,
-) -> bool
+    left: usize,
+) -> Walked
     requires { ⌜ (i < rooms (now t)) × (length (now t) % 32 ≡ 0) × (length (now t) ≤ 65536) × (isKind 2 (rec (now t) i) ≡ true)
-        × Classed (now class) × Entries (now t) (now named) (now held) (now head) (now next) i ⌝ }
-    ensures { λ r. ⌜ (r ≡ false → sound (without (now (gone .entry)) (now (t .entry))) ≡ false)
-        × (r ≡ true → (entryRight (without (now (gone .entry)) (now (t .entry))) (rec (now (t .entry)) i) ≡ true)
-        × Entries (now (t .entry)) (now (named .exit)) (now (held .exit)) (now (head .exit)) (now (next .exit)) (i + 1)) ⌝ }
+        × Classed (now class) × Entries (now t) (now named) (now held) (now head) (now next) left i ⌝ }
+    ensures { λ r. ⌜ (r .right ≡ false → sound (without (now (gone .entry)) (now (t .entry))) ≡ false)
+        × (r .right ≡ true → (entryRight (without (now (gone .entry)) (now (t .entry))) (rec (now (t .entry)) i) ≡ true)
+        × Entries (now (t .entry)) (now (named .exit)) (now (held .exit)) (now (head .exit)) (now (next .exit)) (r .left) (i + 1)) ⌝ }
 {
     if !is_entry_right(t, gone, class, i) {
-        return false;
+        return Walked { right: false, left };
     }
     if !hold_turn(t, held, i) {
-        return false;
+        return Walked { right: false, left };
     }
     name_turn(t, named, i);
-    chain_turn(t, head, next, i)
+    chain_turn(t, head, next, i, left)
 }

@@ -4,6 +4,7 @@ mod entry;
 mod heading;
 mod name;
 mod named;
+mod order;
 mod pass;
 mod read;
 mod text;
@@ -13,6 +14,7 @@ mod zeros;
 use crate::crowds::crowd_all;
 use crate::name::classes;
 use crate::named::mark_named;
+use crate::order::none_are_twins;
 use crate::pass::are_named;
 use crate::pass::pass_all;
 use crate::text::lay_out;
@@ -61,6 +63,9 @@ fn is_sound(table: &[u8], gone: &[u8; Room::MOST]) -> bool
         return false;
     }
     if !are_named(table, gone, &named) {
+        return false;
+    }
+    if !none_are_twins(table, s.left, &mut next) {
         return false;
     }
     if s.bases <= Entry::MOST_BASE_FILES {

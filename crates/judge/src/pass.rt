@@ -4,7 +4,7 @@ use crate::heading::heading_turn;
 use crate::read::raw_of;
 use crate::read::two_of;
 use crate::text::text_turn;
-use crate::zeros::are_zeros;
+use crate::zeros::is_free;
 use records::bytes::Room;
 use records::entry::Entry;
 use records::entry::Holder;
@@ -22,11 +22,12 @@ ghost use Rattle.judge_laws.specs.Places.{Laid};
 ghost use Rattle.judge_laws.specs.Pass.{naming, Numbered, Passed};
 ghost use Rattle.judge_laws.specs.Shapes.{Classed};
 
-// What was passed: whether all of it is right, how many text records, and how many entries of base files.
+// What was passed: whether all of it is right, how many text records, how many entries of base files, and the steps left for the chains.
 pub(crate) struct Tally {
     pub right: bool,
     pub texts: usize,
     pub bases: usize,
+    pub left: usize,
 }
 
 // 1 if entry i is a base file's.
@@ -56,21 +57,25 @@ fn turn(
 ) -> Tally
     requires { ⌜ (i < rooms (now t)) × (length (now t) % 32 ≡ 0) × (length (now t) ≤ 65536) × Classed (now class)
         × Laid (without (now gone) (now t)) (now start)
-        × Passed (now gone) (now t) (now mark) (now named) (now held) (now head) (now next) (s .texts) (s .bases) i ⌝ }
+        × Passed (now gone) (now t) (now mark) (now named) (now held) (now head) (now next) (s .texts) (s .bases) (s .left) i ⌝ }
     ensures { λ r. ⌜ (r .right ≡ false → sound (without (now (gone .entry)) (now (t .entry))) ≡ false)
         × (r .right ≡ true → Passed (now (gone .entry)) (now (t .entry)) (now (mark .exit)) (now (named .exit)) (now (held .exit)) (now (head .exit))
-        (now (next .exit)) (r .texts) (r .bases) (i + 1)) ⌝ }
+        (now (next .exit)) (r .texts) (r .bases) (r .left) (i + 1)) ⌝ }
 {
     let texts = s.texts;
     let bases = s.bases;
+    let left = s.left;
     let kind = raw_of(t, i, Room::KIND);
     if kind == Entry::KIND {
-        let right = entry_turn(t, gone, class, named, held, head, next, i);
+        let w = entry_turn(t, gone, class, named, held, head, next, i, left);
+        let right = w.right;
+        let left = w.left;
         let bases = bases + base_of(t, i);
         return Tally {
             right,
             texts,
             bases,
+            left,
         };
     }
     if gone[i] != 0 {
@@ -79,6 +84,7 @@ fn turn(
             right,
             texts,
             bases,
+            left,
         };
     }
     if kind == Text::KIND {
@@ -88,6 +94,7 @@ fn turn(
             right,
             texts,
             bases,
+            left,
         };
     }
     if kind == Heading::KIND {
@@ -96,13 +103,15 @@ fn turn(
             right,
             texts,
             bases,
+            left,
         };
     }
-    let right = are_zeros(t, i, Room::KIND, Room::SIZE);
+    let right = is_free(t, i);
     Tally {
         right,
         texts,
         bases,
+        left,
     }
 }
 
@@ -119,16 +128,17 @@ pub(crate) fn pass_all(
     next: &mut [u16; Room::MOST],
 ) -> Tally
     requires { ⌜ (length (now t) % 32 ≡ 0) × (length (now t) ≤ 65536) × Classed (now class) × Laid (without (now gone) (now t)) (now start)
-        × Passed (now gone) (now t) (now mark) (now named) (now held) (now head) (now next) 0 0 0 ⌝ }
+        × Passed (now gone) (now t) (now mark) (now named) (now held) (now head) (now next) 0 0 8192 0 ⌝ }
     ensures { λ r. ⌜ (r .right ≡ false → sound (without (now (gone .entry)) (now (t .entry))) ≡ false)
         × (r .right ≡ true → Passed (now (gone .entry)) (now (t .entry)) (now (mark .exit)) (now (named .exit)) (now (held .exit)) (now (head .exit))
-        (now (next .exit)) (r .texts) (r .bases) (rooms (now (t .entry)))) ⌝ }
+        (now (next .exit)) (r .texts) (r .bases) (r .left) (rooms (now (t .entry)))) ⌝ }
 {
     let n = t.len() / Room::SIZE;
     let mut s = Tally {
         right: true,
         texts: 0,
         bases: 0,
+        left: 8192,
     };
     let mut i: usize = 0;
     while i < n {

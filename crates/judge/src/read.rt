@@ -52,7 +52,15 @@ pub(crate) fn three_of(t: &[u8], i: usize, j: usize) -> usize
 // The four-byte number at place j of record i, low byte first: one read.
 pub(crate) fn four_of(t: &[u8], i: usize, j: usize) -> usize
     requires { ⌜ (i < rooms (now t)) × (j < 29) ⌝ }
-    ensures { λ r. ⌜ r ≡ numberAt 4 (rec (now (t .entry)) i) j ⌝ }
+    ensures { λ r. ⌜ (r ≡ numberAt 4 (rec (now (t .entry)) i) j) × (r < 4294967296) ⌝ }
 {
     two_of(t, i, j) + two_of(t, i, j + 2) * 65536
+}
+
+// The eight-byte number at place j of record i, low byte first: one read.
+pub(crate) fn eight_of(t: &[u8], i: usize, j: usize) -> usize
+    requires { ⌜ (i < rooms (now t)) × (j < 25) ⌝ }
+    ensures { λ r. ⌜ r ≡ numberAt 8 (rec (now (t .entry)) i) j ⌝ }
+{
+    four_of(t, i, j) + four_of(t, i, j + 4) * 4294967296
 }

@@ -1,40 +1,42 @@
 // Entries are chained by a hash of their place and name, and a name borne twice in one place is found in its chain.
 use crate::read::byte_of;
+use crate::read::four_of;
 use crate::read::three_of;
 use crate::read::two_of;
 use crate::read::wide16;
 use records::bytes::Room;
 use records::entry::Entry;
 ghost use mathlib.Core.Path.{_≡_};
-ghost use mathlib.Core.Bool.{true};
+ghost use mathlib.Core.Bool.{true, false};
 ghost use Prim.Native.Nat.{_+_, _<_, _≤_};
 ghost use lib.ListN.{length};
 ghost use Rattle.paper.specs.Scan.{anyBelow};
 ghost use Rattle.paper.specs.Record.{isKind};
 ghost use Rattle.paper.specs.Table.{rooms, rec};
-ghost use Rattle.judge_laws.specs.Chains.{lastIn, Linked, Chains};
+ghost use Rattle.judge_laws.specs.Chains.{lastIn, Linked, Chained};
 ghost use Rattle.judge_laws.specs.Twins.{hashOf, twin, twinTo, single};
+
+// What is left of an entry's walk through its chain: whether it is right as far as it went, and the steps that all walks together may
+// still take. With none left the chains are given up.
+pub(crate) struct Walked {
+    pub right: bool,
+    pub left: usize,
+}
 
 // The bucket of entry i.
 fn hash_of(t: &[u8], i: usize) -> usize
     requires { ⌜ i < rooms (now t) ⌝ }
     ensures { λ r. ⌜ (r ≡ hashOf (rec (now (t .entry)) i)) × (r < 2048) ⌝ }
 {
-    let a = two_of(t, i, Entry::HOLDER) * 237074338683 + three_of(t, i, Entry::USER) * 159217510859;
-    let b = a
-        + byte_of(t, i, Entry::NAME_LENGTH) * 225825020121
-        + two_of(t, i, Entry::NAME) * 158087937263;
-    let c = b
-        + two_of(t, i, Entry::NAME + 2) * 167501999773
-        + two_of(t, i, Entry::NAME + 4) * 273637391247;
-    let d = c
-        + two_of(t, i, Entry::NAME + 6) * 266225641653
-        + two_of(t, i, Entry::NAME + 8) * 260119046801;
-    d / 16777216 % Room::MOST
+    let a = two_of(t, i, Entry::HOLDER) * 926071635 + three_of(t, i, Entry::USER) * 621943401;
+    let b = a + four_of(t, i, Entry::NAME_LENGTH) * 374761393;
+    let c = b + four_of(t, i, Entry::NAME + 3) * 1013904223;
+    let d = c + four_of(t, i, Entry::NAME + 6) * 962287919;
+    d / 1048576 % Room::MOST
 }
 
 // Whether entry k stands where entry i does and bears its name.
-fn are_twins(t: &[u8], i: usize, k: usize) -> bool
+pub(crate) fn are_twins(t: &[u8], i: usize, k: usize) -> bool
     requires { ⌜ (i < rooms (now t)) × (k < rooms (now t)) × (isKind 2 (rec (now t) k) ≡ true) ⌝ }
     ensures { λ r. ⌜ r ≡ twin (rec (now (t .entry)) i) (rec (now (t .entry)) k) ⌝ }
 {
@@ -54,38 +56,55 @@ fn are_twins(t: &[u8], i: usize, k: usize) -> bool
     true
 }
 
-// Whether entry i has a twin before it: a walk through its bucket, from one more than the last entry there.
-fn twin_before(t: &[u8], next: &[u16; Room::MOST], i: usize, first: usize) -> bool
+// Whether entry i has no twin before it: a walk through its bucket, from one more than the last entry there, to its end or to the last step.
+fn twin_before(t: &[u8], next: &[u16; Room::MOST], i: usize, first: usize, steps: usize) -> Walked
     requires { ⌜ (i < rooms (now t)) × (length (now t) ≤ 65536) × (first ≡ lastIn hashOf (now t) (hashOf (rec (now t) i)) i)
         × Linked hashOf (now t) (now next) i ⌝ }
-    ensures { λ r. ⌜ r ≡ anyBelow (twinTo (now (t .entry)) i) i ⌝ }
+    ensures { λ r. ⌜ (r .right ≡ false → anyBelow (twinTo (now (t .entry)) i) i ≡ true)
+        × (r .right ≡ true → 0 < r .left → anyBelow (twinTo (now (t .entry)) i) i ≡ false) × (r .left ≤ steps) ⌝ }
 {
     let mut c = first;
+    let mut left = steps;
     while 0 < c {
+        if left < 2 {
+            return Walked {
+                right: true,
+                left: 0,
+            };
+        }
         if are_twins(t, i, c - 1) {
-            return true;
+            return Walked { right: false, left };
         }
         c = wide16(next[c - 1]);
+        left -= 1;
     }
-    false
+    Walked { right: true, left }
 }
 
-// Whether entry i has no twin before it; if so it is put into its chain.
+// Entry i is looked for in its chain, and put into it if it has no twin there.
 pub(crate) fn chain_turn(
     t: &[u8],
     head: &mut [u16; Room::MOST],
     next: &mut [u16; Room::MOST],
     i: usize,
-) -> bool
-    requires { ⌜ (i < rooms (now t)) × (length (now t) ≤ 65536) × (isKind 2 (rec (now t) i) ≡ true) × Chains hashOf (now t) (now head) (now next) i ⌝ }
-    ensures { λ r. ⌜ (r ≡ single (now (t .entry)) i) × (r ≡ true → Chains hashOf (now (t .entry)) (now (head .exit)) (now (next .exit)) (i + 1)) ⌝ }
+    left: usize,
+) -> Walked
+    requires { ⌜ (i < rooms (now t)) × (length (now t) ≤ 65536) × (isKind 2 (rec (now t) i) ≡ true)
+        × Chained hashOf (now t) (now head) (now next) left i ⌝ }
+    ensures { λ r. ⌜ (r .right ≡ false → single (now (t .entry)) i ≡ false)
+        × (r .right ≡ true → (0 < r .left → single (now (t .entry)) i ≡ true)
+        × Chained hashOf (now (t .entry)) (now (head .exit)) (now (next .exit)) (r .left) (i + 1)) × (r .left ≤ left) ⌝ }
 {
+    if left == 0 {
+        return Walked { right: true, left };
+    }
     let h = hash_of(t, i);
     let first = head[h];
-    if twin_before(t, next, i, wide16(first)) {
-        return false;
+    let w = twin_before(t, next, i, wide16(first), left);
+    if !w.right {
+        return w;
     }
     next[i] = first;
     head[h] = (i + 1) as u16;
-    true
+    w
 }

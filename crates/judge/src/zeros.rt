@@ -1,6 +1,8 @@
 // "Bytes not named are zero."
 use crate::read::byte_of;
+use crate::read::eight_of;
 use crate::read::four_of;
+use records::bytes::Room;
 ghost use mathlib.Core.Path.{_≡_};
 ghost use mathlib.Core.Bool.{true};
 ghost use Prim.Native.Nat.{_+_, _<_, _≤_};
@@ -35,4 +37,21 @@ pub(crate) fn are_zeros(t: &[u8], i: usize, j: usize, n: usize) -> bool
         m += 1;
     }
     true
+}
+
+// Whether record i is all zero: four reads.
+pub(crate) fn is_free(t: &[u8], i: usize) -> bool
+    requires { ⌜ i < rooms (now t) ⌝ }
+    ensures { λ r. ⌜ r ≡ zeros 0 32 (rec (now (t .entry)) i) ⌝ }
+{
+    if eight_of(t, i, Room::KIND) != 0 {
+        return false;
+    }
+    if eight_of(t, i, 8) != 0 {
+        return false;
+    }
+    if eight_of(t, i, 16) != 0 {
+        return false;
+    }
+    eight_of(t, i, 24) == 0
 }

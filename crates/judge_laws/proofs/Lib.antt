@@ -14,6 +14,7 @@ pub mod TextTurns
 pub mod Lasts
 pub mod Chains
 pub mod Twins
+pub mod Order
 pub mod Crowds
 pub mod Literal
 -- soundness from these, and of a table without some records

@@ -16,7 +16,7 @@ use Rattle.judge_laws.specs.Mask.{stays, without}
 use Rattle.judge_laws.specs.Pass.{naming, holding, baseEntry, basing, Numbered, Held, Entries, Passed}
 use Rattle.judge_laws.specs.Places.{textFits, shortAt, textSound, texts, starts, slotOf, Laid, Marked, fresh}
 use Rattle.judge_laws.specs.Shapes.{headingRight, entryRight, rightAt, shaped}
-use Rattle.judge_laws.specs.Twins.{hashOf, single}
+use Rattle.judge_laws.specs.Twins.{hashOf, single, noTwins}
 use Rattle.paper.specs.Entry.{inDirectory, holder, stands, crowd, limit, named}
 use Rattle.paper.specs.Record.{byte, isKind, headingType, textLength, simple, directory, headingNamed, holderOf, userOf, names, headingOf, position, zeros}
 use Rattle.paper.specs.Scan.{anyBelow, countBelow}
@@ -146,28 +146,32 @@ module _ (t : List ℕ) (i : ℕ) where
           omega arith)
 
 -- a record that is no entry leaves what the entries left
-entries-other : (t named held head next : List ℕ) (i : ℕ) → isKind 2 (rec t i) ≡ false → Entries t named held head next i
-    → Entries t named held head next (i + 1)
+entries-other : (t named held head next : List ℕ) (left i : ℕ) → isKind 2 (rec t i) ≡ false → Entries t named held head next left i
+    → Entries t named held head next left (i + 1)
 unfolding stands
-entries-other t named held head next i k s =
+entries-other t named held head next left i k s =
     let e : (d : ℕ) → holding t (i + 1) d ≡ holding t i d = λ d. holding-more t i d ∙ rw k in
     record {
-      single = below-more _ _ (s .single) (rw k);
+      single = λ z. below-more _ _ (s .single z) (rw k);
       naming = numbered-same (naming t i) (naming t (i + 1)) named (s .naming) (λ h l. naming-more t i h ∙ rw k);
       holding = record {
         counts = numbered-same (holding t i) (holding t (i + 1)) held (s .holding .counts) (λ d l. e d);
         most = λ d l. rw (e d) (s .holding .most d l);
       };
-      chains = chains-other hashOf t head next i (s .chains) k;
+      chains = record {
+        chains = λ z. chains-other hashOf t head next i (s .chains .chains z) k;
+        head-long = s .chains .head-long;
+        next-long = s .chains .next-long;
+      };
     }
 
 -- no base list is crowded where there are few entries of base files, and no directory
-few-bases : (t named held head next : List ℕ) → Entries t named held head next (rooms t) → basing t (rooms t) ≤ 100
+few-bases : (t named held head next : List ℕ) (left : ℕ) → Entries t named held head next left (rooms t) → basing t (rooms t) ≤ 100
     → ((i : ℕ) → i < rooms t → byte (rec t i) 0 ≡ 2 → cond (isBase (rec t i)) (leb (userOf (rec t i)) 999999) (eqb (userOf (rec t i)) 0) ≡ true)
     → ((i : ℕ) → i < rooms t → byte (rec t i) 0 ≡ 2 → isBase (rec t i) ≡ false → holderOf (rec t i) < 2048)
     → noneCrowded t ≡ true
 unfolding noneCrowded crowd holding basing
-few-bases t named held head next s few users there = every-here 2 (notCrowded t) t (λ i l k. go i l k (truth (isBase (rec t i))))
+few-bases t named held head next left s few users there = every-here 2 (notCrowded t) t (λ i l k. go i l k (truth (isBase (rec t i))))
   where
     go : (i : ℕ) → i < rooms t → byte (rec t i) 0 ≡ 2 → (isBase (rec t i) ≡ true) ⊎ (isBase (rec t i) ≡ false) → notCrowded t i (rec t i) ≡ true
     go i l k (inl b) =
@@ -198,6 +202,10 @@ module _ (gone t : List ℕ) (w : Whole t) where
         eqb-true _ _ u,
       )
 
+  -- two entries that are twins
+  pub refuted-twins : noTwins t ≡ false → sound (without gone t) ≡ false
+  refuted-twins e = sound-not-twins (without gone t) (twins-without gone t ∙ e)
+
   -- what one record refutes
   module _ (i : ℕ) (l : i < rooms t) where
     pub refuted : rightAt (without gone t) i ≡ false → sound (without gone t) ≡ false
@@ -209,7 +217,7 @@ module _ (gone t : List ℕ) (w : Whole t) where
         sound-not-text (without gone t) (sound-not-long (without gone t) (whole-without gone t w) i (rw (rooms-without gone t) l) e)
 
     pub refuted-twin : single t i ≡ false → sound (without gone t) ≡ false
-    refuted-twin e = sound-not-twins (without gone t) (twins-without gone t ∙ twin-one t i l e)
+    refuted-twin e = refuted-twins (twin-one t i l e)
 
     pub refuted-entry : isKind 2 (rec t i) ≡ true → entryRight (without gone t) (rec t i) ≡ false → sound (without gone t) ≡ false
     refuted-entry k e =
@@ -306,36 +314,36 @@ module _ (gone t : List ℕ) (w : Whole t) where
             (and-both (textFits (without gone t) i) _ fits (rw (kind, ← (slot .0), z))) (eq-eqb _ _ kind))
 
   -- what is known before the first record
-  pub passed-none : (start mark named held head next : List ℕ) → Laid (without gone t) start → length mark ≡ 2048 → length named ≡ 2048
+  pub passed-none : (start mark named held head next : List ℕ) (left : ℕ) → Laid (without gone t) start → length mark ≡ 2048 → length named ≡ 2048
       → length held ≡ 2048 → length head ≡ 2048 → length next ≡ 2048 → ((s : ℕ) → s < 2048 → getD mark s 0 ≡ 0)
       → ((s : ℕ) → s < 2048 → getD named s 0 ≡ 0) → ((s : ℕ) → s < 2048 → getD held s 0 ≡ 0) → ((s : ℕ) → s < 2048 → getD head s 0 ≡ 0)
-      → Passed gone t mark named held head next 0 0 0
+      → Passed gone t mark named held head next 0 0 left 0
   unfolding naming holding basing countBelow
-  passed-none start mark named held head next a lm ln lh lf lx zm zn zh zf =
+  passed-none start mark named held head next left a lm ln lh lf lx zm zn zh zf =
       record {
         right = below-none _;
         short = below-none _;
         text = marked-none (without gone t) start mark a lm zm;
         entries = record {
-          single = below-none _;
+          single = λ z. below-none _;
           naming = numbered-none (naming t 0) named ln zn (λ h. refl);
           holding = record { counts = numbered-none (holding t 0) held lh zh (λ h. refl); most = λ d l. omega arith };
-          chains = chains-none hashOf t head next lf lx zf;
+          chains = record { chains = λ z. chains-none hashOf t head next lf lx zf; head-long = lf; next-long = lx };
         };
         texted = sym (texts-none (without gone t));
         based = refl;
       }
 
   -- what one more record adds
-  module _ (start mark named held head next : List ℕ) (x b i : ℕ) (a : Laid (without gone t) start) (l : i < rooms t)
-      (p : Passed gone t mark named held head next x b i) where
+  module _ (start mark named held head next : List ℕ) (x b u i : ℕ) (a : Laid (without gone t) start) (l : i < rooms t)
+      (p : Passed gone t mark named held head next x b u i) where
     below : i < rooms (without gone t)
     below = rw (rooms-without gone t) l
 
-    pub passed-entry : (named′ held′ head′ next′ : List ℕ) (b′ : ℕ) → isKind 2 (rec t i) ≡ true → entryRight (without gone t) (rec t i) ≡ true
-        → Entries t named′ held′ head′ next′ (i + 1) → b′ ≡ b + cond (isBase (rec t i)) 1 0
-        → Passed gone t mark named′ held′ head′ next′ x b′ (i + 1)
-    passed-entry named′ held′ head′ next′ b′ k e s q =
+    pub passed-entry : (named′ held′ head′ next′ : List ℕ) (b′ u′ : ℕ) → isKind 2 (rec t i) ≡ true → entryRight (without gone t) (rec t i) ≡ true
+        → Entries t named′ held′ head′ next′ u′ (i + 1) → b′ ≡ b + cond (isBase (rec t i)) 1 0
+        → Passed gone t mark named′ held′ head′ next′ x b′ u′ (i + 1)
+    passed-entry named′ held′ head′ next′ b′ u′ k e s q =
         record {
           right = below-more _ _ (p .right) (right-entry (without gone t) i (ap (λ r. byte r 0) z ∙ k′) ∙ rw z e);
           short = below-more _ _ (p .short) (rw (z, k′));
@@ -360,44 +368,44 @@ module _ (gone t : List ℕ) (w : Whole t) where
 
     pub passed-other : (mark′ : List ℕ) (x′ : ℕ) → isKind 2 (rec t i) ≡ false → rightAt (without gone t) i ≡ true → shortAt (without gone t) i ≡ true
         → Marked (without gone t) mark′ (i + 1) → x′ ≡ x + cond (isKind 3 (rec (without gone t) i)) 1 0
-        → Passed gone t mark′ named held head next x′ b (i + 1)
+        → Passed gone t mark′ named held head next x′ b u (i + 1)
     passed-other mark′ x′ k r s m q =
         record {
           right = below-more _ _ (p .right) r;
           short = below-more _ _ (p .short) s;
           text = m;
-          entries = entries-other t named held head next i k (p .entries);
+          entries = entries-other t named held head next u i k (p .entries);
           texted = q ∙ rw (p .texted) (sym (texts-more (without gone t) i));
           based = p .based ∙ sym (basing-more t i ∙ rw k);
         }
 
     -- no entry and no text: right, and short if it is a heading
     pub passed-plain : isKind 2 (rec t i) ≡ false → isKind 3 (rec (without gone t) i) ≡ false → rightAt (without gone t) i ≡ true
-        → shortAt (without gone t) i ≡ true → Passed gone t mark named held head next x b (i + 1)
+        → shortAt (without gone t) i ≡ true → Passed gone t mark named held head next x b u (i + 1)
     passed-plain k n r s = passed-other mark x k r s (unmarked (without gone t) start mark i a below (p .text) n) (rw n (omega arith))
 
-    pub passed-gone : isKind 2 (rec t i) ≡ false → stays gone i ≡ false → Passed gone t mark named held head next x b (i + 1)
+    pub passed-gone : isKind 2 (rec t i) ≡ false → stays gone i ≡ false → Passed gone t mark named held head next x b u (i + 1)
     passed-gone k s =
         passed-plain k (text-without gone t w i ∙ rw (s, and-no-right (isKind 3 (rec t i)) false refl)) (right-gone gone t i l k s)
         (rw (simple-without gone t w i, s, and-no-right (simple (rec t i)) false refl))
 
     pub passed-heading : byte (rec t i) 0 ≡ 1 → stays gone i ≡ true → (headingRight (rec t i) && leb (textLength (rec t i)) 24000) ≡ true
-        → Passed gone t mark named held head next x b (i + 1)
+        → Passed gone t mark named held head next x b u (i + 1)
     passed-heading k s e =
         let z = rec-stays gone t w i s in
         passed-plain (rw k) (rw (z, k)) (heading-right i l k s ∙ and-left (headingRight (rec t i)) _ e)
         (implies-by (simple (rec (without gone t) i)) _ (λ _. rw z (and-right (headingRight (rec t i)) _ e)))
 
     pub passed-free : (byte (rec t i) 0 ≡ 1 → ⊥) → (byte (rec t i) 0 ≡ 2 → ⊥) → (byte (rec t i) 0 ≡ 3 → ⊥) → stays gone i ≡ true
-        → zeros 0 32 (rec t i) ≡ true → Passed gone t mark named held head next x b (i + 1)
+        → zeros 0 32 (rec t i) ≡ true → Passed gone t mark named held head next x b u (i + 1)
     passed-free n1 n2 n3 s e =
         let z = rec-stays gone t w i s in
         let y : (m : ℕ) → (byte (rec t i) 0 ≡ m → ⊥) → isKind m (rec (without gone t) i) ≡ false = λ m n. rw z (ne-eqb (byte (rec t i) 0) m n) in
         passed-plain (ne-eqb (byte (rec t i) 0) 2 n2) (y 3 n3) (free-right i l n1 n2 n3 s ∙ e) (rw (y 1 n1))
 
   -- what is known past the last record
-  module _ (start mark named held head next : List ℕ) (x b : ℕ) (a : Laid (without gone t) start)
-      (p : Passed gone t mark named held head next x b (rooms t)) where
+  module _ (start mark named held head next : List ℕ) (x b u : ℕ) (a : Laid (without gone t) start)
+      (p : Passed gone t mark named held head next x b u (rooms t)) where
     all-right : shaped (without gone t) ≡ true
     all-right = shaped-all (without gone t) (λ j l. p .right j (rw (rooms-without gone t) at l))
 
@@ -408,14 +416,16 @@ module _ (gone t : List ℕ) (w : Whole t) where
         (rw q (sym (p .texted) ∙ e))
         (λ s l. rw q (p .text .once s l))
 
-    pub passed-all : x ≡ starts (without gone t) (rooms t) → allNamed (without gone t) ≡ true → sound (without gone t) ≡ noneCrowded t
+    pub passed-single : 0 < u → noTwins t ≡ true
+    passed-single z = single-all t (p .entries .single z)
+
+    pub passed-all : x ≡ starts (without gone t) (rooms t) → allNamed (without gone t) ≡ true → noTwins t ≡ true → sound (without gone t) ≡ noneCrowded t
     unfolding textSound
-    passed-all e n =
-        sound-left (without gone t) all-right n (all-text e) (twins-without gone t ∙ single-all t (p .entries .single)) ∙ crowded-without gone t
+    passed-all e n o = sound-left (without gone t) all-right n (all-text e) (twins-without gone t ∙ o) ∙ crowded-without gone t
 
     pub passed-few : length t ≤ 65536 → b ≤ 100 → noneCrowded t ≡ true
     passed-few small few =
-        few-bases t named held head next (p .entries) (omega (arith, p .based))
+        few-bases t named held head next u (p .entries) (omega (arith, p .based))
         (λ i l k. base-user (without gone t) (rec t i) (entered i l k .place))
         (λ i l k n. omega (arith, entry-stands (rec t i) (entry i l k) n .0))
       where

@@ -3,11 +3,13 @@
 use mathlib.Core.Bool.{true, false, _&&_, _||_, cond, true≢false}
 use mathlib.Core.List.{List, [], _∷_}
 use mathlib.Core.Logic.{_⊎_, inl, inr, by-cases}
-use mathlib.Core.Path.{_≡_, sym, _∙_}
-use Prim.Native.Nat.{ℕ, _+_, _-_, _≤_, _<_}
+use mathlib.Core.Path.{_≡_, refl, sym, _∙_}
+use Prim.Native.Nat.{ℕ, zero, suc, _+_, _-_, _*_, _≤_, _<_}
 use native.Mathlib.Omega.{arith}
 use native.Mathlib.Decide.{decLt}
+use native.Mathlib.Nat.{add-zero}
 use lib.Dec.{eqb, leb}
+use lib.ListN.{getD}
 use borrow.Author.Tests.{eqb-true, eq-eqb, leb-true, le-leb}
 use Rattle.judge_laws.specs.Shapes.{plainTest, headingRight, baseRight, insideRight, entryRight}
 use Rattle.paper.specs.Name.{linkName, legalBase}
@@ -37,6 +39,26 @@ zeros-more j m w r z e = zeros-by j (m + w) r (λ k l. go k l (decLt k m))
     go k l d =
         by-cases d (λ (b : k < m). zeros-at j m r z k b)
         (λ (b : ¬ (k < m)). let q : j + k ≡ j + m + (k - m) = omega arith in rw q (number-zeros w r (j + m) e (k - m) (omega arith)))
+
+-- a number of zeros is 0, and one that is not 0 refutes them
+number-none : (w : ℕ) (s : List ℕ) (j : ℕ) → ((m : ℕ) → m < w → getD s (j + m) 0 ≡ 0) → numberAt w s j ≡ 0
+unfolding numberAt
+number-none zero s j h = refl
+number-none (suc w) s j h =
+    let low : getD s j 0 ≡ 0 = simp add-zero at (h 0 (omega arith)) in
+    let high : numberAt w s (suc j) ≡ 0 =
+    number-none w s (suc j) (λ m l. let q : suc j + m ≡ j + suc m = omega arith in rw q (h (suc m) (omega arith))) in
+    omega arith
+
+pub zeros-refuted : (j n w k : ℕ) (r : List ℕ) → k + w ≤ n → (numberAt w r (j + k) ≡ 0 → ⊥) → zeros j n r ≡ false
+zeros-refuted j n w k r l f =
+    false-by (zeros j n r)
+    (λ e. f (number-none w r (j + k) (λ m b. let q : j + k + m ≡ j + (k + m) = omega arith in rw q (zeros-at j n r e (k + m) (omega arith)))))
+
+-- a number of eight bytes is two numbers of four
+pub number-eight : (s : List ℕ) (j : ℕ) → numberAt 8 s j ≡ numberAt 4 s j + numberAt 4 s (j + 4) * 4294967296
+unfolding numberAt
+number-eight s j = let e : j + 4 ≡ suc (suc (suc (suc j))) = omega arith in rw e (omega arith)
 
 pub zeros-none : (j : ℕ) (r : List ℕ) → zeros j 0 r ≡ true
 zeros-none j r = zeros-by j 0 r (λ m l. let z : ⊥ = omega arith in absurd z)

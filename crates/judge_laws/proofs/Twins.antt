@@ -11,12 +11,13 @@ use borrow.Author.Tests.{eqb-true, eq-eqb}
 use Rattle.judge_laws.specs.Chains.{inBucket, lastIn, Linked}
 use Rattle.judge_laws.specs.Twins.{twin, twinTo, single, noTwins, hashOf}
 use Rattle.paper.specs.Entry.{holder, stands}
+use Rattle.paper.specs.Number.{numberAt}
 use Rattle.paper.specs.Record.{byte, two, isKind, holderOf, userOf}
 use Rattle.paper.specs.Scan.{anyBelow}
 use Rattle.paper.specs.Table.{rooms, rec}
 use Rattle.judge_laws.proofs.Chains.{Walk, walk-start, walk-end, walk-found, walk-on}
 use Rattle.judge_laws.proofs.Lasts.{last-none, last-some}
-use Rattle.laws.proofs.Numbers.{number-two}
+use Rattle.laws.proofs.Numbers.{number-two, number-cong}
 use Rattle.laws.proofs.Scans.{all-true, all-here, all-false}
 use Rattle.laws.proofs.Entries.{stands-true, stands-by}
 use Rattle.laws.proofs.Tests.{and-left, and-right, and-both, false-by}
@@ -47,16 +48,20 @@ alike-twin a b s =
     and-both (stands (holder a) b) _ (stands-by (holder a) b (record { kind = eqb-true _ _ (s .kind); heading = s .place; user = s .user }))
     (all-here (λ j. eqb (byte a (9 + j)) (byte b (9 + j))) 11 (λ j l. eq-eqb _ _ (s .bytes j l)))
 
+pub two-alike : (a b : List ℕ) → Alike a b → (j : ℕ) → j < 10 → two b (9 + j) ≡ two a (9 + j)
+two-alike a b s j l =
+    let q : 9 + j + 1 ≡ 9 + (j + 1) = omega arith in
+    number-two b (9 + j) ∙ rw (q, ← (s .bytes j (omega arith)), ← (s .bytes (j + 1) (omega arith)), ← q) (sym (number-two a (9 + j)))
+
 -- twins have one hash
 pub hash-alike : (a b : List ℕ) → Alike a b → hashOf b ≡ hashOf a
 unfolding hashOf
 hash-alike a b s =
-    rw (s .place, s .user, ← (s .bytes 0 (omega arith)), w 1 (omega arith), w 3 (omega arith), w 5 (omega arith), w 7 (omega arith), w 9 (omega arith))
+    rw (s .place, s .user, w 0 (omega arith), w 4 (omega arith), w 7 (omega arith))
   where
-    w : (j : ℕ) → j < 10 → two b (9 + j) ≡ two a (9 + j)
+    w : (j : ℕ) → j < 8 → numberAt 4 b (9 + j) ≡ numberAt 4 a (9 + j)
     w j l =
-        let q : 9 + j + 1 ≡ 9 + (j + 1) = omega arith in
-        number-two b (9 + j) ∙ rw (q, ← (s .bytes j (omega arith)), ← (s .bytes (j + 1) (omega arith)), ← q) (sym (number-two a (9 + j)))
+        number-cong 4 b a (9 + j) (9 + j) (λ i m. let q : 9 + j + i ≡ 9 + (j + i) = omega arith in rw q (sym (s .bytes (j + i) (omega arith))))
 
 twin-bucket : (t : List ℕ) (i j : ℕ) → twinTo t i j ≡ true → inBucket hashOf t (hashOf (rec t i)) j ≡ true
 twin-bucket t i j e =

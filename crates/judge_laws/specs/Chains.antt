@@ -28,3 +28,9 @@ pub record Chains (f : List ℕ → ℕ) (t head next : List ℕ) (i : ℕ) : Ty
   pub heads : (b : ℕ) → b < 2048 → getD head b 0 ≡ lastIn f t b i
   pub nexts : Linked f t next i
   pub long : length head ≡ 2048
+
+-- the same as long as there are steps left to walk them; with none left they are given up
+pub record Chained (f : List ℕ → ℕ) (t head next : List ℕ) (left i : ℕ) : Type 0 where
+  pub chains : 0 < left → Chains f t head next i
+  pub head-long : length head ≡ 2048
+  pub next-long : length next ≡ 2048

@@ -9,7 +9,7 @@ use Rattle.paper.specs.Record.{isKind, names}
 use Rattle.paper.specs.Scan.{countBelow}
 use Rattle.paper.specs.Sound.{isBase}
 use Rattle.paper.specs.Table.{rec}
-use Rattle.judge_laws.specs.Chains.{Chains}
+use Rattle.judge_laws.specs.Chains.{Chained}
 use Rattle.judge_laws.specs.Mask.{without}
 use Rattle.judge_laws.specs.Places.{shortAt, texts, Marked}
 use Rattle.judge_laws.specs.Shapes.{rightAt}
@@ -41,18 +41,19 @@ pub record Held (t held : List ℕ) (i : ℕ) : Type 0 where
   pub counts : Numbered (holding t i) held
   pub most : (d : ℕ) → d < 2048 → holding t i d ≤ 112
 
--- the entries below i are counted for the headings they name and the directories that hold them, and no two are twins
-pub record Entries (t named held head next : List ℕ) (i : ℕ) : Type 0 where
-  pub single : (j : ℕ) → j < i → single t j ≡ true
+-- the entries below i are counted for the headings they name and the directories that hold them, and no two are twins, as long as there are
+-- steps left to walk their chains
+pub record Entries (t named held head next : List ℕ) (left i : ℕ) : Type 0 where
+  pub single : 0 < left → (j : ℕ) → j < i → single t j ≡ true
   pub naming : Numbered (naming t i) named
   pub holding : Held t held i
-  pub chains : Chains hashOf t head next i
+  pub chains : Chained hashOf t head next left i
 
--- the records below i are judged, without those that go: so much text, and so many entries of base files
-pub record Passed (gone t mark named held head next : List ℕ) (text-count base-count i : ℕ) : Type 0 where
+-- the records below i are judged, without those that go: so much text, so many entries of base files, and so many steps left
+pub record Passed (gone t mark named held head next : List ℕ) (text-count base-count left i : ℕ) : Type 0 where
   pub right : (j : ℕ) → j < i → rightAt (without gone t) j ≡ true
   pub short : (j : ℕ) → j < i → shortAt (without gone t) j ≡ true
   pub text : Marked (without gone t) mark i
-  pub entries : Entries t named held head next i
+  pub entries : Entries t named held head next left i
   pub texted : text-count ≡ texts (without gone t) i
   pub based : base-count ≡ basing t i

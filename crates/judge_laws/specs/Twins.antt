@@ -4,7 +4,8 @@ use mathlib.Core.List.{List}
 use Prim.Native.Nat.{ℕ, _+_, _*_, _/_, _%_}
 use lib.Dec.{eqb}
 use Rattle.paper.specs.Entry.{holder, stands}
-use Rattle.paper.specs.Record.{byte, two, isKind, holderOf, userOf, nameLength}
+use Rattle.paper.specs.Number.{numberAt}
+use Rattle.paper.specs.Record.{byte, isKind, holderOf, userOf}
 use Rattle.paper.specs.Scan.{allBelow, anyBelow}
 use Rattle.paper.specs.Sound.{implies, every}
 use Rattle.paper.specs.Table.{rec}
@@ -32,10 +33,7 @@ noTwins t = every 2 (λ i r. not (anyBelow (λ j. twin r (rec t j)) i)) t
 -- any function of the bytes that twins share will do
 unfoldable pub hashOf : List ℕ → ℕ
 hashOf r =
-    (holderOf r * 237074338683 + userOf r * 159217510859 + nameLength r * 225825020121 + two r 10 * 158087937263
-    + two r 12 * 167501999773
-    + two r 14 * 273637391247
-    + two r 16 * 266225641653
-    + two r 18 * 260119046801)
-    / 16777216
+    (holderOf r * 926071635 + userOf r * 621943401 + numberAt 4 r 9 * 374761393 + numberAt 4 r 13 * 1013904223
+    + numberAt 4 r 16 * 962287919)
+    / 1048576
     % 2048

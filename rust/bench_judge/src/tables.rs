@@ -1,4 +1,4 @@
-//! Sound tables without a free record, in three shapes.
+//! Sound tables without a free record, in several shapes.
 
 const RECORD: usize = 32;
 const IN_DIRECTORY: usize = 112;
@@ -142,8 +142,32 @@ pub fn directories(records: usize) -> Vec<u8> {
     linked(records, |t, _| t.fresh_name())
 }
 
+/// The same with names of one to ten characters.
+pub fn mixed_names(records: usize) -> Vec<u8> {
+    linked(records, |t, _| {
+        let length = 1 + t.serial % 10;
+        let name = t.fresh_name();
+        match length {
+            1 => char::from(b'A' + (t.serial / 10 % 12) as u8).to_string(),
+            2 => format!("B{}", char::from(b'A' + (t.serial / 10 % 12) as u8)),
+            3 => format!("C{:02}", t.serial / 10 % 100),
+            10 => format!("X{name}"),
+            _ => format!("D{}", &name[10 - length..]),
+        }
+    })
+}
+
 /// The same with names chosen to fall into one bucket of the judge's chains: the worst there is.
 pub fn collided(records: usize) -> Vec<u8> {
+    in_bucket_0(records, bucket)
+}
+
+/// The same for the judge as it was before: its hash was another.
+pub fn collided_before(records: usize) -> Vec<u8> {
+    in_bucket_0(records, bucket_before)
+}
+
+fn in_bucket_0(records: usize, bucket: fn(usize, &str) -> u64) -> Vec<u8> {
     linked(records, |t, directory| loop {
         let name = t.fresh_name();
         if bucket(directory, &name) == 0 {
@@ -152,19 +176,85 @@ pub fn collided(records: usize) -> Vec<u8> {
     })
 }
 
-/// The bucket of an entry without a user, as the judge computes it.
+/// The bucket of an entry without a user, as the judge computes it: from its directory and from its name with the length before it.
 fn bucket(directory: usize, name: &str) -> u64 {
-    let mut bytes = [0u8; 10];
-    bytes[..name.len()].copy_from_slice(name.as_bytes());
-    let two = |j: usize| u64::from(bytes[j]) + u64::from(bytes[j + 1]) * 256;
+    let bytes = padded(name);
+    let four = |j: usize| {
+        let four = [bytes[j], bytes[j + 1], bytes[j + 2], bytes[j + 3]];
+        u64::from(u32::from_le_bytes(four))
+    };
+    let sum = directory as u64 * 926071635
+        + four(0) * 374761393
+        + four(4) * 1013904223
+        + four(7) * 962287919;
+    sum / 1048576 % 2048
+}
+
+fn bucket_before(directory: usize, name: &str) -> u64 {
+    let bytes = padded(name);
+    let two = |j: usize| u64::from(u16::from_le_bytes([bytes[j], bytes[j + 1]]));
     let sum = directory as u64 * 237074338683
-        + name.len() as u64 * 225825020121
-        + two(0) * 158087937263
-        + two(2) * 167501999773
-        + two(4) * 273637391247
-        + two(6) * 266225641653
-        + two(8) * 260119046801;
+        + u64::from(bytes[0]) * 225825020121
+        + two(1) * 158087937263
+        + two(3) * 167501999773
+        + two(5) * 273637391247
+        + two(7) * 266225641653
+        + two(9) * 260119046801;
     sum / 16777216 % 2048
+}
+
+/// A name with its length before it, and zeros after.
+fn padded(name: &str) -> [u8; 11] {
+    let mut bytes = [0u8; 11];
+    bytes[0] = name.len() as u8;
+    bytes[1..=name.len()].copy_from_slice(name.as_bytes());
+    bytes
+}
+
+/// Four base files for each user, all of one directory; `fit` says which users.
+pub fn base_files(records: usize, fit: fn(u32) -> bool) -> Vec<u8> {
+    let mut t = Table::new(records);
+    let directory = t.base(0);
+    for user in (1..1_000_000).filter(|user| fit(*user)) {
+        for name in [".R", ".W", ".G", ".T"] {
+            if t.left() > 0 {
+                t.entry(65535, directory, user, name);
+            }
+        }
+    }
+    t.bytes.resize(records * RECORD, 0);
+    t.finish()
+}
+
+/// Whether the base files of the user fall into one bucket of the crowds' chains.
+pub fn is_in_one_bucket(user: u32) -> bool {
+    (65535 * 237074338683 + u64::from(user) * 159217510859) / 16777216 % 2048 == 5
+}
+
+/// The same table with its records in another order.
+pub fn shuffled(table: &[u8]) -> Vec<u8> {
+    let records = table.len() / RECORD;
+    let mut to: Vec<usize> = (0..records).collect();
+    let mut random = random::Random::new(1971);
+    for last in (1..records).rev() {
+        to.swap(last, random.below(last + 1));
+    }
+    let mut other = vec![0; table.len()];
+    for (record, &place) in table.chunks(RECORD).zip(&to) {
+        let mut moved = record.to_vec();
+        let fields: &[usize] = match record[0] {
+            2 => &[2, 4],
+            3 => &[2],
+            _ => &[],
+        };
+        for &field in fields {
+            let named = usize::from(u16::from_le_bytes([record[field], record[field + 1]]));
+            let named = to.get(named).copied().unwrap_or(named) as u16;
+            moved[field..field + 2].copy_from_slice(&named.to_le_bytes());
+        }
+        other[place * RECORD..][..RECORD].copy_from_slice(&moved);
+    }
+    other
 }
 
 fn linked(records: usize, new_name: impl Fn(&mut Table, usize) -> String) -> Vec<u8> {

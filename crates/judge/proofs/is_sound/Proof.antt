@@ -1,5 +1,5 @@
--- The pass leaves every clause but three, each compared with what it counted; what fails refutes soundness.
--- Where there are few entries of base files no list is crowded; else the crowds decide. No entry goes, so they are the table's.
+-- The pass leaves every clause but four, each compared with what it counted; what fails refutes soundness.
+-- Where there are few entries of base files no list is crowded; else the crowds decide. No entry goes, so twins and crowds are the table's.
 use mathlib.Core.Bool.{true}
 use mathlib.Core.Path.{_≡_, refl, sym, _∙_}
 use native.Mathlib.Omega.{arith}
@@ -8,10 +8,11 @@ use borrow.Author.Tests.{not-true, not-false}
 use borrow.Author.Needs.{needs}
 use Rattle.judge_laws.specs.Crowds.{placeOf}
 use Rattle.judge_laws.specs.Mask.{without}
+use Rattle.judge_laws.specs.Twins.{noTwins}
 use Rattle.paper.specs.Sound.{allNamed}
 use Rattle.judge_laws.proofs.Chains.{chains-none}
 use Rattle.judge_laws.proofs.Crowds.{ranked-none}
-use Rattle.judge_laws.proofs.Pass.{refuted-total, passed-none, passed-all, passed-few}
+use Rattle.judge_laws.proofs.Pass.{refuted-total, refuted-twins, passed-none, passed-single, passed-all, passed-few}
 use Rattle.judge_laws.proofs.Sound.{sound-not-named}
 use Rattle.laws.proofs.Sound.{sized-whole}
 use Rattle.judge.proofs.is_sound.Statement.{statement}
@@ -40,7 +41,7 @@ pass-all-requires c κs =
       w .1,
       c .before .before .before .before .before .before .before .classes .ensures,
       l .0,
-      passed-none (a .args .gone .now) (a .args .table .now) (w .0) _ _ _ _ _ _ (l .0) refl refl refl refl refl
+      passed-none (a .args .gone .now) (a .args .table .now) (w .0) _ _ _ _ _ _ _ (l .0) refl refl refl refl refl
           (λ s b. getD-replicate 2048 s 0 0 b) (λ s b. getD-replicate 2048 s 0 0 b) (λ s b. getD-replicate 2048 s 0 0 b)
           (λ s b. getD-replicate 2048 s 0 0 b),
     )
@@ -76,48 +77,70 @@ returns-4 c =
     let a = c15 .before .before .before .before .before in
     sym (sound-not-named (without (a .args .gone .now) (a .args .table .now)) (sym (c .before .are-named .ensures) ∙ not-true _ (c .if4 .taken)))
 
+none-are-twins-requires : tie.Need-none-are-twins-requires
+none-are-twins-requires c κs =
+    let c8 = c .before .before .before .before .before .before .before .before in
+    let c16 = c8 .before .before .before .before .before .before .before .before in
+    let c18 = c16 .before .before in
+    let a = c18 .before .before .before in
+    let w = sized-whole (a .args .table .now) (a .pre) in
+    let l = c18 .lay-out .ensures .1 (omega arith) in
+    let p = c8 .pass-all .ensures .1 (not-false _ (c .before .before .before .before .before .before .if2 .left)) in
+    (w .1, p .entries .chains .next-long, passed-single (a .args .gone .now) (a .args .table .now) (w .0) _ _ _ _ _ _ _ _ _ (l .0) p)
+
 returns-5 : tie.Need-returns-5
 returns-5 c =
-    let c2 = c .before .before in
-    let c5 = c2 .before .before .before in
-    let c9 = c5 .before .before .before .before in
-    let c17 = c9 .before .before .before .before .before .before .before .before in
-    let c19 = c17 .before .before in
-    let a = c19 .before .before .before in
+    let c10 = c .before .before .before .before .before .before .before .before .before .before in
+    let a = c10 .before .before .before .before .before .before .before .before .before .before .before .before .before in
+    let w = sized-whole (a .args .table .now) (a .pre) in
+    sym (refuted-twins (a .args .gone .now) (a .args .table .now) (w .0) (sym (c .before .none-are-twins .ensures .0) ∙ not-true _ (c .if5 .taken)))
+
+returns-6 : tie.Need-returns-6
+returns-6 c =
+    let c5 = c .before .before .before .before .before in
+    let c8 = c5 .before .before .before in
+    let c12 = c8 .before .before .before .before in
+    let c20 = c12 .before .before .before .before .before .before .before .before in
+    let c22 = c20 .before .before in
+    let a = c22 .before .before .before in
     let g = a .args .gone .now in
     let t = a .args .table .now in
     let w = sized-whole t (a .pre) in
-    let l = c19 .lay-out .ensures .1 (omega arith) in
-    let p = c9 .pass-all .ensures .1 (not-false _ (c5 .before .before .if2 .left)) in
-    let n : allNamed (without g t) ≡ true = sym (c2 .before .are-named .ensures) ∙ not-false _ (c2 .if4 .left) in
-    sym (passed-all g t (w .0) _ _ _ _ _ _ _ _ (l .0) p (c5 .if3 .left ∙ l .1) n ∙ passed-few g t (w .0) _ _ _ _ _ _ _ _ (l .0) p (w .1) (c .if5 .taken))
+    let l = c22 .lay-out .ensures .1 (omega arith) in
+    let p = c12 .pass-all .ensures .1 (not-false _ (c8 .before .before .if2 .left)) in
+    let n : allNamed (without g t) ≡ true = sym (c5 .before .are-named .ensures) ∙ not-false _ (c5 .if4 .left) in
+    let o : noTwins t ≡ true = sym (c .before .before .before .none-are-twins .ensures .0) ∙ not-false _ (c .before .before .if5 .left) in
+    sym (passed-all g t (w .0) _ _ _ _ _ _ _ _ _ (l .0) p (c8 .if3 .left ∙ l .1) n o
+    ∙ passed-few g t (w .0) _ _ _ _ _ _ _ _ _ (l .0) p (w .1) (c .if6 .taken))
 
 crowd-all-requires : tie.Need-crowd-all-requires
 crowd-all-requires c κs =
     let c6 = c .before .before .before .before .before .before in
-    let c10 = c6 .before .before .before .before in
-    let c12 = c10 .before .before in
-    let c20 = c12 .before .before .before .before .before .before .before .before in
-    let a = c20 .before .before .before .before .before in
+    let c13 = c6 .before .before .before .before .before .before .before in
+    let c15 = c13 .before .before in
+    let a = c15 .before .before .before .before .before .before .before .before .before .before .before .before .before in
     let w = sized-whole (a .args .table .now) (a .pre) in
-    let p = c12 .pass-all .ensures .1 (not-false _ (c10 .if2 .left)) in
-    (w .1, chains-none placeOf _ _ _ refl (p .entries .chains .nexts .long) (λ s l. getD-replicate 2048 s 0 0 l), ranked-none _ _ (p .text .long))
+    let p = c15 .pass-all .ensures .1 (not-false _ (c13 .if2 .left)) in
+    let n = c6 .none-are-twins .ensures .1 (not-false _ (c .before .before .before .before .before .if5 .left)) in
+    (w .1, chains-none placeOf _ _ _ refl n (λ s l. getD-replicate 2048 s 0 0 l), ranked-none _ _ (p .text .long))
 
-returns-6 : tie.Need-returns-6
-returns-6 c =
-    let c6 = c .before .before .before .before .before .before in
-    let c9 = c6 .before .before .before in
-    let c13 = c9 .before .before .before .before in
-    let c21 = c13 .before .before .before .before .before .before .before .before in
-    let c23 = c21 .before .before in
-    let a = c23 .before .before .before in
+returns-7 : tie.Need-returns-7
+returns-7 c =
+    let c9 = c .before .before .before .before .before .before .before .before .before in
+    let c12 = c9 .before .before .before in
+    let c16 = c12 .before .before .before .before in
+    let c24 = c16 .before .before .before .before .before .before .before .before in
+    let c26 = c24 .before .before in
+    let a = c26 .before .before .before in
     let g = a .args .gone .now in
     let t = a .args .table .now in
     let w = sized-whole t (a .pre) in
-    let l = c23 .lay-out .ensures .1 (omega arith) in
-    let p = c13 .pass-all .ensures .1 (not-false _ (c9 .before .before .if2 .left)) in
-    let n : allNamed (without g t) ≡ true = sym (c6 .before .are-named .ensures) ∙ not-false _ (c6 .if4 .left) in
-    c .crowd-all .ensures ∙ sym (passed-all g t (w .0) _ _ _ _ _ _ _ _ (l .0) p (c9 .if3 .left ∙ l .1) n)
+    let l = c26 .lay-out .ensures .1 (omega arith) in
+    let p = c16 .pass-all .ensures .1 (not-false _ (c12 .before .before .if2 .left)) in
+    let n : allNamed (without g t) ≡ true = sym (c9 .before .are-named .ensures) ∙ not-false _ (c9 .if4 .left) in
+    let c6 = c .before .before .before .before .before .before in
+    let o : noTwins t ≡ true = sym (c6 .before .none-are-twins .ensures .0) ∙ not-false _ (c6 .if5 .left) in
+    c .crowd-all .ensures ∙ sym (passed-all g t (w .0) _ _ _ _ _ _ _ _ _ (l .0) p (c12 .if3 .left ∙ l .1) n o)
 
 pub is-sound-spec : {M : Type 1} → statement M
 is-sound-spec =
@@ -131,6 +154,8 @@ is-sound-spec =
     returns-3
     are-named-requires
     returns-4
+    none-are-twins-requires
     returns-5
+    returns-6
     crowd-all-requires
-    returns-6)
+    returns-7)

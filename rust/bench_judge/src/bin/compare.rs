@@ -15,19 +15,21 @@ fn beside(table: &[u8]) -> u8 {
     }
 }
 
-/// A table of one of the shapes with up to three changes: a byte, a record copied, or a record cleared.
-fn table(random: &mut Random) -> Vec<u8> {
+/// A table of one of the shapes with up to three changes: a byte, a record copied, or a record cleared. `collided` has names that the
+/// chains are too long for.
+fn table(random: &mut Random, collided: &[u8]) -> Vec<u8> {
     let records = random.pick(&[5, 6, 9, 12, 40, 130, 400]);
-    let mut table = match random.below(3) {
-        0 => tables::long_files(records),
-        1 => tables::small_files(records),
-        _ => tables::directories(records),
+    let mut table = match random.below(13) {
+        0..=3 => tables::long_files(records),
+        4..=7 => tables::small_files(records),
+        8..=11 => tables::directories(records),
+        _ => collided.to_vec(),
     };
     for _ in 0..random.below(4) {
         damage(random, &mut table);
     }
     if random.once_in(50) {
-        table.truncate(random.below(records * 32));
+        table.truncate(random.below(table.len()));
     }
     table
 }
@@ -40,9 +42,10 @@ fn main() {
     let seed = words.next().unwrap_or(1971);
     println!("{count} tables, seed {seed}");
     let mut random = Random::new(seed);
+    let collided = tables::collided(400);
     let mut met = [0u64; 3];
     for _ in 0..count {
-        let table = table(&mut random);
+        let table = table(&mut random, &collided);
         let (ours, theirs) = (judge(&table), beside(&table));
         if ours != theirs {
             println!("judge {ours}, second program {theirs}: {table:?}");

@@ -54,7 +54,9 @@ name-turn-requires c κs =
     (a .pre .0, a .pre .2, a .pre .3, omega arith, a .pre .5 .naming)
 
 chain-turn-requires : tie.Need-chain-turn-requires
-chain-turn-requires c κs = search needs
+chain-turn-requires c κs =
+    let a = c .before .before .before .before .before .before .before .before .before .before in
+    (a .pre .0, a .pre .2, a .pre .3, a .pre .5 .chains)
 
 returns-3 : tie.Need-returns-3
 returns-3 c =
@@ -65,14 +67,14 @@ returns-3 c =
     let t = a .args .t .now in
     let e : entryRight (without (a .args .gone .now) t) (rec t (a .args .i)) ≡ true = sym (c8 .before .is-entry-right .ensures)
     ∙ not-false _ (c8 .if1 .left) in (
-      λ f. refuted-twin (a .args .gone .now) t (a .pre .1) (a .args .i) (a .pre .0) (sym (c .chain-turn .ensures .0) ∙ f),
+      λ f. refuted-twin (a .args .gone .now) t (a .pre .1) (a .args .i) (a .pre .0) (c .chain-turn .ensures .0 f),
       λ f. (
         e,
         record {
-          single = below-more _ _ (a .pre .5 .single) (sym (c .chain-turn .ensures .0) ∙ f);
+          single = λ l. below-more _ _ (a .pre .5 .single (omega (arith, c .chain-turn .ensures .2))) (c .chain-turn .ensures .1 f .0 l);
           naming = c3 .name-turn .ensures;
           holding = c5 .before .hold-turn .ensures .1 (not-false _ (c5 .if2 .left));
-          chains = c .chain-turn .ensures .1 f;
+          chains = c .chain-turn .ensures .1 f .1;
         },
       ),
     )

@@ -12,7 +12,7 @@ use Rattle.judge.proofs.pass.pass_all.Tie as tie
 
 abbrev Inv-loop : tie.InvT-loop
 Inv-loop t gone class start mark₀ named₀ held₀ head₀ next₀ n s₀ i₀ mark named held head next s i =
-    Passed gone t mark named held head next (s .texts) (s .bases) i × (s .right ≡ true) × (i ≤ n) × (n ≡ rooms t)
+    Passed gone t mark named held head next (s .texts) (s .bases) (s .left) i × (s .right ≡ true) × (i ≤ n) × (n ≡ rooms t)
 
 abbrev μ-loop : tie.MeasureT-loop
 μ-loop t gone class start mark₀ named₀ held₀ head₀ next₀ n s₀ i₀ mark named held head next s i = n - i

@@ -47,7 +47,7 @@ returns c =
       λ f. c .before .entry-turn .ensures .0 f,
       λ f. let z = c .before .entry-turn .ensures .1 f in
           passed-entry (g .gone .now) t (a .pre .1) (g .start .now) (g .mark .now) (g .named .now) (g .held .now) (g .head .now) (g .next .now)
-          (g .s .texts) (g .s .bases) (g .i) (a .pre .4) (a .pre .0) (a .pre .5) _ _ _ _ _ k (z .0) (z .1) q,
+          (g .s .texts) (g .s .bases) (g .s .left) (g .i) (a .pre .4) (a .pre .0) (a .pre .5) _ _ _ _ _ _ k (z .0) (z .1) q,
     )
 
 element-copy-out-if2 : tie.Need-element-copy-out-if2
@@ -62,7 +62,7 @@ returns-2 c =
     let k : isKind 2 (rec t (g .i)) ≡ false = ne-eqb _ _ (λ q. c .before .before .if1 .left (c3 .raw-of .ensures ∙ q)) in (
       λ f. absurd (true≢false f),
       λ f. passed-gone (g .gone .now) t (a .pre .1) (g .start .now) (g .mark .now) (g .named .now) (g .held .now) (g .head .now) (g .next .now)
-          (g .s .texts) (g .s .bases) (g .i) (a .pre .4) (a .pre .0) (a .pre .5) k (ne-eqb _ _ (c .if2 .taken)),
+          (g .s .texts) (g .s .bases) (g .s .left) (g .i) (a .pre .4) (a .pre .0) (a .pre .5) k (ne-eqb _ _ (c .if2 .taken)),
     )
 
 text-turn-requires : tie.Need-text-turn-requires
@@ -94,7 +94,7 @@ returns-3 c =
       λ f. c .text-turn .ensures .0 f,
       λ f. let z = c .text-turn .ensures .1 f in
           passed-other (g .gone .now) t (a .pre .1) (g .start .now) (g .mark .now) (g .named .now) (g .held .now) (g .head .now) (g .next .now)
-          (g .s .texts) (g .s .bases) (g .i) (a .pre .4) (a .pre .0) (a .pre .5) _ _ n (z .0) s (z .1) q,
+          (g .s .texts) (g .s .bases) (g .s .left) (g .i) (a .pre .4) (a .pre .0) (a .pre .5) _ _ n (z .0) s (z .1) q,
     )
 
 heading-turn-requires : tie.Need-heading-turn-requires
@@ -110,11 +110,11 @@ returns-4 c =
     let s = eq-eqb _ _ (c .before .before .before .if2 .left) in (
       λ f. refuted-heading (g .gone .now) t (a .pre .1) (g .i) (a .pre .0) k s (sym (c .heading-turn .ensures) ∙ f),
       λ f. passed-heading (g .gone .now) t (a .pre .1) (g .start .now) (g .mark .now) (g .named .now) (g .held .now) (g .head .now) (g .next .now)
-          (g .s .texts) (g .s .bases) (g .i) (a .pre .4) (a .pre .0) (a .pre .5) k s (sym (c .heading-turn .ensures) ∙ f),
+          (g .s .texts) (g .s .bases) (g .s .left) (g .i) (a .pre .4) (a .pre .0) (a .pre .5) k s (sym (c .heading-turn .ensures) ∙ f),
     )
 
-are-zeros-requires : tie.Need-are-zeros-requires
-are-zeros-requires c κs = search needs
+is-free-requires : tie.Need-is-free-requires
+is-free-requires c κs = search needs
 
 returns-5 : tie.Need-returns-5
 returns-5 c =
@@ -128,9 +128,9 @@ returns-5 c =
     let three : byte (rec t (g .i)) 0 ≡ 3 → ⊥ = λ q. c .before .before .if3 .left (e ∙ q) in
     let s = eq-eqb _ _ (c .before .before .before .if2 .left) in (
       λ f. refuted (g .gone .now) t (a .pre .1) (g .i) (a .pre .0)
-          (free-right (g .gone .now) t (a .pre .1) (g .i) (a .pre .0) one two three s ∙ sym (c .are-zeros .ensures) ∙ f),
+          (free-right (g .gone .now) t (a .pre .1) (g .i) (a .pre .0) one two three s ∙ sym (c .is-free .ensures) ∙ f),
       λ f. passed-free (g .gone .now) t (a .pre .1) (g .start .now) (g .mark .now) (g .named .now) (g .held .now) (g .head .now) (g .next .now)
-          (g .s .texts) (g .s .bases) (g .i) (a .pre .4) (a .pre .0) (a .pre .5) one two three s (sym (c .are-zeros .ensures) ∙ f),
+          (g .s .texts) (g .s .bases) (g .s .left) (g .i) (a .pre .4) (a .pre .0) (a .pre .5) one two three s (sym (c .is-free .ensures) ∙ f),
     )
 
 pub turn-spec : {M : Type 1} → statement M
@@ -149,5 +149,5 @@ turn-spec =
     returns-3
     heading-turn-requires
     returns-4
-    are-zeros-requires
+    is-free-requires
     returns-5)

@@ -1,5 +1,6 @@
 -- A number of four bytes is two numbers of two, the low one first.
 -- Both are below 65,536, so the sum fits.
+use native.Mathlib.Omega.{arith}
 use borrow.Author.Needs.{needs}
 use Rattle.laws.proofs.Numbers.{number-four}
 use Rattle.judge.proofs.read.four_of.Statement.{statement}
@@ -21,7 +22,7 @@ add-result : tie.Need-add-result
 add-result c = search needs
 
 returns : tie.Need-returns
-returns c = rw (number-four, ← c .two-of2 .ensures .0, ← c .before .two-of .ensures .0)
+returns c = (rw (number-four, ← c .two-of2 .ensures .0, ← c .before .two-of .ensures .0), omega arith)
 
 pub four-of-spec : {M : Type 1} → statement M
 four-of-spec =

@@ -1,6 +1,8 @@
 -- The walk down a bucket has passed no twin, and all twins are in the bucket.
--- So what it meets first is the last twin, and at the end there is none.
+-- So what it meets first is the last twin, and at the end there is none; where the steps do not last nothing is said.
+use mathlib.Core.Bool.{true, false, true≢false}
 use mathlib.Core.Path.{sym, _∙_}
+use Prim.Native.Nat.{_≤_}
 use native.Mathlib.Omega.{arith}
 use Rattle.judge_laws.specs.Twins.{twinTo, hashOf}
 use Rattle.judge_laws.proofs.Chains.{Walk}
@@ -9,25 +11,33 @@ use Rattle.judge.proofs.twins.twin_before.Statement.{statement}
 use Rattle.judge.proofs.twins.twin_before.Tie as tie
 
 abbrev Inv-loop : tie.InvT-loop
-Inv-loop t next i first c₀ c = Walk hashOf t (twinTo t i) i c
+Inv-loop t next i first steps c₀ left₀ c left = Walk hashOf t (twinTo t i) i c × (left ≤ steps)
 
 abbrev μ-loop : tie.MeasureT-loop
-μ-loop t next i first c₀ c = c
+μ-loop t next i first steps c₀ left₀ c left = c
 
 loop-holds : tie.Need-loop-holds Inv-loop μ-loop
-loop-holds c = twin-start (c .before .args .t .now) (c .before .args .i) (c .before .args .first) (c .before .pre .2)
+loop-holds c = (twin-start (c .before .args .t .now) (c .before .args .i) (c .before .args .first) (c .before .pre .2), omega arith)
+
+returns : tie.Need-returns Inv-loop μ-loop
+returns c = (λ f. absurd (true≢false f), λ f l. let z : ⊥ = omega arith in absurd z, omega arith)
 
 sub-are-twins : tie.Need-sub-are-twins Inv-loop μ-loop
 sub-are-twins c = omega arith
 
 are-twins-requires : tie.Need-are-twins-requires Inv-loop μ-loop
-are-twins-requires c κs = (omega arith, omega arith, c .before .loop .inv .here (omega arith) .0)
+are-twins-requires c κs =
+    let w = c .before .before .loop .inv .0 in
+    (omega arith, omega (arith, w .low), w .here (omega arith) .0)
 
-returns : tie.Need-returns Inv-loop μ-loop
-returns c =
-    let a = c .before .before .before .before .before in
-    let l = c .before .before .before .loop in
-    sym (twin-found (a .args .t .now) (a .args .i) (l .c) (l .inv) (omega arith) (sym (c .before .are-twins .ensures) ∙ c .if1 .taken))
+returns-2 : tie.Need-returns-2 Inv-loop μ-loop
+returns-2 c =
+    let l = c .before .before .before .before .loop in
+    let a = c .before .before .before .before .before .before in (
+      λ f. twin-found (a .args .t .now) (a .args .i) (l .c) (l .inv .0) (omega arith) (sym (c .before .are-twins .ensures) ∙ c .if2 .taken),
+      λ f. absurd (true≢false (sym f)),
+      omega arith,
+    )
 
 sub-wide16 : tie.Need-sub-wide16 Inv-loop μ-loop
 sub-wide16 c = omega arith
@@ -36,35 +46,42 @@ mul-wide16 : tie.Need-mul-wide16 Inv-loop μ-loop
 mul-wide16 c = omega arith
 
 element-copy-out-wide16 : tie.Need-element-copy-out-wide16 Inv-loop μ-loop
-element-copy-out-wide16 c = omega arith
+element-copy-out-wide16 c =
+    let l = c .before .before .before .before .loop in
+    let a = c .before .before .before .before .before .before in
+    omega (arith, l .inv .0 .low, a .pre .3 .long)
 
 wide16-requires : tie.Need-wide16-requires Inv-loop μ-loop
 wide16-requires c κs = omega arith
 
+sub-left : tie.Need-sub-left Inv-loop μ-loop
+sub-left c = omega arith
+
 loop-less : tie.Need-loop-less Inv-loop μ-loop
 loop-less c =
     let c3 = c .before .before .before in
-    let c5 = c3 .before .before in
-    let c7 = c5 .before .before in
-    let a = c7 in
-    let l = c5 .loop in
-    twin-on (a .args .t .now) (a .args .i) (l .c) (l .inv) (a .args .next .now) (c .wide16 .result) (omega arith)
-    (sym (c3 .are-twins .ensures) ∙ c .before .before .if1 .left) (a .pre .3) (c .wide16 .ensures .0) .1
+    let l = c3 .before .before .before .loop in
+    let a = c3 .before .before .before .before .before in
+    twin-on (a .args .t .now) (a .args .i) (l .c) (l .inv .0) (a .args .next .now) (c .wide16 .result) (omega arith)
+    (sym (c3 .are-twins .ensures) ∙ c .before .before .if2 .left) (a .pre .3) (c .wide16 .ensures .0) .1
 
 loop-again : tie.Need-loop-again Inv-loop μ-loop
 loop-again c =
     let c3 = c .before .before .before in
-    let c5 = c3 .before .before in
-    let c7 = c5 .before .before in
-    let a = c7 in
-    let l = c5 .loop in
-    twin-on (a .args .t .now) (a .args .i) (l .c) (l .inv) (a .args .next .now) (c .wide16 .result) (omega arith)
-    (sym (c3 .are-twins .ensures) ∙ c .before .before .if1 .left) (a .pre .3) (c .wide16 .ensures .0) .0
+    let l = c3 .before .before .before .loop in
+    let a = c3 .before .before .before .before .before in (
+      twin-on (a .args .t .now) (a .args .i) (l .c) (l .inv .0) (a .args .next .now) (c .wide16 .result) (omega arith)
+          (sym (c3 .are-twins .ensures) ∙ c .before .before .if2 .left) (a .pre .3) (c .wide16 .ensures .0) .0,
+      omega arith,
+    )
 
-returns-2 : tie.Need-returns-2 Inv-loop μ-loop
-returns-2 c =
-    let a = c .before .before .before in
-    sym (twin-end (a .args .t .now) (a .args .i) (c .before .loop .c) (c .before .loop .inv) (omega arith))
+returns-3 : tie.Need-returns-3 Inv-loop μ-loop
+returns-3 c =
+    let a = c .before .before .before in (
+      λ f. absurd (true≢false f),
+      λ f l. twin-end (a .args .t .now) (a .args .i) (c .before .loop .c) (c .before .loop .inv .0) (omega arith),
+      omega arith,
+    )
 
 pub twin-before-spec : {M : Type 1} → statement M
 twin-before-spec =
@@ -73,13 +90,15 @@ twin-before-spec =
     Inv-loop
     μ-loop
     loop-holds
+    returns
     sub-are-twins
     are-twins-requires
-    returns
+    returns-2
     sub-wide16
     mul-wide16
     element-copy-out-wide16
     wide16-requires
+    sub-left
     loop-less
     loop-again
-    returns-2)
+    returns-3)

@@ -42,7 +42,7 @@ loop-again c =
     let c3 = c .before .before .before in
     let c5 = c3 .before .before in
     let a = c5 .args in
-    (zeros-more (a .j) (c3 .loop .m) 4 (rec (a .t .now) (a .i)) (c3 .loop .inv .0) (sym (c .before .four-of .ensures) ∙ c .if1 .left), omega arith)
+    (zeros-more (a .j) (c3 .loop .m) 4 (rec (a .t .now) (a .i)) (c3 .loop .inv .0) (sym (c .before .four-of .ensures .0) ∙ c .if1 .left), omega arith)
 
 returns-2 : tie.Need-returns-2 Inv-loop μ-loop
 returns-2 c = (omega arith, c .before .loop .inv .0)

@@ -1,0 +1,285 @@
+//! Two libraries in one program and in turns: the judge, the requests and mending of one as ratios to the other's, at 2,048 records.
+//!
+//! `against BEFORE NOW [TURNS]` takes two shared libraries, each made of a folder's static ones by
+//! `cc -shared -o now.so -Wl,-Bsymbolic,--whole-archive FOLDER/libjudge_c.a FOLDER/libfilebox_c.a -Wl,--no-whole-archive`.
+//! `against count LIBRARY ROW` does what one row times once, for
+//! `valgrind --tool=callgrind --toggle-collect='*counted*' target/release/against count now.so 'RDS of 24 bytes'`.
+use std::ffi::{c_char, c_int, c_void, CString};
+use std::hint::black_box;
+
+use bench_judge::tables;
+use turns::nanoseconds;
+
+const RECORDS: usize = 2048;
+const NO_STOP: u32 = 65535;
+const USER: u32 = 1;
+const LONG: usize = 24_000;
+
+/// As many numbers as an answer ever had: a library writes those that it knows, the first one always.
+#[repr(C)]
+struct Answer {
+    number: u32,
+    rest: [u32; 7],
+}
+
+type Judge = unsafe extern "C" fn(*const u8, usize) -> u8;
+type Mend = unsafe extern "C" fn(*mut u8, usize, u32) -> Answer;
+#[rustfmt::skip]
+type Request = unsafe extern "C" fn(*mut u8, usize, *const u8, usize, *const u8, usize, *mut u8, usize, u32, u32) -> Answer;
+
+extern "C" {
+    fn dlopen(path: *const c_char, mode: c_int) -> *mut c_void;
+    fn dlsym(library: *mut c_void, name: *const c_char) -> *mut c_void;
+}
+
+/// The calls of one library.
+struct Library {
+    judge: Judge,
+    mend: Mend,
+    request: Request,
+}
+
+impl Library {
+    /// The library at this path, bound at once and its names its own.
+    fn at(path: &str) -> Library {
+        let full = std::fs::canonicalize(path).unwrap_or_else(|error| panic!("{path}: {error}"));
+        let name = CString::new(full.to_str().expect("a path in UTF-8")).expect("no zero");
+        let now = 2;
+        let find = |symbol: &str| {
+            let symbol = CString::new(symbol).expect("no zero");
+            // Sound: both strings end with a zero, and what is found is not called here.
+            let found = unsafe { dlsym(dlopen(name.as_ptr(), now), symbol.as_ptr()) };
+            assert!(!found.is_null(), "{path} has no {symbol:?}");
+            found
+        };
+        // Sound: the symbols are functions of these types in every library of the box, but for numbers that an answer had not yet.
+        unsafe {
+            Library {
+                judge: std::mem::transmute::<*mut c_void, Judge>(find("filebox_judge")),
+                mend: std::mem::transmute::<*mut c_void, Mend>(find("filebox_mend")),
+                request: std::mem::transmute::<*mut c_void, Request>(find("filebox_request")),
+            }
+        }
+    }
+
+    /// The number that answers the call. Sound: each pointer is to as many bytes as the length after it says.
+    fn number(&self, call: &Call, table: &mut [u8], reply: &mut [u8]) -> u32 {
+        let (t, n) = (table.as_mut_ptr(), table.len());
+        match call {
+            Call::Judge => u32::from(unsafe { (self.judge)(t, n) }),
+            Call::Mend => unsafe { (self.mend)(t, n, NO_STOP).number },
+            Call::Ask(line, text) => {
+                let (l, x, r) = (line.as_ptr(), text.as_ptr(), reply.as_mut_ptr());
+                let (line, text, reply) = (line.len(), text.len(), reply.len());
+                unsafe { (self.request)(t, n, l, line, x, text, r, reply, USER, NO_STOP).number }
+            }
+        }
+    }
+}
+
+/// One call of a library.
+enum Call {
+    Judge,
+    Mend,
+    Ask(String, Vec<u8>),
+}
+
+fn ask(line: &str) -> Call {
+    file(line, 0)
+}
+
+fn file(line: &str, bytes: usize) -> Call {
+    Call::Ask(line.to_string(), vec![b'N'; bytes])
+}
+
+/// What is timed together, on which table, in how many turns at most.
+struct Row {
+    title: &'static str,
+    table: fn(&Library) -> Vec<u8>,
+    calls: Vec<Call>,
+    turns: usize,
+}
+
+fn row(title: &'static str, table: fn(&Library) -> Vec<u8>, calls: Vec<Call>) -> Row {
+    let turns = usize::MAX;
+    Row {
+        title,
+        table,
+        calls,
+        turns,
+    }
+}
+
+fn judged(title: &'static str, table: fn(&Library) -> Vec<u8>) -> Row {
+    row(title, table, vec![Call::Judge])
+}
+
+/// The table after these lines, each with a text of so many bytes.
+fn grown(library: &Library, lines: impl Iterator<Item = (String, usize)>) -> Vec<u8> {
+    let mut table = vec![0; RECORDS * 32];
+    for (line, bytes) in lines {
+        let number = library.number(&file(&line, bytes), &mut table, &mut []);
+        assert_eq!(number, 0, "{line}");
+    }
+    table
+}
+
+/// Four directories, perhaps a long file, and so many files of 24 bytes, 25 to a directory.
+fn filled(library: &Library, long: bool, files: usize) -> Vec<u8> {
+    let names = [".R", ".W", ".G", ".T"];
+    let directories = names.map(|name| (format!("CRD {name}"), 0));
+    let long = long.then(|| ("WRS M .R:LONG".to_string(), LONG));
+    let small = (0..files).map(|n| (format!("WRS M {}:F{:02}", names[n / 25], n % 25), 24));
+    grown(library, directories.into_iter().chain(long).chain(small))
+}
+
+/// A directory of 111 files.
+fn many(library: &Library) -> Vec<u8> {
+    let small = (0..111).map(|n| (format!("WRS M .R:G{:03}", n * 7 % 111), 24));
+    grown(
+        library,
+        [("CRD .R".to_string(), 0)].into_iter().chain(small),
+    )
+}
+
+/// Files of 24 bytes in nine directories, and eight free records or up to ten.
+fn full(library: &Library) -> Vec<u8> {
+    let bases = ["CRD .R", "CRD .W"].map(|line| (line.to_string(), 0));
+    let first = (0..25).map(|n| (format!("WRS M .R:F{n:02}"), 24));
+    let inner = (0..8).map(|n| (format!("CRD .W:D{n}"), 0));
+    let taken = 2 * bases.len() + 3 * 25 + 2 * 8;
+    let files = (RECORDS - taken - 8) / 3;
+    let small = (0..files).map(|n| (format!("WRS M .W:D{}:N{:03}", n / 100, n % 100), 24));
+    grown(
+        library,
+        bases.into_iter().chain(first).chain(inner).chain(small),
+    )
+}
+
+fn hundred(library: &Library) -> Vec<u8> {
+    filled(library, false, 100)
+}
+
+fn long_and_hundred(library: &Library) -> Vec<u8> {
+    filled(library, true, 100)
+}
+
+fn long_and_room(library: &Library) -> Vec<u8> {
+    filled(library, true, 12)
+}
+
+/// The judge on tables of each shape.
+fn judge_rows() -> Vec<Row> {
+    let mut rows = vec![
+        judged("files as long as they may be", |_| {
+            tables::long_files(RECORDS)
+        }),
+        judged("files of one block", |_| tables::small_files(RECORDS)),
+        judged("files of one block, shuffled", |_| {
+            tables::shuffled(&tables::small_files(RECORDS))
+        }),
+        judged("directories", |_| tables::directories(RECORDS)),
+        judged("names of mixed length", |_| tables::mixed_names(RECORDS)),
+        judged("free", |_| vec![0; RECORDS * 32]),
+        judged("a hundred files", hundred),
+        judged("full", full),
+        judged("base files of 512 users", |_| {
+            tables::base_files(RECORDS, |_| true)
+        }),
+        judged("base files in one bucket", |_| {
+            tables::base_files(RECORDS, tables::is_in_one_bucket)
+        }),
+        judged("names that collide", |_| tables::collided(RECORDS)),
+        judged("names that collided before", |_| {
+            tables::collided_before(RECORDS)
+        }),
+    ];
+    rows.iter_mut().skip(9).for_each(|slow| slow.turns = 200);
+    rows
+}
+
+/// The requests and mending.
+fn request_rows() -> Vec<Row> {
+    let new = || vec![file("WRS M .R:NEW", 24), ask("DEL .R:NEW")];
+    vec![
+        row("RDS of 24 bytes", hundred, vec![ask("RDS .R:F12")]),
+        row(
+            "RDS of 24,000 bytes",
+            long_and_hundred,
+            vec![ask("RDS .R:LONG")],
+        ),
+        row("WRS of 24 bytes, then DEL", hundred, new()),
+        row(
+            "WRS over 24,000 bytes",
+            long_and_room,
+            vec![file("WRS M .R:LONG", LONG)],
+        ),
+        row("LST of 25 names", hundred, vec![ask("LST .R")]),
+        row("LST of 111 names", many, vec![ask("LST .R")]),
+        row("DUP", hundred, vec![ask("DUP .R:F12 .W:NEW")]),
+        row(
+            "CPY of 24,000 bytes",
+            long_and_room,
+            vec![ask("CPY .R:LONG .W:NEW")],
+        ),
+        row("mending a sound table", hundred, vec![Call::Mend]),
+        row("RDS of 24 bytes, full", full, vec![ask("RDS .R:F12")]),
+        row("WRS of 24, then DEL, full", full, new()),
+        row("LST of 25 names, full", full, vec![ask("LST .R")]),
+    ]
+}
+
+/// What is timed, and what callgrind collects: each call is granted.
+#[inline(never)]
+fn counted(library: &Library, row: &Row, table: &mut [u8], reply: &mut [u8]) {
+    for call in &row.calls {
+        let number = library.number(call, black_box(table), reply);
+        assert_eq!(number, 0, "{}", row.title);
+    }
+}
+
+/// The least nanoseconds of the row in each library, in turns.
+fn least(libraries: &[Library; 2], row: &Row, turns: usize) -> [f64; 2] {
+    let before = (row.table)(&libraries[0]);
+    let (mut table, mut reply) = (before.clone(), vec![0; LONG]);
+    let mut times = [f64::MAX; 2];
+    for _ in 0..turns.min(row.turns) {
+        for (time, library) in times.iter_mut().zip(libraries) {
+            table.copy_from_slice(&before);
+            *time = time.min(nanoseconds(|| {
+                counted(library, row, &mut table, &mut reply)
+            }));
+        }
+    }
+    times
+}
+
+fn rows() -> impl Iterator<Item = Row> {
+    judge_rows().into_iter().chain(request_rows())
+}
+
+fn main() {
+    let words: Vec<String> = std::env::args().skip(1).collect();
+    let words: Vec<&str> = words.iter().map(String::as_str).collect();
+    let (before, now, turns) = match words[..] {
+        ["count", library, title] => {
+            let library = Library::at(library);
+            let row = rows().find(|row| row.title == title).expect("a row");
+            let mut table = (row.table)(&library);
+            return counted(&library, &row, &mut table, &mut vec![0; LONG]);
+        }
+        [before, now] => (before, now, 2000),
+        [before, now, turns] => (before, now, turns.parse().expect("how many turns")),
+        _ => panic!("against BEFORE NOW [TURNS], or against count LIBRARY ROW"),
+    };
+    let libraries = [before, now].map(Library::at);
+    println!("| At 2,048 records | before | now | ratio |\n|---|---|---|---|");
+    for row in rows() {
+        let [before, now] = least(&libraries, &row, turns).map(|time| time / 1000.0);
+        println!(
+            "| {} | {before:.1} µs | {now:.1} µs | {:.2} |",
+            row.title,
+            now / before
+        );
+    }
+}
