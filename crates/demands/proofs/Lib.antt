@@ -1,5 +1,5 @@
 -- ---- the theorems, each in a file; what it stands on is in the folder of its name. Demand 2 is the contracts themselves, of `elephant`.
--- demand 1: `answered`, `refusal-lends`, `names-done`, `stop-cuts`, `del-leaves`, `del-stops`
+-- demand 1: `answered` (its argument and link too), `refusal-lends`, `names-done`, `stop-cuts`, `del-leaves`, `del-stops`
 pub mod Answered
 -- demand 1 of mending: `mend-answered`
 pub mod MendAnswered

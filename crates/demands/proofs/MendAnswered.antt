@@ -10,7 +10,8 @@ use lib.ListN.{length, take}
 use lib.Dec.{leb}
 use borrow.Author.Tests.{leb-true, leb-false}
 use Rattle.paper.specs.Table.{sized}
-use Rattle.paper.specs.Check.{verdict}
+use Rattle.paper.specs.Check as paper
+use Rattle.paper.specs.Check.{refusalAt, verdict}
 use Rattle.paper.specs.Sound.{sound}
 use Rattle.paper.specs.Store.{run}
 use Rattle.paper.specs.Mend.{mendStores, mended}
@@ -19,12 +20,12 @@ use Rattle.laws.proofs.Runs.{length-run}
 
 -- the four ways of a mending: 1, 2, 0 and 22
 pub data MendCame (t : List ℕ) (k : ℕ) (o : Outcome) : Type 0 where
-  unsized : sized t ≡ false → o ≡ refusing t [] (record { number = 1; place = 0; link = 0 }) → MendCame t k o
-  unsound : sized t ≡ true → sound (mended t) ≡ false → o ≡ refusing t [] (record { number = 2; place = 0; link = 0 }) → MendCame t k o
+  unsized : sized t ≡ false → o ≡ refusing t [] (refusalAt 1 (paper.whole 0)) → MendCame t k o
+  unsound : sized t ≡ true → sound (mended t) ≡ false → o ≡ refusing t [] (refusalAt 2 (paper.whole 0)) → MendCame t k o
   whole : sized t ≡ true → sound (mended t) ≡ true → length (mendStores t) ≤ k
-      → o ≡ record { answer = plain 0 0 0 (length (mendStores t)); table = mended t; reply = [] } → MendCame t k o
+      → o ≡ record { answer = plain 0 (paper.whole 0) 0 (length (mendStores t)); table = mended t; reply = [] } → MendCame t k o
   cutOff : sized t ≡ true → sound (mended t) ≡ true → k < length (mendStores t)
-      → o ≡ record { answer = plain 22 0 0 k; table = run t (take k (mendStores t)); reply = [] } → MendCame t k o
+      → o ≡ record { answer = plain 22 (paper.whole 0) 0 k; table = run t (take k (mendStores t)); reply = [] } → MendCame t k o
 
 pub mend-came : (t : List ℕ) (k : ℕ) → MendCame t k (mending t k)
 unfolding mending mendable verdict mended
@@ -39,7 +40,7 @@ mend-came t k = go (sized t) refl (sound (mended t)) refl (leb (length (mendStor
 -- what every mending keeps: "Its answer has place, names and bytes 0, displaced no, and the stores made"
 pub record MendAnswered (t : List ℕ) (k : ℕ) (o : Outcome) : Type 0 where
   pub number : ((o .answer .number ≡ 0) ⊎ (o .answer .number ≡ 1)) ⊎ ((o .answer .number ≡ 2) ⊎ (o .answer .number ≡ 22))
-  pub zeros : (o .answer .place ≡ 0) × (o .answer .names ≡ 0) × (o .answer .displaced ≡ 0) × (o .answer .bytes ≡ 0)
+  pub zeros : (o .answer .place ≡ paper.whole 0) × (o .answer .names ≡ 0) × (o .answer .displaced ≡ 0) × (o .answer .bytes ≡ 0)
   pub reply : o .reply ≡ []
   pub size : length (o .table) ≡ length t
   pub lent : o .answer .number ≢ 0 → o .answer .number ≢ 22 → (o .table ≡ t) × (o .answer .stores ≡ 0)
@@ -47,7 +48,7 @@ pub record MendAnswered (t : List ℕ) (k : ℕ) (o : Outcome) : Type 0 where
 
 mend-plain : (t : List ℕ) (k n s : ℕ) (t₁ : List ℕ) → ((n ≡ 0) ⊎ (n ≡ 1)) ⊎ ((n ≡ 2) ⊎ (n ≡ 22)) → length t₁ ≡ length t
     → (n ≢ 0 → n ≢ 22 → (t₁ ≡ t) × (s ≡ 0)) → (n ≡ 22 → (t₁ ≡ run t (take k (mendStores t))) × (s ≡ k))
-    → MendAnswered t k (record { answer = plain n 0 0 s; table = t₁; reply = [] })
+    → MendAnswered t k (record { answer = plain n (paper.whole 0) 0 s; table = t₁; reply = [] })
 mend-plain t k n s t₁ a b c d =
     record { number = a; zeros = (refl, refl, refl, refl); reply = refl; size = b; lent = c; stop = d }
 

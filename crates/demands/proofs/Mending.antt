@@ -16,6 +16,7 @@ use lib.ListN.{length}
 use lib.Dec.{leb}
 use borrow.Author.Tests.{eqb-true, le-leb}
 use Rattle.paper.specs.Table.{sized}
+use Rattle.paper.specs.Check as paper
 use Rattle.paper.specs.Check.{Verdict, passed, refused, verdict}
 use Rattle.paper.specs.Sound.{sound}
 use Rattle.paper.specs.Store.{run}
@@ -31,7 +32,7 @@ use Rattle.demands.proofs.MendAnswered.{MendCame, unsized, unsound, who
 
 -- a mend that is not cut
 abbrev pub mendedWhole : List ℕ → Outcome
-mendedWhole t = record { answer = plain 0 0 0 (length (mendStores t)); table = mended t; reply = [] }
+mendedWhole t = record { answer = plain 0 (paper.whole 0) 0 (length (mendStores t)); table = mended t; reply = [] }
 
 -- where the end is sound and the stop number covers the stores, it answers 0
 pub mend-whole : (t : List ℕ) (k : ℕ) → sized (mended t) ≡ true → sound (mended t) ≡ true → length (mendStores t) ≤ k
@@ -56,7 +57,7 @@ mend-sound t k z = go (mend-came t k)
 
 -- a sound table is left as it is, with no store, whatever the stop number
 pub mend-nothing : (t : List ℕ) (k : ℕ) → sized t ≡ true → sound t ≡ true
-    → mending t k ≡ record { answer = plain 0 0 0 0; table = t; reply = [] }
+    → mending t k ≡ record { answer = plain 0 (paper.whole 0) 0 0; table = t; reply = [] }
 unfolding mending mendable verdict run
 mend-nothing t k s e =
     let c = sound-keeps t (sound-clauses t s e) in

@@ -1,12 +1,13 @@
 -- A part is a stretch of one text, so parts that follow one another are that text, cut and joined again. What an RDS asks of its name is
 -- the same for every part: once it was answered 0, it is for each part that starts within the text and fits the buffer.
-use mathlib.Core.Bool.{true, false}
+use mathlib.Core.Bool.{true, false, cond}
 use mathlib.Core.List.{List, [], _∷_, _++_}
 use mathlib.Core.Path.{_≡_, refl, sym, ap, _∙_}
 use Prim.Native.Nat.{ℕ, _+_, _*_, _/_, _%_, _≤_, _<_}
 use native.Mathlib.Omega.{arith}
 use lib.ListN.{length, take, drop, take-append-drop, drop-of-length-le}
 use lib.Seq.{take-all, take-length, take-append-seam, drop-drop}
+use lib.Dec.{eqb}
 use borrow.Author.Tests.{le-ltb, le-leb, ltb-false, not-false}
 use Rattle.paper.specs.Record.{simple}
 use Rattle.paper.specs.Table.{rec, sized}
@@ -14,18 +15,19 @@ use Rattle.paper.specs.Declaration.{Part, given, notGiven, orElse}
 use Rattle.paper.specs.Name.{same, all, counting}
 use Rattle.paper.specs.Octal.{number, inOctal, digits, octal}
 use Rattle.paper.specs.Line.{Word, words, word, legalLine}
-use Rattle.paper.specs.Check.{Check, Verdict, passed, refused, verdict}
+use Rattle.paper.specs.Check.{whole, Check, Verdict, passed, refused, verdict}
 use Rattle.paper.specs.Request.{Begin, rds, request, counted, octalAt, readRds, readFunction, read, asked}
 use Rattle.paper.specs.Code.{noRead}
 use Rattle.paper.specs.Sound.{sound}
 use Rattle.paper.specs.Walk.{State, start, file, End, arrived, astray, ended}
 use Rattle.paper.specs.Block.{fileText}
 use Rattle.paper.specs.Store.{run}
-use Rattle.paper.specs.Effect.{Plan, Planned, plan, inward, chainOf, listOf, begun, readInhibited, notSimple, tooShort, beyondEnd, part, rdsPlan}
+use Rattle.paper.specs.Effect.{Plan, Planned, plan, inward, chainOf, endOf, listOf, begun, readInhibited, notSimple, tooShort, beyondEnd, part, rdsPlan}
 use Rattle.paper.specs.Answer.{Outcome, granting, ran, single, granted, entrance, admitted, requested}
 use Rattle.laws.proofs.Tests.{clash}
 use Rattle.laws.proofs.Lists.{Every}
 use Rattle.demands.proofs.Request.Fair.{Idle, fair-some, verdict-idle}
+use Rattle.demands.proofs.Request.Chains.{namesAt}
 use Rattle.demands.proofs.Request.Ended.{Passed, ran-by}
 use Rattle.demands.proofs.Request.Course.{Course, untried, tried, Admitted, course, admits}
 use Rattle.demands.proofs.Answered.Numbered.{fair-refused, fair-rdsPlan}
@@ -129,10 +131,10 @@ plan-brought t u reply name first count p v = go (ended t (start u) (chainOf nam
   where
     checks : State → List Check
     checks f =
-        readInhibited 1 f
-        ∷ notSimple 1 t f
+        readInhibited (endOf 1 name) f
+        ∷ notSimple (endOf 1 name) t f
         ∷ tooShort (part (fileText t (file t f)) first count) reply
-        ∷ beyondEnd 2 first (fileText t (file t f))
+        ∷ beyondEnd (whole 2) first (fileText t (file t f))
         ∷ []
 
     shown : State → Plan
@@ -153,8 +155,11 @@ rds-brought : (t : List ℕ) (u : ℕ) (reply : List ℕ) (k : ℕ) (name : Word
     → single t reply k (ran k (rdsPlan t u reply name first count)) .answer .number ≡ 0 → Brought t u reply name first count
 rds-brought t u reply k name first count =
     ran-by (λ x. single t reply k x .answer .number ≡ 0 → Brought t u reply name first count) k (rdsPlan t u reply name first count)
-    (λ f v n. let g = fair-refused reply (rdsPlan t u reply name first count) f (fair-rdsPlan t reply u name first count) v in
-    let z : ⊥ = omega (arith, fair-some f g, n) in absurd z)
+    (λ f v n.
+    let names : ℕ → List (List ℕ) = λ a. cond (eqb a 1) (name .names) [] in
+    let fair = fair-rdsPlan names t reply u name first count (record { from = omega arith; long = refl }) refl in
+    let g = fair-refused names reply (rdsPlan t u reply name first count) f fair v in
+    let z : ⊥ = omega (arith, fair-some names f g, n) in absurd z)
     (λ p v _ _. plan-brought t u reply name first count p v)
     (λ p v _ n. let z : ⊥ = omega arith in absurd z)
 
@@ -190,7 +195,7 @@ module _ (t line text reply : List ℕ) (u k : ℕ) (from : Begin) (name : Word)
       go : Course t line text reply u
           → (g : Granted t u from name) × Holds (grantedText t u from name g) reply first count
           × (requested t line text reply u k ≡ bringing t (part (grantedText t u from name g) first count) reply)
-      go (untried f h e) = let m : f .number ≡ 0 = rw (e k) at n in let z : ⊥ = omega (arith, fair-some f h) in absurd z
+      go (untried f h e) = let m : f .number ≡ 0 = rw (e k) at n in let z : ⊥ = omega (arith, fair-some (namesAt line) f h) in absurd z
       go (tried r a e) =
           let q : r ≡ rds from name first count = request-same (sym (a .asked) ∙ asks) in
           let b = rds-brought t (listOf u from) reply k (begun from name) first count (rw (e k, q) at n) in

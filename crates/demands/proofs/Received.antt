@@ -14,7 +14,7 @@ use Rattle.paper.specs.Record.{byte, isKind, entryCode, headingNamed, names}
 use Rattle.paper.specs.Table.{sized, rooms, rec, lay, frees, room, textRoom}
 use Rattle.paper.specs.Declaration.{Part, orElse}
 use Rattle.paper.specs.Line.{Word}
-use Rattle.paper.specs.Check.{Refusal, Verdict, passed, refused, verdict}
+use Rattle.paper.specs.Check.{Place, whole, Refusal, refusalAt, Verdict, passed, refused, verdict}
 use Rattle.paper.specs.Request.{Begin, own, takeOf, giveTo, Request, dup, request, asked}
 use Rattle.paper.specs.Code.{joined, lacks, noWrite}
 use Rattle.paper.specs.Entry.{named, full}
@@ -22,7 +22,7 @@ use Rattle.paper.specs.Sound.{sound}
 use Rattle.paper.specs.Block.{blocksOf}
 use Rattle.paper.specs.Walk.{State, start, applies, file, reached, toDirectory, toLast, lastName}
 use Rattle.paper.specs.Store.{puts, clear, run}
-use Rattle.paper.specs.Effect.{listOf, begun, Plan, Planned, plan, halted, chainOf, Making, isFound, borne, placing, needed, displacing, freed, lost, settled, writeInhibited, linkTaken, linking, making, dupPlan}
+use Rattle.paper.specs.Effect.{listOf, begun, Plan, Planned, plan, halted, chainOf, endOf, Making, isFound, borne, placing, needed, displacing, freed, lost, settled, writeInhibited, linkTaken, linking, making, dupPlan}
 use Rattle.paper.specs.Answer.{Outcome, ran, single, granted, entrance, admitted, requested}
 use Rattle.laws.proofs.Tests.{and-both, not-both, clash}
 use Rattle.laws.proofs.Scans.{all-true, any-here}
@@ -34,6 +34,8 @@ use Rattle.laws.proofs.Lay.{length-blank, lay-same, lay-other, rooms-lay, withi
 use Rattle.laws.proofs.Runs.{Lays, run-each}
 use Rattle.laws.proofs.Rooms.{room-below, room-kind}
 use Rattle.demands.proofs.Sound.Clauses.{Sound, sound-clauses, entry-code}
+use Rattle.demands.proofs.Request.Chains.{namesAt}
+use Rattle.demands.proofs.Request.Spoken.{Spoken}
 use Rattle.demands.proofs.Request.Fair.{Idle, fair-some, verdict-idle}
 use Rattle.demands.proofs.Request.Formed.{named-last, within-else}
 use Rattle.demands.proofs.Request.Read.{Told, DupRead}
@@ -226,7 +228,7 @@ dup-hands t c v u to old new code x =
     makes : (g f d : State) → toDirectory t 1 (start v) (chainOf old) ≡ reached g → toLast t g (chainOf old) ≡ reached f
         → Hands t v old to (making t (linking t f d new code) [] (linkTaken t to (linking t f d new code)) [])
     makes g f d q r e =
-        let a = every-parts Idle (writeInhibited 2 d ∷ linkTaken t to m) _ (verdict-idle _ e) in
+        let a = every-parts Idle (writeInhibited (m .place) d ∷ linkTaken t to m) _ (verdict-idle _ e) in
         go (borne t m) refl (a .0 .1) (ltb-false _ _ (a .1 .1 .1 .0))
       where
         m : Making
@@ -279,30 +281,31 @@ nobody-more t line text reply u k from old to new code a z = go (course t line t
     x : Planned
     x = dupPlan t (listOf u from) (listOf u to) to (begun from old) (begun to new) code
 
-    ends : Hands t (listOf u from) (begun from old) to x → single t reply k (ran k x) .answer .number ≡ 0
-        → Received t (listOf u from) (begun from old) to (single t reply k (ran k x) .table)
-    ends h =
+    ends : Hands t (listOf u from) (begun from old) to x → Spoken (namesAt line) (dup from old to new code)
+        → single t reply k (ran k x) .answer .number ≡ 0 → Received t (listOf u from) (begun from old) to (single t reply k (ran k x) .table)
+    ends h w =
         ran-by (λ y. single t reply k y .answer .number ≡ 0 → Received t (listOf u from) (begun from old) to (single t reply k y .table)) k x
         (λ f v n.
-        let g = fair-refused reply x f (fair-dupPlan t reply (listOf u to) (listOf u from) to (begun from old) (begun to new) code) v in
-        let o : ⊥ = omega (arith, fair-some _ g, n) in absurd o)
+        let b = fair-dupPlan (namesAt line) t reply (listOf u to) (listOf u from) to (begun from old) (begun to new) code (w .0) (w .1) in
+        let g = fair-refused (namesAt line) reply x f b v in
+        let o : ⊥ = omega (arith, fair-some (namesAt line) f g, n) in absurd o)
         (λ p v _ _. let s : Hands t (listOf u from) (begun from old) to (plan p) = rw (v .plan) at h in s (v .checks))
         (λ p v _ n. let o : ⊥ = omega arith in absurd o)
 
-    grants : (r : Request) → r ≡ dup from old to new code → Sound t → Told text r
+    grants : (r : Request) → r ≡ dup from old to new code → Sound t → Told text r → Spoken (namesAt line) r
         → requested t line text reply u k ≡ granted t text reply u k r
         → Received t (listOf u from) (begun from old) to (requested t line text reply u k .table)
-    grants r q c h e =
+    grants r q c h w e =
         let y : requested t line text reply u k ≡ single t reply k (ran k x) = rw q at e in
         let s : Told text (dup from old to new code) = rw q at h in
-        rw y (ends (dup-hands t c (listOf u from) (listOf u to) to (begun from old) (begun to new) code s) (rw y at z))
+        rw y (ends (dup-hands t c (listOf u from) (listOf u to) to (begun from old) (begun to new) code s) (rw q at w) (rw y at z))
 
     go : Course t line text reply u → Received t (listOf u from) (begun from old) to (requested t line text reply u k .table)
-    go (untried f h e) = let n : f .number ≡ 0 = rw (e k) at z in let o : ⊥ = omega (arith, fair-some f h) in absurd o
+    go (untried f h e) = let n : f .number ≡ 0 = rw (e k) at z in let o : ⊥ = omega (arith, fair-some (namesAt line) f h) in absurd o
     go (tried r h e) =
         let q = sym (h .asked) ∙ a in
         let s : r ≡ dup from old to new code = cc in
-        grants r s (sound-clauses t (h .sized) (h .sound)) (h .told) (e k)
+        grants r s (sound-clauses t (h .sized) (h .sound)) (h .told) (h .spoken) (e k)
 
 -- ---- "A give never displaces."
 
@@ -311,11 +314,8 @@ abbrev Plain : Planned → Type 0
 Plain (plan p) = (verdict (p .checks) ≡ passed → p .displaced ≡ false) × ((f : Refusal) → verdict (p .checks) ≡ refused f → f .number ≢ 18)
 Plain (halted f) = f .number ≢ 18
 
-abbrev refusal : ℕ → ℕ → Refusal
-refusal number place = record { number = number; place = place; link = 0 }
-
-another : (n p : ℕ) (f : Refusal) → n ≢ 18 → refused (refusal n p) ≡ refused f → f .number ≢ 18
-another n p f d e z = let q : refusal n p ≡ f = cc in d (ap (λ (x : Refusal). x .number) q ∙ z)
+another : (n : ℕ) (p : Place) (f : Refusal) → n ≢ 18 → refused (refusalAt n p) ≡ refused f → f .number ≢ 18
+another n p f d e z = let q : refusalAt n p ≡ f = cc in d (ap (λ (x : Refusal). x .number) q ∙ z)
 
 give-plain : (t : List ℕ) (v u n : ℕ) (old new : Word) (code : Part) → Plain (dupPlan t v u (giveTo n) old new code)
 unfolding dupPlan making verdict
@@ -332,17 +332,17 @@ give-plain t v u n old new code =
     -- 14, 16, 17, 18 and 19
     judged : List ℕ → Bool → Found → Bool → Bool → Verdict
     judged r a y b c =
-        cond a (refused (refusal 14 2))
-        (cond (isFound y) (refused (refusal 16 2))
-        (cond (not (isFound y) && b) (refused (refusal 17 2))
-        (cond (displacing t y r) (refused (refusal 18 2)) (cond c (refused (refusal 19 0)) passed))))
+        cond a (refused (refusalAt 14 (endOf 2 new)))
+        (cond (isFound y) (refused (refusalAt 16 (endOf 2 new)))
+        (cond (not (isFound y) && b) (refused (refusalAt 17 (endOf 2 new)))
+        (cond (displacing t y r) (refused (refusalAt 18 (endOf 2 new))) (cond c (refused (refusalAt 19 (whole 0))) passed))))
 
     by : (r : List ℕ) (a : Bool) (y : Found) (b c : Bool)
         → (judged r a y b c ≡ passed → isFound y ≡ false) × ((f : Refusal) → judged r a y b c ≡ refused f → f .number ≢ 18)
-    by r true y b c = (λ e. clash (cc), λ f. another 14 2 f (omega arith))
-    by r false (at i) b c = (λ e. clash (cc), λ f. another 16 2 f (omega arith))
-    by r false nowhere true c = (λ _. refl, λ f. another 17 2 f (omega arith))
-    by r false nowhere false true = (λ _. refl, λ f. another 19 0 f (omega arith))
+    by r true y b c = (λ e. clash (cc), λ f. another 14 _ f (omega arith))
+    by r false (at i) b c = (λ e. clash (cc), λ f. another 16 _ f (omega arith))
+    by r false nowhere true c = (λ _. refl, λ f. another 17 _ f (omega arith))
+    by r false nowhere false true = (λ _. refl, λ f. another 19 _ f (omega arith))
     by r false nowhere false false = (λ _. refl, λ f e. clash (cc))
 
 abbrev Still : Outcome → Type 0
@@ -377,7 +377,7 @@ never-displaces t line text reply u k from old n new code a =
         (λ p v _. (refl, λ (z : _≡_ {A = ℕ} 22 18). let o : ⊥ = omega arith in absurd o))
 
     enters : (b c d : Bool) → Still (admitted t line text reply u k
-        (cond b (refused (refusal 1 0)) (cond c (refused (refusal 2 0)) (cond d (refused (refusal 3 0)) passed))))
+        (cond b (refused (refusalAt 1 (whole 0))) (cond c (refused (refusalAt 2 (whole 0))) (cond d (refused (refusalAt 3 (whole 0))) passed))))
     enters true c d = (refl, λ (z : _≡_ {A = ℕ} 1 18). let o : ⊥ = omega arith in absurd o)
     enters false true d = (refl, λ (z : _≡_ {A = ℕ} 2 18). let o : ⊥ = omega arith in absurd o)
     enters false false true = (refl, λ (z : _≡_ {A = ℕ} 3 18). let o : ⊥ = omega arith in absurd o)

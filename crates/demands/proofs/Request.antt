@@ -4,6 +4,8 @@
 pub mod Formed
 pub mod Fair
 pub mod Begun
+pub mod Chains
+pub mod Spoken
 pub mod Read
 pub mod Course
 -- walked: one link, then the chain on a sound table

@@ -21,7 +21,7 @@ use Rattle.paper.specs.Entry.{Holder, baseList, stands}
 use Rattle.paper.specs.Block.{blocksOf, fileText}
 use Rattle.paper.specs.Walk.{State, start, file, reached, toDirectory, lastName}
 use Rattle.paper.specs.Store.{Store, clear, run}
-use Rattle.paper.specs.Effect.{listOf, begun, Plan, Planned, plan, halted, chainOf, Making, borne, placing, needed, freed, lost, settled, readInhibited, writeInhibited, notSimple, tooLow, linking, making, entryIn, filing, recoded, crdPlan, wrsPlan, cpyPlan, dupPlan, chnPlan, dprPlan, delPlan, rdsPlan, lstPlan, lstBasePlan}
+use Rattle.paper.specs.Effect.{listOf, begun, Plan, Planned, plan, halted, chainOf, Making, borne, placing, needed, freed, lost, settled, writeInhibited, linking, making, entryIn, filing, recoded, crdPlan, wrsPlan, cpyPlan, dupPlan, chnPlan, dprPlan, delPlan, rdsPlan, lstPlan, lstBasePlan}
 use Rattle.paper.specs.Answer.{Outcome, ran, single, oneName, deleting, granted, requested}
 use Rattle.laws.proofs.Tests.{either}
 use Rattle.laws.proofs.Lists.{Every, every-append, every-each, every-imp, every-parts, every-take}
@@ -226,7 +226,7 @@ module _ (t : List ℕ) (c : Sound t) where
         let source : List ℕ = rec t (file t f) in
         let body : List ℕ = fileText t (file t f) in
         filing-sets u 2 new d 1 (orElse lev (level source)) (orElse code 0) (orElse life (lifetime source)) (length body) body
-        (readInhibited 1 f ∷ []) (notSimple 1 t f ∷ []) (tooLow 3 lev source ∷ [])
+        _ _ _
         (entered t c u new d (orElse code 0) most (h .new) (at-most 7 0 code (h .code) (omega arith)) q) (walked d q refl)))
 
     -- a new name of DUP, one's own or a give
@@ -247,7 +247,8 @@ module _ (t : List ℕ) (c : Sound t) where
         → Sets t u (aim to new) (dupPlan t v (listOf u to) to old (begun to new) code)
     unfolding dupPlan
     dup-sets v to old new code h =
-        end-by (Sets t u (aim to new)) 1 (λ _ _ _. tt) t v old _ (λ e f _ r. holder-by (Sets t u (aim to new)) 2 (λ _ _ _. tt) t (listOf u to) (begun to new) _ (λ d q.
+        end-by (Sets t u (aim to new)) 1 (λ _ _ _. tt) t v old _ (λ e f _ r.
+        holder-by (Sets t u (aim to new)) 2 (λ _ _ _. tt) t (listOf u to) (begun to new) _ (λ d q.
         let s = walk-reached 65535 t c e (chainOf old) f r in
         let j : ℕ = joined (entryCode (rec t (f .entry))) (orElse code 0) in
         let b = joined-code _ _ (entry-code (rec t (f .entry)) (s .own)) (at-most 7 0 code (h .code) (omega arith)) in

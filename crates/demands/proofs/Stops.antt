@@ -61,4 +61,4 @@ stop-same t line text reply u k j a b = go (came t line text reply u)
     go : Came t line text reply u → requested t line text reply u k ≡ requested t line text reply u j
     go (lent f h q) = q k ∙ sym (q j)
     go (planned r e d x h q) = q k ∙ single-same t reply k j x (rw (q k) at a) (rw (q j) at b) ∙ sym (q j)
-    go (deletes names e q) = q k ∙ deleting-same names t u reply k j 0 0 (rw (q k) at a) (rw (q j) at b) ∙ sym (q j)
+    go (deletes names e _ q) = q k ∙ deleting-same names t u reply k j 0 0 (rw (q k) at a) (rw (q j) at b) ∙ sym (q j)

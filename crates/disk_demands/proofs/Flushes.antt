@@ -6,24 +6,11 @@ use mathlib.Core.Path.{_≡_, refl}
 use Prim.Native.Nat.{ℕ}
 use lib.Dec.{eqb}
 use lib.ListN.{replicate}
-use Rattle.paper.specs.Number.{numberAt, bytesOf}
-use Rattle.paper.specs.Scan.{allBelow, anyBelow, countBelow, firstBelow, joinBelow}
-use Rattle.paper.specs.Record.{nameOf, held, zeros, blank, headingRecord, nameField, entryRecord, textRecord}
-use Rattle.paper.specs.Table.{rec, lay, frees, textRoom}
-use Rattle.paper.specs.Name.{same, all, linkName, pointed, chain, linkNames, wellFormed, legalBase, before}
-use Rattle.paper.specs.Declaration.{typeLetter, lifetimeLetter, levelLetter, digit, codeAt, levelAt, pointAt, lifetimeAt, declaration, declared}
-use Rattle.paper.specs.Line.{legalLine, placed, skipped, atColon, close, closed, grow, split, solid, words, word}
-use Rattle.paper.specs.Check.{verdict}
-use Rattle.paper.specs.Request.{counted, firstWrong, each, between, declaredAt, readCrd, readWrs, readRds, readLst, readCpy, readDup, readChn, readDpr, readDel, readFunction, read, asked}
-use Rattle.paper.specs.Entry.{stands, bears, find, crowd, named, peopled}
-use Rattle.paper.specs.Block.{share, block, fileText}
-use Rattle.paper.specs.Sound.{asAbove, holdersThere, headingsThere, usersRight, namesPadded, noneTwice, allNamed, noneCrowded, directoriesPlain, textsWhole, noOtherText, namesLegal, sound}
-use Rattle.paper.specs.Walk.{applies, look, enter, follow, toDirectory, lastName, ended}
-use Rattle.paper.specs.Store.{run}
-use Rattle.paper.specs.Listing.{typeShown, lifetimeShown, levelShown, line, insert, inOrder, listed, lines}
-use Rattle.paper.specs.Effect.{freed, lost, settled, losing, making, newFile, crdPlan, wrsPlan, cpyPlan, dupPlan, renamed, chnPlan, recoded, dprPlan, delPlan, rdsPlan, lstPlan, lstBasePlan}
-use Rattle.paper.specs.Mend.{clears, mendStores, mended}
-use Rattle.paper.specs.Answer.{deleting, granted, entrance, requested, mendable, mending}
+use Rattle.paper.specs.Table.{rec, lay}
+use Rattle.paper.specs.Sound.{sound}
+use Rattle.paper.specs.Mend.{mended}
+use Rattle.paper.specs.Answer.{requested}
+use Rattle.paper.proofs.Cases.{hold}
 use Rattle.disk.specs.Phase.{first, entry, phaseOf, phase}
 
 -- `WRS M .R` and `DEL .R`
@@ -37,9 +24,9 @@ del = 68 ∷ 69 ∷ 76 ∷ 32 ∷ 46 ∷ 82 ∷ []
 abbrev after : List ℕ → List ℕ → List ℕ
 after t line = requested t line (65 ∷ []) [] 1 9 .table
 
--- record i is of phase p; with it alone as before, the table is not to be mended
+-- record i is of phase p; with it alone as before, the table is not to be mended. Every definition is open, as in the cases marked P
 unfoldable pub torn : List ℕ → List ℕ → ℕ → ℕ → Bool
-unfolding numberAt bytesOf allBelow anyBelow countBelow firstBelow joinBelow nameOf held zeros blank headingRecord nameField entryRecord textRecord rec lay frees textRoom same all linkName pointed chain linkNames wellFormed legalBase before typeLetter lifetimeLetter levelLetter digit codeAt levelAt pointAt lifetimeAt declaration declared legalLine placed skipped atColon close closed grow split solid words word verdict counted firstWrong each between declaredAt readCrd readWrs readRds readLst readCpy readDup readChn readDpr readDel readFunction read asked stands bears find crowd named peopled share block fileText asAbove holdersThere headingsThere usersRight namesPadded noneTwice allNamed noneCrowded directoriesPlain textsWhole noOtherText namesLegal sound applies look enter follow toDirectory lastName ended run typeShown lifetimeShown levelShown line insert inOrder listed lines freed lost settled losing making newFile crdPlan wrsPlan cpyPlan dupPlan renamed chnPlan recoded dprPlan delPlan rdsPlan lstPlan lstBasePlan clears mendStores mended deleting granted entrance requested mendable mending phaseOf phase
+unfolding hold phaseOf phase
 torn t line i p =
     eqb (requested t line (65 ∷ []) [] 1 9 .answer .number) 0 && eqb (phase t (after t line) i) p
     && not (sound (mended (lay (after t line) i (rec t i))))

@@ -51,7 +51,7 @@ ran t sheets texts back chain u k =
 -- "before any store"
 abbrev pub admitted : (t sheets texts back chain : List ℕ) (u k : ℕ) → Verdict → Lit
 admitted t sheets texts back chain u k (refused f) =
-    record { answer = refusal (f .place) (f .number); table = t; back = back }
+    record { answer = refusal (f .place .argument) (f .number); table = t; back = back }
 admitted t sheets texts back chain u k passed = ran t sheets texts back chain u k
 
 -- the promise of the lamp

@@ -4,7 +4,7 @@ use mathlib.Core.List.{List, _++_}
 use Prim.Native.Nat.{ℕ, suc}
 use lib.Dec.{ltb}
 use lib.ListN.{length}
-use Rattle.paper.specs.Check.{Check, check, Verdict, verdict}
+use Rattle.paper.specs.Check.{whole, Check, check, Verdict, verdict}
 use Rattle.paper.specs.Name.{same}
 use Rattle.paper.specs.Scan.{anyBelow, eachBelow}
 use Rattle.paper.specs.Table.{rec}
@@ -28,7 +28,7 @@ tooLong sheets back i = ltb (length back) (lengthOf (rec sheets i))
 
 -- a refusal tried on each of n sheets; its place is the sheet's number, from 1
 unfoldable pub each : ℕ → (ℕ → Bool) → ℕ → List Check
-each number wrong n = eachBelow (λ i. check (wrong i) number (suc i)) n
+each number wrong n = eachBelow (λ i. check (wrong i) number (whole (suc i))) n
 
 -- the first refusal, if any
 unfoldable pub admission : (sheets texts back : List ℕ) → Verdict

@@ -8,7 +8,7 @@ use Prim.Native.Nat.{ℕ, zero, suc, _+_, _<_}
 use native.Mathlib.Omega.{arith}
 use native.Mathlib.Decide.{ℕ-discrete}
 use lib.ListN.{getD}
-use Rattle.paper.specs.Check.{Check, check, Verdict, passed, refused, verdict}
+use Rattle.paper.specs.Check.{whole, refusalAt, Check, check, Verdict, passed, refused, verdict}
 use Rattle.paper.specs.Scan.{anyBelow, joinBelow}
 use Rattle.laws.proofs.Tests.{truth, or-no-left, or-no-right}
 use Rattle.laws.proofs.Scans.{First, least, any-none}
@@ -21,18 +21,18 @@ pub each-none : (a : ℕ) (p : ℕ → Bool) (n : ℕ) (cs : List Check) → any
 unfolding each joinBelow anyBelow verdict
 each-none a p zero cs e = refl
 each-none a p (suc n) cs e =
-    rw append-assoc (each-none a p n (check (p n) a (suc n) ∷ cs) (or-no-right (p n) (anyBelow p n) e) ∙ rw (or-no-left (p n) (anyBelow p n) e))
+    rw append-assoc (each-none a p n (check (p n) a (whole (suc n)) ∷ cs) (or-no-right (p n) (anyBelow p n) e) ∙ rw (or-no-left (p n) (anyBelow p n) e))
 
 pub each-first : (a : ℕ) (p : ℕ → Bool) (n i : ℕ) (cs : List Check) → First p n i
-    → verdict (each a p n ++ cs) ≡ refused (record { number = a; place = suc i; link = 0 })
+    → verdict (each a p n ++ cs) ≡ refused (refusalAt a (whole (suc i)))
 unfolding each joinBelow verdict
 each-first a p zero i cs f = let z : ⊥ = omega (arith, f .below) in absurd z
 each-first a p (suc n) i cs f =
     rw append-assoc
     (by-cases (ℕ-discrete i n)
-    (λ (q : i ≡ n). each-none a p n (check (p n) a (suc n) ∷ cs) (rw q at (f .none)) ∙ rw (← q, f .passes))
+    (λ (q : i ≡ n). each-none a p n (check (p n) a (whole (suc n)) ∷ cs) (rw q at (f .none)) ∙ rw (← q, f .passes))
     (λ (q : i ≢ n). let l : i < n = omega (arith, f .below) in
-    each-first a p n i (check (p n) a (suc n) ∷ cs) (record { below = l; passes = f .passes; none = f .none })))
+    each-first a p n i (check (p n) a (whole (suc n)) ∷ cs) (record { below = l; passes = f .passes; none = f .none })))
 
 -- ---- a list of tests
 
@@ -54,7 +54,7 @@ Passes n ps = (m : ℕ) → anyBelow (test ps m) n ≡ false
 
 data Tried (n a : ℕ) (ps : List (ℕ → Bool)) (v : Verdict) : Type 0 where
   passes : Passes n ps → v ≡ passed → Tried n a ps v
-  fails : (m i : ℕ) → Fails n ps m i → v ≡ refused (record { number = a + m; place = suc i; link = 0 }) → Tried n a ps v
+  fails : (m i : ℕ) → Fails n ps m i → v ≡ refused (refusalAt (a + m) (whole (suc i))) → Tried n a ps v
 
 none-later : (n : ℕ) (p : ℕ → Bool) (ps : List (ℕ → Bool)) (k : ℕ) → anyBelow p n ≡ false → ((h : ℕ) → h < k → anyBelow (test ps h) n ≡ false)
     → (h : ℕ) → h < suc k → anyBelow (test (p ∷ ps) h) n ≡ false
@@ -92,15 +92,15 @@ module _ (sheets texts back : List ℕ) where
 
   pub data Admitted (v : Verdict) : Type 0 where
     admits : Passes (count sheets) tests → v ≡ passed → Admitted v
-    refuses : (m i : ℕ) → Fails (count sheets) tests m i → v ≡ refused (record { number = suc m; place = suc i; link = 0 }) → Admitted v
+    refuses : (m i : ℕ) → Fails (count sheets) tests m i → v ≡ refused (refusalAt (suc m) (whole (suc i))) → Admitted v
 
   pub admitted : Admitted (admission sheets texts back)
   unfolding admission tries
   admitted = go (tried (count sheets) 1 tests)
     where
-      whole : admission sheets texts back ≡ verdict (tries (count sheets) 1 tests)
-      whole = simp (append-assoc, append-nil)
+      joined : admission sheets texts back ≡ verdict (tries (count sheets) 1 tests)
+      joined = simp (append-assoc, append-nil)
 
       go : Tried (count sheets) 1 tests (verdict (tries (count sheets) 1 tests)) → Admitted (admission sheets texts back)
-      go (passes h q) = admits h (whole ∙ q)
-      go (fails m i f q) = let z : 1 + m ≡ suc m = omega arith in refuses m i f (whole ∙ rw z at q)
+      go (passes h q) = admits h (joined ∙ q)
+      go (fails m i f q) = let z : 1 + m ≡ suc m = omega arith in refuses m i f (joined ∙ rw z at q)

@@ -12,8 +12,10 @@ use Rattle.paper.specs.Check.{Refusal, Verdict, passed, refused, verdict}
 use Rattle.paper.specs.Request.{Begin, oldFrom, rds, Read, request, unread, read, asked}
 use Rattle.paper.specs.Effect.{listOf, begun, part, rdsPlan}
 use Rattle.paper.specs.Answer.{Outcome, Ran, refusedBy, done, cut, ran, refusing, single, granted, entrance, requested}
-use Rattle.demands.proofs.Request.Fair.{Fair, fair-some, verdict-fair, fair-line}
-use Rattle.demands.proofs.Request.Read.{read-right}
+use Rattle.demands.proofs.Request.Fair.{Fair, fair-some}
+use Rattle.demands.proofs.Request.Chains.{namesAt}
+use Rattle.demands.proofs.Request.Spoken.{said}
+use Rattle.demands.proofs.Request.Course.{entrance-fair}
 use Rattle.demands.proofs.Parts.{bringing, grantedText, part-read, part-shown}
 use Rattle.job.specs.Reading.{rdsLine}
 use Rattle.job_demands.proofs.Lines.{rds-read}
@@ -22,14 +24,10 @@ use Rattle.job_demands.proofs.Lines.{rds-read}
 
 -- for every text, buffer and stop number at once
 data Came (t line : List ℕ) (u : ℕ) : Type 0 where
-  lent : (f : Refusal) → Fair f → ((text b : List ℕ) (k : ℕ) → requested t line text b u k ≡ refusing t b f) → Came t line u
+  lent : (f : Refusal) → Fair (namesAt line) f → ((text b : List ℕ) (k : ℕ) → requested t line text b u k ≡ refusing t b f) → Came t line u
   tried : (from : Begin) (w : Word) (first count : Part) → read line ≡ request (rds from w first count)
       → ((text b : List ℕ) (k : ℕ) → requested t line text b u k ≡ single t b k (ran k (rdsPlan t (listOf u from) b (begun from w) first count)))
       → Came t line u
-
-entrance-fair : (t : List ℕ) (u : ℕ) (f : Refusal) → entrance t u ≡ refused f → Fair f
-unfolding entrance
-entrance-fair t u f p = verdict-fair _ f (fair-line 1 0 refl, (fair-line 2 0 refl, (fair-line 3 0 refl, tt))) p
 
 came : (t chain link : List ℕ) (u : ℕ) → Came t (rdsLine chain link) u
 unfolding requested entrance asked granted verdict
@@ -42,12 +40,12 @@ came t chain link u = enters (entrance t u) refl
     by p from w first count q = tried from w first count q (λ text b k. rw (p, q))
 
     reads : entrance t u ≡ passed → (x : Read) → read line ≡ x → Came t line u
-    reads p (unread f) q = lent f (rw q at (read-right line [])) (λ text b k. rw (p, q))
+    reads p (unread f) q = lent f (rw q at (said line [])) (λ text b k. rw (p, q))
     reads p (request r) q = let w = rds-read chain link r q in by p (oldFrom (w .0)) (w .0) (w .1) (w .2) (q ∙ ap request (w .3))
 
     enters : (v : Verdict) → entrance t u ≡ v → Came t line u
     enters passed p = reads p (read line) refl
-    enters (refused f) p = lent f (entrance-fair t u f p) (λ text b k. rw p)
+    enters (refused f) p = lent f (entrance-fair (namesAt line) t u f p) (λ text b k. rw p)
 
 -- ---- two buffers of one length
 
@@ -93,7 +91,7 @@ read-again t chain link text b s u k n e x c j l = go (came t chain link u)
     line = rdsLine chain link
 
     go : Came t line u → requested t line x c u j ≡ bringing t s c
-    go (lent f h q) = let z : f .number ≡ 0 = rw (q text b k) at n in let o : ⊥ = omega (arith, fair-some f h) in absurd o
+    go (lent f h q) = let z : f .number ≡ 0 = rw (q text b k) at n in let o : ⊥ = omega (arith, fair-some (namesAt line) f h) in absurd o
     go (tried from w first count r q) =
         let p = part-shown t line text b u k from w first count (rw r) n in
         let y : List ℕ = part (grantedText t u from w (p .0)) first count in

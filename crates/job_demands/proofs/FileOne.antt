@@ -2,7 +2,7 @@
 -- So the walk before it reached a directory, and the sheet is filed there.
 use mathlib.Core.Bool.{true}
 use mathlib.Core.List.{List, [], _∷_, _++_}
-use mathlib.Core.Path.{_≡_, _∙_, subst}
+use mathlib.Core.Path.{_≡_, refl, _∙_, subst}
 use Prim.Native.Nat.{ℕ, _≤_}
 use native.Mathlib.Omega.{arith}
 use Rattle.paper.specs.Name.{linkName}
@@ -18,6 +18,7 @@ use Rattle.job.specs.Filing as F
 use Rattle.job.specs.Filing.{wrsLine}
 use Rattle.demands.proofs.Sound.Clauses.{Sound}
 use Rattle.demands.proofs.Request.Fair.{fair-some}
+use Rattle.demands.proofs.Request.Chains.{namesAt}
 use Rattle.demands.proofs.Request.Read.{Told, WrsRead}
 use Rattle.demands.proofs.Request.Course.{Admitted, Course, untried, tried, course}
 use Rattle.demands.proofs.Request.Ended.{Passed, ran-by}
@@ -61,7 +62,10 @@ module _ (t chain : List ℕ) (u : ℕ) (x : Sheet) (c : Sound t) (w : Word) (l 
   planned : (k : ℕ) → single t [] k (ran k filing) .answer .number ≡ 0 → OneFiled t chain u x (single t [] k (ran k filing) .table)
   planned k =
       ran-by (λ y. single t [] k y .answer .number ≡ 0 → OneFiled t chain u x (single t [] k y .table)) k filing
-      (λ f v q. let z : ⊥ = omega (arith, fair-some f (fair-refused [] filing f (fair-wrsPlan t [] u (x .text) 1 notGiven notGiven w) v)) in absurd z)
+      (λ f v q.
+      let names : ℕ → List (List ℕ) = λ _. w .names in
+      let g = fair-wrsPlan names t [] u (x .text) 1 notGiven notGiven w (record { from = omega arith; long = refl }) in
+      let z : ⊥ = omega (arith, fair-some names f (fair-refused names [] filing f g v)) in absurd z)
       (λ p v _ _. made p v)
       (λ p v _ q. let z : ⊥ = omega arith in absurd z)
 
@@ -80,5 +84,5 @@ one-filed t chain u k x c l = go (course t (wrsLine chain (x .link)) (x .text) [
         rw z (planned t chain u x c w (h .user) (subst (Told (x .text)) q (h .told)) m (r, h .asked) k (rw z at n))
 
     go : Course t (wrsLine chain (x .link)) (x .text) [] u → o .answer .number ≡ 0 → OneFiled t chain u x (o .table)
-    go (untried f h e) n = let z : f .number ≡ 0 = rw (e k) at n in let y : ⊥ = omega (arith, fair-some f h) in absurd y
+    go (untried f h e) n = let z : f .number ≡ 0 = rw (e k) at n in let y : ⊥ = omega (arith, fair-some (namesAt (wrsLine chain (x .link))) f h) in absurd y
     go (tried r h e) n = let m = wrs-names chain (x .link) (x .text) r l (h .asked) in as-wrs r h (e k) n (m .0) (m .1) (m .2)

@@ -11,7 +11,7 @@ use borrow.Author.Tests.{leb-true, lt-ltb, not-false}
 use Rattle.paper.specs.Name.{same, wellFormed, legalBase, baseName}
 use Rattle.paper.specs.Declaration.{Declared, right, wrong, wrsLifetime, notGiven, declared, declaration, lifetimeAt, pointAt, typeLetter, lifetimeLetter, fits, fitWrs}
 use Rattle.paper.specs.Line.{Word, words, word, legalLine}
-use Rattle.paper.specs.Check.{Check, Verdict, passed, refused, verdict}
+use Rattle.paper.specs.Check.{whole, refusalAt, Check, Verdict, passed, refused, verdict}
 use Rattle.paper.specs.Request.{Request, own, wrs, rds, Read, request, unread, readAs, after, needed, counted, miscounted, misnamed, declaredAt, octalAt, readWrs, readRds, readFunction, read, textTooLong, withText, asked}
 use Rattle.laws.proofs.Tests.{clash, and-parts}
 use Rattle.laws.proofs.Lists.{Every}
@@ -26,7 +26,7 @@ pub asked-read : (line text : List ℕ) (r : Request) → asked line text ≡ re
 unfolding asked verdict
 asked-read line text r e = go (read line) e
   where
-    by : (q : Request) (b : Bool) → readAs q (cond b (refused (record { number = 10; place = 0; link = 0 })) passed) ≡ request r → request q ≡ request r
+    by : (q : Request) (b : Bool) → readAs q (cond b (refused (refusalAt 10 (whole 0))) passed) ≡ request r → request q ≡ request r
     by q true f = clash (cc)
     by q false f = f
 
@@ -38,7 +38,7 @@ pub read-by : (line : List ℕ) (r : Request) → read line ≡ request r → (l
 unfolding read
 read-by line r e = go (legalLine line) e
   where
-    go : (b : Bool) → cond b (readFunction line) (unread (record { number = 4; place = 0; link = 0 })) ≡ request r
+    go : (b : Bool) → cond b (readFunction line) (unread (refusalAt 4 (whole 0))) ≡ request r
         → (b ≡ true) × (readFunction line ≡ request r)
     go true f = (refl, f)
     go false f = clash (cc)
@@ -72,7 +72,7 @@ unfolding readFunction same
 function-rds line ws e = rw (word-is line 0 _ (ap (λ l. getD l 0 ([] ∷ [])) e))
 
 pub function-none : (line n m : List ℕ) (ns : List (List ℕ)) (ws : List (List (List ℕ))) → spoken line ≡ (n ∷ m ∷ ns) ∷ ws
-    → readFunction line ≡ unread (record { number = 5; place = 0; link = 0 })
+    → readFunction line ≡ unread (refusalAt 5 (whole 0))
 unfolding readFunction
 function-none line n m ns ws e = rw (word-is line 0 _ (ap (λ l. getD l 0 ([] ∷ [])) e))
 

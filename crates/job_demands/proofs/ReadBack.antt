@@ -11,7 +11,7 @@ use lib.Seq.{take-append-seam}
 use Rattle.paper.specs.Table.{sized}
 use Rattle.paper.specs.Name.{linkName}
 use Rattle.paper.specs.Line.{Word}
-use Rattle.paper.specs.Check.{Verdict, passed, refused}
+use Rattle.paper.specs.Check.{atLink, refusalAt, Verdict, passed, refused}
 use Rattle.paper.specs.Declaration.{notGiven}
 use Rattle.paper.specs.Request.{own, Request, rds, request, asked}
 use Rattle.paper.specs.Sound.{sound}
@@ -60,7 +60,7 @@ module _ (t chain back : List ℕ) (u : ℕ) (x : Sheet) (c : Sound t) (l : u �
 
   -- where the walk stops, with its number
   read-stopped : (number link : ℕ) → walk t chain u ≡ stopped number link
-      → readBack t chain back u x ≡ refusing t back (record { number = number; place = 1; link = link })
+      → readBack t chain back u x ≡ refusing t back (refusalAt number (atLink 1 link))
   unfolding readBack granted
   read-stopped number link w =
       sound-admits t (rdsLine chain (x .link)) [] back u 0 (rds own (n .word) notGiven notGiven) c l (n .asked)

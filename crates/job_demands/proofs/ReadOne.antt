@@ -8,7 +8,7 @@ use lib.ListN.{length, drop}
 use borrow.Author.Tests.{le-ltb, le-leb}
 use Rattle.paper.specs.Declaration.{notGiven}
 use Rattle.paper.specs.Line.{Word}
-use Rattle.paper.specs.Check.{verdict}
+use Rattle.paper.specs.Check.{atLink, refusalAt, verdict}
 use Rattle.paper.specs.Request.{Request, request, asked}
 use Rattle.paper.specs.Walk.{State, start, look, reached, stopped, toDirectory, ended}
 use Rattle.paper.specs.Store.{run}
@@ -54,6 +54,6 @@ module _ (t reply : List ℕ) (u k : ℕ) (w : Word) (pre : List (List ℕ)) (n 
 
   -- the walk stops: so does the reading, with its number
   pub rds-stops : (number link : ℕ) → toDirectory t 1 (start u) (pre ++ n ∷ []) ≡ stopped number link
-      → single t reply k (ran k (rdsPlan t u reply w notGiven notGiven)) ≡ refusing t reply (record { number = number; place = 1; link = link })
+      → single t reply k (ran k (rdsPlan t u reply w notGiven notGiven)) ≡ refusing t reply (refusalAt number (atLink 1 link))
   unfolding rdsPlan ended
   rds-stops number link q = rw (e, q)

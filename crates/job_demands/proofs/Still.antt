@@ -47,4 +47,4 @@ still t line text reply u = go (came t line text reply u)
     go : Came t line text reply u → requested t line text reply u 0 .table ≡ t
     go (lent f h e) = rw (e 0)
     go (planned r q d p h e) = rw (e 0) (still-single t reply p)
-    go (deletes ws q e) = rw (e 0) (still-deleting ws t u reply 0 0)
+    go (deletes ws q _ e) = rw (e 0) (still-deleting ws t u reply 0 0)

@@ -1,5 +1,5 @@
 -- All cases marked P hold, because every definition computes: antt runs each case through the very definitions that
--- `request` and `mend` promise, and compares all six numbers, every byte of the table and the reply.
+-- `request` and `mend` promise, and compares all seven numbers, every byte of the table and the reply.
 use mathlib.Core.Bool.{Bool, true}
 use mathlib.Core.List.{List}
 use mathlib.Core.Path.{_≡_, refl}
@@ -22,11 +22,11 @@ use Rattle.paper.specs.Listing.{typeShown, lifetimeShown, levelShown, li
 use Rattle.paper.specs.Effect.{freed, lost, settled, losing, making, newFile, crdPlan, wrsPlan, cpyPlan, dupPlan, renamed, chnPlan, recoded, dprPlan, delPlan, part, rdsPlan, lstPlan, lstBasePlan}
 use Rattle.paper.specs.Mend.{clears, mendStores, mended}
 use Rattle.paper.specs.Answer.{deleting, granted, entrance, requested, mendable, mending}
-use Rattle.paper.specs.Case.{Case, holds, holdAll, cases}
+use Rattle.paper.specs.Case.{Case, holds, holdAll, linksA, cases}
 
 -- `holdAll`, with every definition open
 unfoldable pub hold : List Case → Bool
-unfolding numberAt bytesOf allBelow anyBelow countBelow firstBelow joinBelow nameOf held zeros blank headingRecord nameField entryRecord textRecord rec lay frees textRoom same all linkName pointed chain linkNames wellFormed legalBase userName counting userNumber before typeLetter lifetimeLetter levelLetter digit codeAt levelAt pointAt lifetimeAt declaration declared digits octal legalLine placed skipped atColon close closed grow split solid words word verdict counted firstWrong oldFrom newTo each between declaredAt octalAt readCrd readWrs readRds readLst readCpy readDup readChn readDpr readDel readFunction read asked stands bears find crowd named peopled share block fileText asAbove holdersThere headingsThere usersRight namesPadded noneTwice allNamed noneCrowded directoriesPlain textsWhole noOtherText namesLegal sound applies look enter follow toDirectory lastName ended run typeShown lifetimeShown levelShown line insert inOrder listed lines freed lost settled losing making newFile crdPlan wrsPlan cpyPlan dupPlan renamed chnPlan recoded dprPlan delPlan part rdsPlan lstPlan lstBasePlan clears mendStores mended deleting granted entrance requested mendable mending holds holdAll
+unfolding numberAt bytesOf allBelow anyBelow countBelow firstBelow joinBelow nameOf held zeros blank headingRecord nameField entryRecord textRecord rec lay frees textRoom same all linkName pointed chain linkNames wellFormed legalBase userName counting userNumber before typeLetter lifetimeLetter levelLetter digit codeAt levelAt pointAt lifetimeAt declaration declared digits octal legalLine placed skipped atColon close closed grow split solid words word verdict counted firstWrong oldFrom newTo each between declaredAt octalAt readCrd readWrs readRds readLst readCpy readDup readChn readDpr readDel readFunction read asked stands bears find crowd named peopled share block fileText asAbove holdersThere headingsThere usersRight namesPadded noneTwice allNamed noneCrowded directoriesPlain textsWhole noOtherText namesLegal sound applies look enter follow toDirectory lastName ended run typeShown lifetimeShown levelShown line insert inOrder listed lines freed lost settled losing making newFile crdPlan wrsPlan cpyPlan dupPlan renamed chnPlan recoded dprPlan delPlan part rdsPlan lstPlan lstBasePlan clears mendStores mended deleting granted entrance requested mendable mending linksA holds holdAll
 hold = holdAll
 
 pub all-cases-hold : holdAll cases ≡ true

@@ -1,4 +1,4 @@
--- What `request` and `mend` promise for every input: the answer's six numbers, the table after and the reply after.
+-- What `request` and `mend` promise for every input: the answer's seven numbers, the table after and the reply after.
 use mathlib.Core.Bool.{Bool, true, false, not, cond}
 use mathlib.Core.List.{List, [], _∷_, _++_}
 use Prim.Native.Nat.{ℕ, _+_, _-_}
@@ -6,17 +6,17 @@ use lib.Dec.{leb, ltb}
 use lib.ListN.{length, take, drop}
 use Rattle.paper.specs.Table.{sized}
 use Rattle.paper.specs.Line.{Word}
-use Rattle.paper.specs.Check.{Refusal, check, Verdict, passed, refused, verdict}
+use Rattle.paper.specs.Check.{Place, whole, Refusal, check, Verdict, passed, refused, verdict}
 use Rattle.paper.specs.Request.{Request, crd, wrs, rds, cpy, dup, chn, del, dpr, lst, lstBase, Read, request, unread, asked}
 use Rattle.paper.specs.Sound.{sound}
 use Rattle.paper.specs.Store.{Store, run}
 use Rattle.paper.specs.Effect.{Plan, Planned, plan, halted, crdPlan, wrsPlan, rdsPlan, cpyPlan, dupPlan, chnPlan, delPlan, dprPlan, lstPlan, lstBasePlan, listOf, begun}
 use Rattle.paper.specs.Mend.{mendStores, mended}
 
--- "An answer has: number; place ..; names done; displaced or not; bytes written; stores made."
+-- "An answer has: number; place ..; names done; displaced or not; bytes written; stores made." The place is two numbers
 pub record Answer : Type 0 where
   pub number : ℕ
-  pub place : ℕ
+  pub place : Place
   pub names : ℕ
   pub displaced : ℕ
   pub bytes : ℕ
@@ -28,7 +28,7 @@ pub record Outcome : Type 0 where
   pub reply : List ℕ
 
 -- "On any number but 0, displaced is no and bytes are 0."
-abbrev pub plain : (number place names stores : ℕ) → Answer
+abbrev pub plain : (number : ℕ) (place : Place) (names stores : ℕ) → Answer
 plain number place names stores =
     record { number = number; place = place; names = names; displaced = 0; bytes = 0; stores = stores }
 
@@ -39,7 +39,7 @@ yesNo false = 0
 -- one name was granted all that it asks
 abbrev pub granting : (displaced : Bool) (bytes stores : ℕ) → Answer
 granting displaced bytes stores =
-    record { number = 0; place = 0; names = 1; displaced = yesNo displaced; bytes = bytes; stores = stores }
+    record { number = 0; place = whole 0; names = 1; displaced = yesNo displaced; bytes = bytes; stores = stores }
 
 -- a refusal changes nothing
 abbrev pub refusing : List ℕ → List ℕ → Refusal → Outcome
@@ -69,7 +69,7 @@ single t reply k (done p) =
       table = run t (p .stores);
       reply = p .reply ++ drop (length (p .reply)) reply;
     }
-single t reply k (cut p) = record { answer = plain 22 0 0 k; table = run t (take k (p .stores)); reply = reply }
+single t reply k (cut p) = record { answer = plain 22 (whole 0) 0 k; table = run t (take k (p .stores)); reply = reply }
 
 -- "DEL does walk and end checks name by name and stops at the first refusal": after some names are done and their stores made,
 -- with k stores left
@@ -79,10 +79,10 @@ oneName t reply k n made more (refusedBy f) =
 oneName t reply k n made more (done p) =
     more (run t (p .stores)) (k - length (p .stores)) (n + 1) (made + length (p .stores))
 oneName t reply k n made more (cut p) =
-    record { answer = plain 22 0 n (made + k); table = run t (take k (p .stores)); reply = reply }
+    record { answer = plain 22 (whole 0) n (made + k); table = run t (take k (p .stores)); reply = reply }
 
 unfoldable pub deleting : List ℕ → ℕ → List ℕ → (k done made : ℕ) → List Word → Outcome
-deleting t u reply k n made [] = record { answer = plain 0 0 n made; table = t; reply = reply }
+deleting t u reply k n made [] = record { answer = plain 0 (whole 0) n made; table = t; reply = reply }
 deleting t u reply k n made (w ∷ ws) =
     oneName t reply k n made (λ t₁ k₁ n₁ made₁. deleting t₁ u reply k₁ n₁ made₁ ws) (ran k (delPlan t u (n + 1) w))
 
@@ -105,7 +105,7 @@ granted t text reply u k lstBase = single t reply k (ran k (lstBasePlan t u repl
 
 -- numbers 1, 2 and 3: "table length no multiple of 32, or above 65,536", "table not sound", "user above 999,999"
 unfoldable pub entrance : List ℕ → ℕ → Verdict
-entrance t u = verdict (check (not (sized t)) 1 0 ∷ check (not (sound t)) 2 0 ∷ check (ltb 999999 u) 3 0 ∷ [])
+entrance t u = verdict (check (not (sized t)) 1 (whole 0) ∷ check (not (sound t)) 2 (whole 0) ∷ check (ltb 999999 u) 3 (whole 0) ∷ [])
 
 abbrev pub acted : List ℕ → List ℕ → List ℕ → ℕ → ℕ → Read → Outcome
 acted t text reply u k (unread f) = refusing t reply f
@@ -121,15 +121,15 @@ requested t line text reply u k = admitted t line text reply u k (entrance t u)
 
 -- "If the result wouldn't be sound, answer 2 and leave the table as found."
 unfoldable pub mendable : List ℕ → Verdict
-mendable t = verdict (check (not (sized t)) 1 0 ∷ check (not (sound (mended t))) 2 0 ∷ [])
+mendable t = verdict (check (not (sized t)) 1 (whole 0) ∷ check (not (sound (mended t))) 2 (whole 0) ∷ [])
 
 -- "Mending takes a stop number too": its answer and the table after
 abbrev pub mendRun : List ℕ → ℕ → List Store → Verdict → Outcome
 mendRun t k ss (refused f) = refusing t [] f
 mendRun t k ss passed =
     cond (leb (length ss) k)
-    (record { answer = plain 0 0 0 (length ss); table = run t ss; reply = [] })
-    (record { answer = plain 22 0 0 k; table = run t (take k ss); reply = [] })
+    (record { answer = plain 0 (whole 0) 0 (length ss); table = run t ss; reply = [] })
+    (record { answer = plain 22 (whole 0) 0 k; table = run t (take k ss); reply = [] })
 
 -- the promise of `mend`; it has no reply buffer
 unfoldable pub mending : (table : List ℕ) (stop : ℕ) → Outcome

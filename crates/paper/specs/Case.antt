@@ -1,12 +1,13 @@
 -- "At the edges": the cases marked P, one list. `proofs/Cases.antt` has the one claim over it; a new case is a new line.
 use mathlib.Core.Bool.{Bool, true, false, _&&_, not}
 use mathlib.Core.List.{List, [], _∷_, _++_}
-use Prim.Native.Nat.{ℕ, _-_}
+use Prim.Native.Nat.{ℕ, zero, suc, _-_}
 use lib.Dec.{eqb}
 use lib.ListN.{length, replicate, take, drop}
 use Rattle.paper.specs.Record.{blank}
 use Rattle.paper.specs.Name.{same, dotR}
 use Rattle.paper.specs.Declaration.{Declared, right, wrong, declared}
+use Rattle.paper.specs.Check.{atLink}
 use Rattle.paper.specs.Code.{joined}
 use Rattle.paper.specs.Block.{blocks}
 use Rattle.paper.specs.Answer.{Answer, Outcome, yesNo, requested, mending}
@@ -27,15 +28,15 @@ abbrev pub isRight : Declared → Bool
 isRight (right p) = true
 isRight wrong = false
 
--- the six numbers
-abbrev pub answer : (number place names displaced bytes stores : ℕ) → Answer
-answer number place names displaced bytes stores =
-    record { number = number; place = place; names = names; displaced = displaced; bytes = bytes; stores = stores }
+-- the seven numbers
+abbrev pub answer : (number argument link names displaced bytes stores : ℕ) → Answer
+answer number argument link names displaced bytes stores =
+    record { number = number; place = atLink argument link; names = names; displaced = displaced; bytes = bytes; stores = stores }
 
 abbrev pub sameAnswer : Answer → Answer → Bool
 sameAnswer a b =
-    eqb (a .number) (b .number) && eqb (a .place) (b .place) && eqb (a .names) (b .names)
-    && eqb (a .displaced) (b .displaced) && eqb (a .bytes) (b .bytes) && eqb (a .stores) (b .stores)
+    eqb (a .number) (b .number) && eqb (a .place .argument) (b .place .argument) && eqb (a .place .link) (b .place .link)
+    && eqb (a .names) (b .names) && eqb (a .displaced) (b .displaced) && eqb (a .bytes) (b .bytes) && eqb (a .stores) (b .stores)
 
 -- the outcome is this answer, this table and this reply
 abbrev pub comesTo : Answer → List ℕ → List ℕ → Outcome → Bool
@@ -128,6 +129,15 @@ cpyRG letter = 67 ∷ 80 ∷ 89 ∷ 32 ∷ dotR ++ 32 ∷ 46 ∷ 71 ∷ 32 ∷ 4
 abbrev pub entryG : List ℕ
 entryG = 2 ∷ 0 ∷ 255 ∷ 255 ∷ 2 ∷ 0 ∷ 1 ∷ 0 ∷ 0 ∷ 2 ∷ 46 ∷ 71 ∷ replicate 20 0
 
+-- `.R:A` in user 1's `.R`, a simple file without text
+abbrev pub inside : List ℕ
+inside = headingR ++ entryR ++ sheet 0 ++ 2 ∷ 0 ∷ 0 ∷ 0 ∷ 2 ∷ 0 ∷ 0 ∷ 0 ∷ 0 ∷ 1 ∷ 65 ∷ replicate 21 0
+
+-- so many links `:A`
+unfoldable pub linksA : ℕ → List ℕ
+linksA zero = []
+linksA (suc n) = link ++ linksA n
+
 -- the simple file `.R` of user 1, its text `ABCDEFGHI`
 abbrev pub lettered : List ℕ
 lettered =
@@ -135,11 +145,11 @@ lettered =
     ++ 3 ∷ 9 ∷ 0 ∷ 0 ∷ 0 ∷ 0 ∷ 0 ∷ 0 ∷ 65 ∷ 66 ∷ 67 ∷ 68 ∷ 69 ∷ 70 ∷ 71 ∷ 72 ∷ 73 ∷ replicate 15 0
     ++ entryR
 
--- `RDS .R` and what follows, on a table, with a reply buffer of n zeros: the number, the place, and the bytes written
-abbrev pub reads : (table after : List ℕ) (n number place : ℕ) → List ℕ → Case
-reads table after n number place out =
+-- `RDS .R` and what follows, on a table, with a reply buffer of n zeros: the number, the argument, and the bytes written
+abbrev pub reads : (table after : List ℕ) (n number argument : ℕ) → List ℕ → Case
+reads table after n number argument out =
     asks table (rds (dotR ++ after)) [] (replicate n 0) 1 9
-    (answer number place (yesNo (eqb number 0)) 0 (length out) 0) table (out ++ replicate (n - length out) 0)
+    (answer number argument 0 (yesNo (eqb number 0)) 0 (length out) 0) table (out ++ replicate (n - length out) 0)
 
 unfoldable pub cases : List Case
 cases =
@@ -151,13 +161,13 @@ cases =
     ∷ takes 24 1
     ∷ takes 25 2
     ∷ takes 24000 1000
-    ∷ asks [] wrsW (replicate 24000 65) [] 1 9 (answer 19 0 0 0 0 0) [] []
-    ∷ asks [] wrsW (replicate 24001 65) [] 1 9 (answer 10 0 0 0 0 0) [] []
+    ∷ asks [] wrsW (replicate 24000 65) [] 1 9 (answer 19 0 0 0 0 0 0) [] []
+    ∷ asks [] wrsW (replicate 24001 65) [] 1 9 (answer 10 0 0 0 0 0 0) [] []
     -- "`.R::A` and a name of 11 characters get 7; 10 is legal. `.1` gets 8"
-    ∷ asks [] (rds (46 ∷ 82 ∷ 58 ∷ 58 ∷ 65 ∷ [])) [] [] 1 9 (answer 7 1 0 0 0 0) [] []
-    ∷ asks [] (rds (replicate 11 65)) [] [] 1 9 (answer 7 1 0 0 0 0) [] []
-    ∷ asks [] (rds (replicate 10 65)) [] [] 1 9 (answer 11 1 0 0 0 0) [] []
-    ∷ asks [] (rds (46 ∷ 49 ∷ [])) [] [] 1 9 (answer 8 1 0 0 0 0) [] []
+    ∷ asks [] (rds (46 ∷ 82 ∷ 58 ∷ 58 ∷ 65 ∷ [])) [] [] 1 9 (answer 7 1 2 0 0 0 0) [] []
+    ∷ asks [] (rds (replicate 11 65)) [] [] 1 9 (answer 7 1 2 0 0 0 0) [] []
+    ∷ asks [] (rds (replicate 10 65)) [] [] 1 9 (answer 11 1 1 0 0 0 0) [] []
+    ∷ asks [] (rds (46 ∷ 49 ∷ [])) [] [] 1 9 (answer 8 1 1 0 0 0 0) [] []
     -- "`F.0`, `DM.P1`, `.` are declarations; `MF` and `1` aren't"
     ∷ declares (70 ∷ 46 ∷ 48 ∷ []) true
     ∷ declares (68 ∷ 77 ∷ 46 ∷ 80 ∷ 49 ∷ []) true
@@ -165,39 +175,52 @@ cases =
     ∷ declares (77 ∷ 70 ∷ []) false
     ∷ declares (49 ∷ []) false
     -- "user 1, 64 zero bytes, `CRD .R`"
-    ∷ asks pair crdR [] [] 1 9 (answer 0 0 1 0 0 2) (headingR ++ entryR) []
+    ∷ asks pair crdR [] [] 1 9 (answer 0 0 0 1 0 0 2) (headingR ++ entryR) []
     -- "With k = 1 only record 0, answer 22, and mending gives zeros again. With 32 bytes: 19."
-    ∷ asks pair crdR [] [] 1 1 (answer 22 0 0 0 0 1) (headingR ++ blank) []
-    ∷ mends (headingR ++ blank) 9 (answer 0 0 0 0 0 1) pair
-    ∷ asks one crdR [] [] 1 9 (answer 19 0 0 0 0 0) one []
+    ∷ asks pair crdR [] [] 1 1 (answer 22 0 0 0 0 0 1) (headingR ++ blank) []
+    ∷ mends (headingR ++ blank) 9 (answer 0 0 0 0 0 0 1) pair
+    ∷ asks one crdR [] [] 1 9 (answer 19 0 0 0 0 0 0) one []
     -- "then `CRD .R:A` gets 19; `DEL .R` gives zeros, 2 stores"
-    ∷ asks (headingR ++ entryR) crdRA [] [] 1 9 (answer 19 0 0 0 0 0) (headingR ++ entryR) []
-    ∷ asks (headingR ++ entryR) delR [] [] 1 9 (answer 0 0 1 0 0 2) pair []
+    ∷ asks (headingR ++ entryR) crdRA [] [] 1 9 (answer 19 0 0 0 0 0 0) (headingR ++ entryR) []
+    ∷ asks (headingR ++ entryR) delR [] [] 1 9 (answer 0 0 0 1 0 0 2) pair []
     -- document 02: "A new name `.nnnnnn:link` in DUP (six digits) enters the file in that user's `.G`"
-    ∷ asks (shelf ++ blank) (dup dotR (night ++ link)) [] [] 1 9 (answer 0 0 1 0 0 1) (shelf ++ entryA) []
+    ∷ asks (shelf ++ blank) (dup dotR (night ++ link)) [] [] 1 9 (answer 0 0 0 1 0 0 1) (shelf ++ entryA) []
     -- "in RDS and LST, `.nnnnnn` starts at that user's `.T`": a directory, here empty
-    ∷ asks (headingR ++ nights 84 0) (76 ∷ 83 ∷ 84 ∷ 32 ∷ night) [] [] 1 9 (answer 0 0 1 0 0 0) (headingR ++ nights 84 0) []
-    ∷ asks (headingR ++ nights 84 0) (rds night) [] [] 1 9 (answer 15 1 0 0 0 0) (headingR ++ nights 84 0) []
+    ∷ asks (headingR ++ nights 84 0) (76 ∷ 83 ∷ 84 ∷ 32 ∷ night) [] [] 1 9 (answer 0 0 0 1 0 0 0) (headingR ++ nights 84 0) []
+    ∷ asks (headingR ++ nights 84 0) (rds night) [] [] 1 9 (answer 15 1 1 0 0 0 0) (headingR ++ nights 84 0) []
     -- "Codes join as always, so nobody receives more than the giver's entry has": 4, and 1 declared
-    ∷ asks (lent ++ blank) (dup dotR (night ++ link ++ 32 ∷ 46 ∷ 49 ∷ [])) [] [] 1 9 (answer 0 0 1 0 0 1) (lent ++ coded 5 entryA) []
+    ∷ asks (lent ++ blank) (dup dotR (night ++ link ++ 32 ∷ 46 ∷ 49 ∷ [])) [] [] 1 9 (answer 0 0 0 1 0 0 1) (lent ++ coded 5 entryA) []
     -- "16 where the link is taken"
-    ∷ asks (shelf ++ entryA) (dup dotR (night ++ link)) [] [] 1 9 (answer 16 2 0 0 0 0) (shelf ++ entryA) []
+    ∷ asks (shelf ++ entryA) (dup dotR (night ++ link)) [] [] 1 9 (answer 16 2 2 0 0 0 0) (shelf ++ entryA) []
     -- "11 where `.G` or `.T` is missing": `.G` does not stand in for `.T`
-    ∷ asks (headingR ++ entryR) (dup dotR (night ++ link)) [] [] 1 9 (answer 11 2 0 0 0 0) (headingR ++ entryR) []
-    ∷ asks (shelf ++ blank) (rds night) [] [] 1 9 (answer 11 1 0 0 0 0) (shelf ++ blank) []
+    ∷ asks (headingR ++ entryR) (dup dotR (night ++ link)) [] [] 1 9 (answer 11 2 1 0 0 0 0) (headingR ++ entryR) []
+    ∷ asks (shelf ++ blank) (rds night) [] [] 1 9 (answer 11 1 1 0 0 0 0) (shelf ++ blank) []
     -- "so does a bare `.nnnnnn` as DUP's old name .. and a give with no link or more than one"; five digits are no user
-    ∷ asks [] (dup night dotR) [] [] 1 9 (answer 8 1 0 0 0 0) [] []
-    ∷ asks [] (dup dotR night) [] [] 1 9 (answer 8 2 0 0 0 0) [] []
-    ∷ asks [] (dup dotR (night ++ link ++ link)) [] [] 1 9 (answer 8 2 0 0 0 0) [] []
-    ∷ asks [] (rds (take 6 night)) [] [] 1 9 (answer 8 1 0 0 0 0) [] []
+    ∷ asks [] (dup night dotR) [] [] 1 9 (answer 8 1 1 0 0 0 0) [] []
+    ∷ asks [] (dup dotR night) [] [] 1 9 (answer 8 2 1 0 0 0 0) [] []
+    ∷ asks [] (dup dotR (night ++ link ++ link)) [] [] 1 9 (answer 8 2 1 0 0 0 0) [] []
+    ∷ asks [] (rds (take 6 night)) [] [] 1 9 (answer 8 1 1 0 0 0 0) [] []
     -- "In every other place it still gets 8"
-    ∷ asks [] (67 ∷ 82 ∷ 68 ∷ 32 ∷ night ++ link) [] [] 1 9 (answer 8 1 0 0 0 0) [] []
-    ∷ asks (desk ++ pair) (67 ∷ 80 ∷ 89 ∷ 32 ∷ dotR ++ 32 ∷ night ++ link) [] [] 1 9 (answer 8 2 0 0 0 0) (desk ++ pair) []
+    ∷ asks [] (67 ∷ 82 ∷ 68 ∷ 32 ∷ night ++ link) [] [] 1 9 (answer 8 1 1 0 0 0 0) [] []
+    ∷ asks (desk ++ pair) (67 ∷ 80 ∷ 89 ∷ 32 ∷ dotR ++ 32 ∷ night ++ link) [] [] 1 9 (answer 8 2 1 0 0 0 0) (desk ++ pair) []
     -- "With U lowest, then P, A, S, a copy's level must be at least its source's": A from P, A from A; P from A gets 25, and 19 before it
-    ∷ asks (sheet 1 ++ entryR ++ pair) (cpyRG 65) [] [] 1 9 (answer 0 0 1 0 0 2) (sheet 1 ++ entryR ++ sheet 2 ++ entryG) []
-    ∷ asks (sheet 2 ++ entryR ++ pair) (cpyRG 65) [] [] 1 9 (answer 0 0 1 0 0 2) (sheet 2 ++ entryR ++ sheet 2 ++ entryG) []
-    ∷ asks (sheet 2 ++ entryR ++ pair) (cpyRG 80) [] [] 1 9 (answer 25 3 0 0 0 0) (sheet 2 ++ entryR ++ pair) []
-    ∷ asks (sheet 2 ++ entryR) (cpyRG 80) [] [] 1 9 (answer 19 0 0 0 0 0) (sheet 2 ++ entryR) []
+    ∷ asks (sheet 1 ++ entryR ++ pair) (cpyRG 65) [] [] 1 9 (answer 0 0 0 1 0 0 2) (sheet 1 ++ entryR ++ sheet 2 ++ entryG) []
+    ∷ asks (sheet 2 ++ entryR ++ pair) (cpyRG 65) [] [] 1 9 (answer 0 0 0 1 0 0 2) (sheet 2 ++ entryR ++ sheet 2 ++ entryG) []
+    ∷ asks (sheet 2 ++ entryR ++ pair) (cpyRG 80) [] [] 1 9 (answer 25 3 0 0 0 0 0) (sheet 2 ++ entryR ++ pair) []
+    ∷ asks (sheet 2 ++ entryR) (cpyRG 80) [] [] 1 9 (answer 19 0 0 0 0 0 0) (sheet 2 ++ entryR) []
+    -- "the link counted from 1 with the supplied `.W` as link 1. For 7 and 8 it is the first wrong name": `@`, `A:@`, past the sixteenth
+    ∷ asks [] (rds (64 ∷ [])) [] [] 1 9 (answer 7 1 2 0 0 0 0) [] []
+    ∷ asks [] (rds (65 ∷ 58 ∷ 64 ∷ [])) [] [] 1 9 (answer 7 1 3 0 0 0 0) [] []
+    ∷ asks [] (rds (dotR ++ linksA 16 ++ 58 ∷ [])) [] [] 1 9 (answer 7 1 18 0 0 0 0) [] []
+    -- "0 for a lone dash, a chain only too long, any argument that is no chain"
+    ∷ asks [] (rds (45 ∷ [])) [] [] 1 9 (answer 7 1 0 0 0 0 0) [] []
+    ∷ asks [] (rds (dotR ++ linksA 16)) [] [] 1 9 (answer 7 1 0 0 0 0 0) [] []
+    ∷ asks [] (67 ∷ 72 ∷ 78 ∷ 32 ∷ dotR ++ 32 ∷ 64 ∷ []) [] [] 1 9 (answer 7 2 0 0 0 0 0) [] []
+    -- "in a walk the link refused": not there, no directory
+    ∷ asks inside (rds (dotR ++ 58 ∷ 66 ∷ link)) [] [] 1 9 (answer 11 1 2 0 0 0 0) inside []
+    ∷ asks inside (rds (dotR ++ linksA 3)) [] [] 1 9 (answer 12 1 2 0 0 0 0) inside []
+    -- "in an end check the chain's last link"
+    ∷ asks inside (76 ∷ 83 ∷ 84 ∷ 32 ∷ dotR ++ link) [] [] 1 9 (answer 15 1 2 0 0 0 0) inside []
     -- document 02: "RDS name first count, both octal": ` 1 2`, ` 10`; a buffer exactly long enough, and one byte less
     ∷ reads lettered (32 ∷ 49 ∷ 32 ∷ 50 ∷ []) 2 0 0 (66 ∷ 67 ∷ [])
     ∷ reads lettered (32 ∷ 49 ∷ 32 ∷ 50 ∷ []) 1 20 0 []

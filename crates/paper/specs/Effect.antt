@@ -10,7 +10,7 @@ use Rattle.paper.specs.Table.{rec, lay, frees, room, textRoom}
 use Rattle.paper.specs.Name.{dotG, dotT, chain}
 use Rattle.paper.specs.Declaration.{Part, orElse}
 use Rattle.paper.specs.Line.{Word}
-use Rattle.paper.specs.Check.{Refusal, Check, check}
+use Rattle.paper.specs.Check.{Place, atLink, whole, Refusal, refusalAt, Check, check}
 use Rattle.paper.specs.Request.{Begin, own, takeOf, giveTo}
 use Rattle.paper.specs.Code.{joined, noRead, noWrite, lacks}
 use Rattle.paper.specs.Entry.{find, full, named, peopled}
@@ -30,17 +30,21 @@ pub data Planned : Type 0 where
   plan : Plan → Planned
   halted : Refusal → Planned
 
--- the walk of the argument at this place, and what follows it
+-- the walk of this argument, and what follows it: "in a walk the link refused"
 abbrev pub onward : ℕ → Walked → (State → Planned) → Planned
-onward place (reached s) f = f s
-onward place (stopped number link) f = halted (record { number = number; place = place; link = link })
+onward argument (reached s) f = f s
+onward argument (stopped number link) f = halted (refusalAt number (atLink argument link))
 
 abbrev pub chainOf : Word → List (List ℕ)
 chainOf w = chain (w .names)
 
+-- "in an end check the chain's last link": where the argument w ends
+abbrev pub endOf : ℕ → Word → Place
+endOf argument w = atLink argument (length (chainOf w))
+
 abbrev pub inward : ℕ → End → (State → State → Planned) → Planned
-inward place (arrived d f) g = g d f
-inward place (astray number link) g = halted (record { number = number; place = place; link = link })
+inward argument (arrived d f) g = g d f
+inward argument (astray number link) g = halted (refusalAt number (atLink argument link))
 
 -- "`.nnnnnn` starts at that user's `.T`", or "enters the file in that user's `.G`": the user in whose base list a chain of user u starts
 abbrev pub listOf : ℕ → Begin → ℕ
@@ -57,12 +61,12 @@ begun own w = w
 begun (takeOf n) w = instead dotT w
 begun (giveTo n) w = instead dotG w
 
--- to the directory of the argument at this place, and to the file it names
+-- to the directory of this argument, and to the file it names
 abbrev pub toHolder : List ℕ → ℕ → ℕ → Word → (State → Planned) → Planned
-toHolder t u place w f = onward place (toDirectory t 1 (start u) (chainOf w)) f
+toHolder t u argument w f = onward argument (toDirectory t 1 (start u) (chainOf w)) f
 
 abbrev pub toEnd : List ℕ → ℕ → ℕ → Word → (State → State → Planned) → Planned
-toEnd t u place w g = inward place (ended t (start u) (chainOf w)) g
+toEnd t u argument w g = inward argument (ended t (start u) (chainOf w)) g
 
 -- "After an entry is displaced or cleared": heading h cleared, "then its text by position"
 unfoldable pub freed : List ℕ → ℕ → List Store
@@ -75,9 +79,9 @@ lost t e r = not (named (lay t e r) (headingNamed (rec t e)))
 unfoldable pub settled : List ℕ → ℕ → List ℕ → List Store
 settled t e r = cond (lost t e r) (freed t (headingNamed (rec t e))) []
 
--- a new entry: the argument it stands for, the directory, its name, the stores before it, and its record
+-- a new entry: the place of its name, the directory, its name, the stores before it, and its record
 pub record Making : Type 0 where
-  pub place : ℕ
+  pub place : Place
   pub directory : State
   pub name : List ℕ
   pub first : List Store
@@ -102,21 +106,21 @@ needed m (at e) = length (m .first)
 needed m nowhere = length (m .first) + 1
 
 -- 13 and 14: "read inhibited", "write inhibited"
-abbrev pub readInhibited : ℕ → State → Check
+abbrev pub readInhibited : Place → State → Check
 readInhibited place s = check (noRead (s .code)) 13 place
 
-abbrev pub writeInhibited : ℕ → State → Check
+abbrev pub writeInhibited : Place → State → Check
 writeInhibited place s = check (noWrite (s .code)) 14 place
 
 -- 15: "RDS, CPY: not simple; LST: no directory"
-abbrev pub notSimple : ℕ → List ℕ → State → Check
+abbrev pub notSimple : Place → List ℕ → State → Check
 notSimple place t s = check (not (simple (rec t (file t s)))) 15 place
 
-abbrev pub noDirectory : ℕ → List ℕ → State → Check
+abbrev pub noDirectory : Place → List ℕ → State → Check
 noDirectory place t s = check (not (directory (rec t (file t s)))) 15 place
 
 -- 16: "CHN: new name borne by an entry there, itself included"; a give, "where the link is taken"
-abbrev pub taken : ℕ → Found → Check
+abbrev pub taken : Place → Found → Check
 taken place found = check (isFound found) 16 place
 
 -- 17: "directory or base list full, nothing displaced"
@@ -131,23 +135,23 @@ abbrev pub displacing : List ℕ → Found → List ℕ → Bool
 displacing t (at e) r = losing t e r
 displacing t nowhere r = false
 
-abbrev pub stillPeopled : ℕ → Bool → Check
+abbrev pub stillPeopled : Place → Bool → Check
 stillPeopled place losing = check losing 18 place
 
 -- 19: "fewer free records than the request needs"
 abbrev pub noRoom : List ℕ → Making → Check
-noRoom t m = check (ltb (length (frees t)) (needed m (borne t m))) 19 0
+noRoom t m = check (ltb (length (frees t)) (needed m (borne t m))) 19 (whole 0)
 
 -- 20: "reply buffer too short"
 abbrev pub tooShort : List ℕ → List ℕ → Check
-tooShort out reply = check (ltb (length reply) (length out)) 20 0
+tooShort out reply = check (ltb (length reply) (length out)) 20 (whole 0)
 
 -- 21: "DPR: new code lacks a bit of the heading's"
-abbrev pub lacking : ℕ → ℕ → ℕ → Check
+abbrev pub lacking : Place → ℕ → ℕ → Check
 lacking place new old = check (lacks new old) 21 place
 
 -- 25: "level too low": "With U lowest, then P, A, S, a copy's level must be at least its source's"
-abbrev pub tooLow : ℕ → Part → List ℕ → Check
+abbrev pub tooLow : Place → Part → List ℕ → Check
 tooLow place lev source = check (ltb (orElse lev (level source)) (level source)) 25 place
 
 -- "A give never displaces."
@@ -180,9 +184,9 @@ newFile t heading text =
 
 -- a new file under the last name of w: "In each the code goes into both heading and entry."
 abbrev pub filing : List ℕ → ℕ → Word → State → ℕ → List ℕ → List ℕ → Making
-filing t place w d code heading text =
+filing t argument w d code heading text =
     record {
-      place = place;
+      place = endOf argument w;
       directory = d;
       name = lastName (chainOf w);
       first = newFile t heading text;
@@ -215,13 +219,13 @@ cpyPlan t v u old new life lev code =
     (λ d.
     let text = fileText t (file t f) in
     making t (filing t 2 new d (orElse code 0) (copyHeading (rec t (file t f)) life lev code (length text)) text)
-    (readInhibited 1 f ∷ []) (notSimple 1 t f ∷ []) (tooLow 3 lev (rec t (file t f)) ∷ [])))
+    (readInhibited (endOf 1 old) f ∷ []) (notSimple (endOf 1 old) t f ∷ []) (tooLow (whole 3) lev (rec t (file t f)) ∷ [])))
 
 -- the entry of DUP, in d, of the file that f came to
 abbrev pub linking : List ℕ → State → State → Word → Part → Making
 linking t f d new code =
     record {
-      place = 2;
+      place = endOf 2 new;
       directory = d;
       name = lastName (chainOf new);
       first = [];
@@ -244,35 +248,35 @@ unfoldable pub renamed : List ℕ → List ℕ → List ℕ
 renamed r name = take 9 r ++ nameField name
 
 -- "CHN: the entry with its new name."
-abbrev pub chnAt : List ℕ → List ℕ → State → State → Planned
-chnAt t name d f =
-    storing (writeInhibited 1 d ∷ taken 2 (find t (d .holder) name) ∷ [])
+abbrev pub chnAt : List ℕ → Place → List ℕ → State → State → Planned
+chnAt t place name d f =
+    storing (writeInhibited place d ∷ taken (whole 2) (find t (d .holder) name) ∷ [])
     (puts (f .entry) (renamed (rec t (f .entry)) name) ∷ [])
 
 unfoldable pub chnPlan : List ℕ → ℕ → Word → Word → Planned
-chnPlan t u old link = toEnd t u 1 old (chnAt t (lastName (link .names)))
+chnPlan t u old link = toEnd t u 1 old (chnAt t (endOf 1 old) (lastName (link .names)))
 
 -- a heading with its new code
 unfoldable pub recoded : List ℕ → ℕ → List ℕ
 recoded r code = set r 3 code
 
 -- "DPR: the heading with its new code."
-abbrev pub dprAt : List ℕ → ℕ → State → Planned
-dprAt t code f =
-    storing (writeInhibited 1 f ∷ lacking 2 code (headingCode (rec t (file t f))) ∷ [])
+abbrev pub dprAt : List ℕ → Place → ℕ → State → Planned
+dprAt t place code f =
+    storing (writeInhibited place f ∷ lacking (whole 2) code (headingCode (rec t (file t f))) ∷ [])
     (puts (file t f) (recoded (rec t (file t f)) code) ∷ [])
 
 unfoldable pub dprPlan : List ℕ → ℕ → Word → ℕ → Planned
-dprPlan t u name code = toEnd t u 1 name (λ _ f. dprAt t code f)
+dprPlan t u name code = toEnd t u 1 name (λ _ f. dprAt t (endOf 1 name) code f)
 
--- "DEL: for each name in turn, the entry cleared." One name, at this place
-abbrev pub delAt : List ℕ → ℕ → State → State → Planned
+-- "DEL: for each name in turn, the entry cleared." One name, the argument of this number
+abbrev pub delAt : List ℕ → Place → State → State → Planned
 delAt t place d f =
     storing (writeInhibited place d ∷ stillPeopled place (losing t (f .entry) blank) ∷ [])
     (clear (f .entry) ∷ settled t (f .entry) blank)
 
 unfoldable pub delPlan : List ℕ → ℕ → ℕ → Word → Planned
-delPlan t u place name = toEnd t u place name (delAt t place)
+delPlan t u argument name = toEnd t u argument name (delAt t (endOf argument name))
 
 -- a plan that stores nothing and writes to the reply buffer, with the checks before 20 and those after it
 abbrev pub showing : List Check → List ℕ → List ℕ → List Check → Planned
@@ -288,7 +292,7 @@ unfoldable pub part : List ℕ → Part → Part → List ℕ
 part text first count = take (orElse count (length text)) (drop (orElse first 0) text)
 
 -- 28: "First beyond the length is refused"
-abbrev pub beyondEnd : ℕ → Part → List ℕ → Check
+abbrev pub beyondEnd : Place → Part → List ℕ → Check
 beyondEnd place first text = check (ltb (length text) (orElse first 0)) 28 place
 
 -- "RDS writes the text to the front of the reply buffer": the part of it that was asked for
@@ -297,13 +301,13 @@ rdsPlan t u reply name first count =
     toEnd t u 1 name
     (λ _ f.
     let text = fileText t (file t f) in
-    showing (readInhibited 1 f ∷ notSimple 1 t f ∷ []) (part text first count) reply (beyondEnd 2 first text ∷ []))
+    showing (readInhibited (endOf 1 name) f ∷ notSimple (endOf 1 name) t f ∷ []) (part text first count) reply (beyondEnd (whole 2) first text ∷ []))
 
 -- "LST writes one line an entry"
 unfoldable pub lstPlan : List ℕ → ℕ → List ℕ → Word → Planned
 lstPlan t u reply name =
     toEnd t u 1 name
-    (λ _ f. writing (readInhibited 1 f ∷ noDirectory 1 t f ∷ []) (directoryLines t (file t f)) reply)
+    (λ _ f. writing (readInhibited (endOf 1 name) f ∷ noDirectory (endOf 1 name) t f ∷ []) (directoryLines t (file t f)) reply)
 
 -- "LST of a lone point"
 unfoldable pub lstBasePlan : List ℕ → ℕ → List ℕ → Planned

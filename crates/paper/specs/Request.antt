@@ -8,7 +8,7 @@ use Rattle.paper.specs.Name.{linkName, pointed, chain, alone, dash, lone
 use Rattle.paper.specs.Declaration.{Part, given, notGiven, Parts, Declared, right, nothing, declared, partsOf, fits, fitCrd, fitCpy, fitDup, wrsLifetime, dprCode}
 use Rattle.paper.specs.Octal.{Octal, number, octal, partOf, isNumber, isCount}
 use Rattle.paper.specs.Line.{Word, words, word, legalLine}
-use Rattle.paper.specs.Check.{Refusal, Check, check, Verdict, passed, refused, verdict}
+use Rattle.paper.specs.Check.{atLink, whole, Refusal, refusalAt, Check, check, Verdict, passed, refused, verdict}
 
 -- where a chain starts: in the base list of the user who asks; an old name, "at that user's `.T`"; a new name, "in that user's `.G`"
 pub data Begin : Type 0 where
@@ -46,29 +46,26 @@ unfoldable pub counted : ℕ → ℕ → List ℕ → Bool
 counted least most line = leb least (length (words line) - 1) && leb (length (words line) - 1) most
 
 abbrev pub miscounted : ℕ → ℕ → List ℕ → Check
-miscounted least most line = check (not (counted least most line)) 6 0
+miscounted least most line = check (not (counted least most line)) 6 (whole 0)
 
--- the first name that is no link name, the names counted from k on, or 0
+-- "For 7 and 8 it is the first wrong name": the first that is no link name, the names counted from k on;
+-- "0 for a lone dash, a chain only too long"
 unfoldable pub firstWrong : ℕ → List (List ℕ) → ℕ
 firstWrong k [] = 0
 firstWrong k (n ∷ ns) = cond (linkName n) (firstWrong (suc k) ns) k
 
--- the number of a chain's first written name: 2 where `.W` is supplied
+-- "with the supplied `.W` as link 1": the number of the first name as it is written
 abbrev pub firstLink : List (List ℕ) → ℕ
 firstLink ns = cond (pointed (getD ns 0 [])) 1 2
 
--- 7: "malformed name or chain", the argument w at this place
+-- 7: "malformed name or chain", the argument w of this number
 abbrev pub malformed : ℕ → Word → Check
-malformed place w =
-    record {
-      when = not (wellFormed (w .names));
-      refusal = record { number = 7; place = place; link = firstWrong (firstLink (w .names)) (w .names) };
-    }
+malformed argument w =
+    check (not (wellFormed (w .names))) 7 (atLink argument (firstWrong (firstLink (w .names)) (w .names)))
 
 -- 8: "illegal base name"
 abbrev pub illegal : ℕ → Word → Check
-illegal place w =
-    record { when = not (legalBase (baseName (w .names))); refusal = record { number = 8; place = place; link = 1 } }
+illegal argument w = check (not (legalBase (baseName (w .names)))) 8 (atLink argument 1)
 
 -- the first name of an argument, and how it starts where it may be `.nnnnnn`
 abbrev pub firstName : Word → List ℕ
@@ -94,12 +91,11 @@ isGive w = userName (firstName w) && eqb (length (w .names)) 2
 
 -- 8 where an argument may start so: "In every other place it still gets 8"
 abbrev pub illegalBut : (Word → Bool) → ℕ → Word → Check
-illegalBut starts place w =
-    record { when = not (starts w || legalBase (baseName (w .names))); refusal = record { number = 8; place = place; link = 1 } }
+illegalBut starts argument w = check (not (starts w || legalBase (baseName (w .names)))) 8 (atLink argument 1)
 
 -- 9: "declaration malformed or unfit"
 abbrev pub unfit : ℕ → Bool → Check
-unfit place fit = check (not fit) 9 place
+unfit argument fit = check (not fit) 9 (whole argument)
 
 -- a check for each of some words, which stand at the places from p on
 unfoldable pub each : (ℕ → Word → Check) → ℕ → List Word → List Check
@@ -127,12 +123,12 @@ octalAt line k = cond (ltb k (length (words line))) (octal (word line k .names))
 
 -- 27: "bad number"
 abbrev pub badNumber : ℕ → Bool → Check
-badNumber place fit = check (not fit) 27 place
+badNumber argument fit = check (not fit) 27 (whole argument)
 
--- the request with the number of a part that it needs, or 9 for the declaration at this place
+-- the request with the number of a part that it needs, or 9 for the declaration that is this argument
 abbrev pub needed : ℕ → Part → (ℕ → Request) → Read
-needed place (given n) r = request (r n)
-needed place notGiven r = unread (record { number = 9; place = place; link = 0 })
+needed argument (given n) r = request (r n)
+needed argument notGiven r = unread (refusalAt 9 (whole argument))
 
 -- "CRD name [decl]"
 unfoldable pub readCrd : List ℕ → Read
@@ -197,11 +193,12 @@ linkAlone (n ∷ []) = linkName n && not (dash (n ∷ []))
 linkAlone (n ∷ m ∷ ns) = false
 
 abbrev pub unlinked : ℕ → Word → Check
-unlinked place w = check (not (linkAlone (w .names))) 7 place
+unlinked argument w = check (not (linkAlone (w .names))) 7 (whole argument)
 
 -- 8: "also CHN's link for a base file"
 abbrev pub misbased : ℕ → Word → Word → Check
-misbased place old w = check (eqb (length (chain (old .names))) 1 && not (legalBase (getD (w .names) 0 []))) 8 place
+misbased argument old w =
+    check (eqb (length (chain (old .names))) 1 && not (legalBase (getD (w .names) 0 []))) 8 (whole argument)
 
 -- "CHN old link"
 unfoldable pub readChn : List ℕ → Read
@@ -241,11 +238,11 @@ readFunction line =
     (cond (isFunction 68 69 76 line) (readDel line)
     (cond (isFunction 68 80 82 line) (readDpr line)
     (cond (isFunction 76 83 84 line) (readLst line)
-    (unread (record { number = 5; place = 0; link = 0 }))))))))))
+    (unread (refusalAt 5 (whole 0)))))))))))
 
 -- 4: "line too long, or a byte outside 32..95"
 unfoldable pub read : List ℕ → Read
-read line = cond (legalLine line) (readFunction line) (unread (record { number = 4; place = 0; link = 0 }))
+read line = cond (legalLine line) (readFunction line) (unread (refusalAt 4 (whole 0)))
 
 -- 10: "WRS text above 24,000 bytes"
 abbrev pub textTooLong : Request → List ℕ → Bool
@@ -261,7 +258,7 @@ textTooLong (lst from name) text = false
 textTooLong lstBase text = false
 
 abbrev pub withText : List ℕ → Read → Read
-withText text (request r) = readAs r (verdict (check (textTooLong r text) 10 0 ∷ []))
+withText text (request r) = readAs r (verdict (check (textTooLong r text) 10 (whole 0) ∷ []))
 withText text (unread f) = unread f
 
 -- what a line and its text ask for, or number 4 to 10 or 27

@@ -8,6 +8,7 @@ use native.Mathlib.Omega.{arith}
 use native.Mathlib.Nat.{add-zero, zero-add}
 use lib.ListN.{length, take, drop}
 use Rattle.paper.specs.Line.{Word}
+use Rattle.paper.specs.Check as paper
 use Rattle.paper.specs.Check.{Refusal}
 use Rattle.paper.specs.Store.{run}
 use Rattle.paper.specs.Effect.{Plan, Planned, delPlan}
@@ -19,7 +20,7 @@ use Rattle.demands.proofs.Answered.Numbered.{fair-refused, fair-delPlan
 
 -- names done, with so many stores
 abbrev pub finished : ℕ → ℕ → List ℕ → List ℕ → Outcome
-finished n made t reply = record { answer = plain 0 0 n made; table = t; reply = reply }
+finished n made t reply = record { answer = plain 0 (paper.whole 0) n made; table = t; reply = reply }
 
 -- the first m names, by themselves, are done: they leave the table t₁ after made₁ stores in all
 pub record Front (t : List ℕ) (u : ℕ) (reply : List ℕ) (k n made : ℕ) (ws : List Word) (m : ℕ) (t₁ : List ℕ) (made₁ : ℕ) : Type 0 where
@@ -36,7 +37,7 @@ pub data Deleted (t : List ℕ) (u : ℕ) (reply : List ℕ) (k n made : ℕ) (w
       → o ≡ record { answer = plain (f .number) (f .place) (n + m) made₁; table = t₁; reply = reply } → Deleted t u reply k n made ws o
   stops : (m : ℕ) (t₁ : List ℕ) (made₁ : ℕ) (w : Word) (rest : List Word) (p : Plan) → Front t u reply k n made ws m t₁ made₁
       → drop m ws ≡ w ∷ rest → Passed (delPlan t₁ u (n + m + 1) w) p → made + k - made₁ < length (p .stores)
-      → o ≡ record { answer = plain 22 0 (n + m) (made + k); table = run t₁ (take (made + k - made₁) (p .stores)); reply = reply }
+      → o ≡ record { answer = plain 22 (paper.whole 0) (n + m) (made + k); table = run t₁ (take (made + k - made₁) (p .stores)); reply = reply }
       → Deleted t u reply k n made ws o
 
 -- before the first name nothing is done
@@ -126,9 +127,10 @@ module _ (t : List ℕ) (u : ℕ) (reply : List ℕ) (k : ℕ) (ws : List Word) 
   pub deleted-stops : o .answer .number ≡ 22 → Deleted t u reply k 0 0 ws o → DelStopped t u reply k ws o
   deleted-stops n (whole t₁ made₁ h e) = let c : _≡_ {A = ℕ} 0 22 = rw e at n in let z : ⊥ = omega arith in absurd z
   deleted-stops n (halts m t₁ made₁ w rest f h d r e) =
-      let g = fair-refused reply (delPlan t₁ u (0 + m + 1) w) f (fair-delPlan t₁ reply u (0 + m + 1) w (omega arith)) r in
+      let x : Planned = delPlan t₁ u (0 + m + 1) w in
+      let g = fair-refused (λ _. w .names) reply x f (fair-delPlan (λ _. w .names) t₁ reply u (0 + m + 1) w (record { from = omega arith; long = refl })) r in
       let c : f .number ≡ 22 = rw e at n in
-      absurd (fair-uncut f g c)
+      absurd (fair-uncut (λ _. w .names) f g c)
   deleted-stops n (stops m t₁ made₁ w rest p h d r l e) =
       let b = h .room in
       rw e (record {

@@ -1,132 +1,152 @@
--- Every refusal of a walk or a plan has a number of the list and the place that goes with it.
--- Each stands in one check with its number and its place written there, and a walk stops with 11, 12 or 13 alone.
+-- Every refusal of a walk or a plan has a number of the list and the place that goes with it, argument and link.
+-- Each stands in one check with its number and its place written there, and a walk stops with 11, 12 or 13 alone, at a link of its chain.
+use mathlib.Core.Bool.{true}
 use mathlib.Core.List.{List, [], _∷_, _++_}
 use mathlib.Core.Logic.{inl, inr}
-use mathlib.Core.Path.{refl}
+use mathlib.Core.Path.{_≡_, refl}
 use Prim.Native.Nat.{ℕ, _≤_}
 use native.Mathlib.Omega.{arith}
 use lib.ListN.{length}
 use borrow.Author.Tests.{ltb-false}
 use Rattle.paper.specs.Declaration.{Part}
 use Rattle.paper.specs.Line.{Word}
-use Rattle.paper.specs.Check.{Refusal, Check}
+use Rattle.paper.specs.Check.{atLink, Refusal, refusalAt, Check}
 use Rattle.paper.specs.Request.{Begin, own, takeOf, giveTo}
 use Rattle.paper.specs.Walk.{State}
-use Rattle.paper.specs.Effect.{Plan, Planned, plan, halted, toHolder, toEnd, Making, making, linkTaken, linking, showing, readInhibited, notSimple, noDirectory, writeInhibited, tooShort, crdPlan, wrsPlan, rdsPlan, cpyPlan, dupPlan, chnPlan, delPlan, dprPlan, lstPlan, lstBasePlan}
+use Rattle.paper.specs.Effect.{Plan, Planned, plan, halted, chainOf, endOf, toHolder, toEnd, Making, making, linkTaken, linking, showing, readInhibited, notSimple, noDirectory, writeInhibited, tooShort, crdPlan, wrsPlan, rdsPlan, cpyPlan, dupPlan, chnPlan, delPlan, dprPlan, lstPlan, lstBasePlan}
 use Rattle.laws.proofs.Lists.{Every, every-append, every-parts}
-use Rattle.demands.proofs.Request.Fair.{Idle, Fair, FairCheck, verdict-fair, fair-line, fair-at}
-use Rattle.demands.proofs.Request.Steps.{Walks, holder-by, end-by}
+use Rattle.demands.proofs.Request.Fair.{Idle, Fair, FairCheck, Chained, ofChain, verdict-fair, fair-line, fair-linked, fair-end, fair-whole}
+use Rattle.demands.proofs.Request.Steps.{Walks, Halts, holder-within, end-within}
 use Rattle.demands.proofs.Request.Ended.{Refused, walking, checked}
 
 -- a plan's refusals are fair, and what it writes fits the reply buffer where no check holds
-pub record FairPlan (reply : List ℕ) (p : Plan) : Type 0 where
-  pub checks : Every FairCheck (p .checks)
+pub record FairPlan (names : ℕ → List (List ℕ)) (reply : List ℕ) (p : Plan) : Type 0 where
+  pub checks : Every (FairCheck names) (p .checks)
   pub fits : Every Idle (p .checks) → length (p .reply) ≤ length reply
 
-abbrev pub FairPlanned : List ℕ → Planned → Type 0
-FairPlanned reply (plan p) = FairPlan reply p
-FairPlanned reply (halted f) = Fair f
+abbrev pub FairPlanned : (ℕ → List (List ℕ)) → List ℕ → Planned → Type 0
+FairPlanned names reply (plan p) = FairPlan names reply p
+FairPlanned names reply (halted f) = Fair names f
 
--- the refusal of a plan, at its walks or its checks
-pub fair-refused : (reply : List ℕ) (x : Planned) (f : Refusal) → FairPlanned reply x → Refused x f → Fair f
-fair-refused reply x f h (walking e) = rw e at h
-fair-refused reply x f h (checked p e v) = let g : FairPlan reply p = rw e at h in verdict-fair (p .checks) f (g .checks) v
+walks-chain : (n : ℕ) → Walks n → ofChain n ≡ true
+walks-chain n (inl (inl e)) = rw e
+walks-chain n (inl (inr e)) = rw e
+walks-chain n (inr e) = rw e
 
-fair-walk : (reply : List ℕ) (place : ℕ) → 1 ≤ place → (n link : ℕ) → Walks n → FairPlanned reply (halted (record { number = n; place = place; link = link }))
-fair-walk reply place l n link (inl (inl e)) = rw e (fair-at 11 place link refl l)
-fair-walk reply place l n link (inl (inr e)) = rw e (fair-at 12 place link refl l)
-fair-walk reply place l n link (inr e) = rw e (fair-at 13 place link refl l)
+module _ (names : ℕ → List (List ℕ)) (reply : List ℕ) where
+  -- the refusal of a plan, at its walks or its checks
+  pub fair-refused : (x : Planned) (f : Refusal) → FairPlanned names reply x → Refused x f → Fair names f
+  fair-refused x f h (walking e) = rw e at h
+  fair-refused x f h (checked p e v) = let g : FairPlan names reply p = rw e at h in verdict-fair names (p .checks) f (g .checks) v
 
-module _ (t reply : List ℕ) where
-  fair-end : (u place : ℕ) (w : Word) (f : State → State → Planned) → 1 ≤ place → ((d s : State) → FairPlanned reply (f d s))
-      → FairPlanned reply (toEnd t u place w f)
-  fair-end u place w f l g = end-by (FairPlanned reply) place (fair-walk reply place l) t u w f (λ d s _ _. g d s)
+  -- a walk, and what follows it
+  module _ (a : ℕ) (w : Word) (c : Chained names a w) where
+    fair-walk : (n link : ℕ) → Halts (chainOf w) n link → Fair names (refusalAt n (atLink a link))
+    fair-walk n link h = fair-linked names n a link (walks-chain n (h .number)) (c .from) (rw (c .long) (h .most)) (rw (c .long) (h .none))
 
-module _ (t reply : List ℕ) (u : ℕ) where
-  fair-holder : (place : ℕ) (w : Word) (f : State → Planned) → 1 ≤ place → ((d : State) → FairPlanned reply (f d))
-      → FairPlanned reply (toHolder t u place w f)
-  fair-holder place w f l g = holder-by (FairPlanned reply) place (fair-walk reply place l) t u w f (λ d _. g d)
+    fair-toEnd : (t : List ℕ) (u : ℕ) (f : State → State → Planned) → ((d s : State) → FairPlanned names reply (f d s))
+        → FairPlanned names reply (toEnd t u a w f)
+    fair-toEnd t u f g = end-within (FairPlanned names reply) a w fair-walk t u f (λ d s _ _. g d s)
 
+    fair-toHolder : (t : List ℕ) (u : ℕ) (f : State → Planned) → ((d : State) → FairPlanned names reply (f d))
+        → FairPlanned names reply (toHolder t u a w f)
+    fair-toHolder t u f g = holder-within (FairPlanned names reply) a w fair-walk t u f (λ d _. g d)
+
+module _ (names : ℕ → List (List ℕ)) (t reply : List ℕ) (u : ℕ) where
   -- a new entry: 14, 17 and 18 at its place, 19 of the whole; 13 and 15 of the old name, and what is tried after 19
-  fair-making : (m : Making) (thirteen fifteen late : List Check) → 1 ≤ m .place → Every FairCheck thirteen → Every FairCheck fifteen
-      → Every FairCheck late → FairPlanned reply (making t m thirteen fifteen late)
+  fair-making : (m : Making) (thirteen fifteen late : List Check) → ((n : ℕ) → ofChain n ≡ true → Fair names (refusalAt n (m .place)))
+      → Every (FairCheck names) thirteen → Every (FairCheck names) fifteen → Every (FairCheck names) late
+      → FairPlanned names reply (making t m thirteen fifteen late)
   unfolding making
-  fair-making m thirteen fifteen late l a b c =
+  fair-making m thirteen fifteen late at a b c =
       record {
         checks =
-            every-append FairCheck (thirteen ++ writeInhibited (m .place) (m .directory) ∷ fifteen) _
-            (every-append FairCheck thirteen _ a (fair-at 14 (m .place) 0 refl l, b))
-            (fair-at 17 (m .place) 0 refl l, (fair-at 18 (m .place) 0 refl l, (fair-line 19 0 refl, c)));
+            every-append (FairCheck names) (thirteen ++ writeInhibited (m .place) (m .directory) ∷ fifteen) _
+            (every-append (FairCheck names) thirteen _ a (at 14 refl, b))
+            (at 17 refl, (at 18 refl, (fair-line names 19 refl, c)));
         fits = λ h. omega arith;
       }
 
-  pub fair-crdPlan : (w : Word) (level code : Part) → FairPlanned reply (crdPlan t u w level code)
+  pub fair-crdPlan : (w : Word) (level code : Part) → Chained names 1 w → FairPlanned names reply (crdPlan t u w level code)
   unfolding crdPlan
-  fair-crdPlan w level code = fair-holder 1 w _ (omega arith) (λ d. fair-making _ [] [] [] (omega arith) tt tt tt)
+  fair-crdPlan w level code c =
+      fair-toHolder names reply 1 w c t u _ (λ d. fair-making _ [] [] [] (λ n e. fair-end names n 1 w e c) tt tt tt)
 
-  pub fair-wrsPlan : (text : List ℕ) (lifetime : ℕ) (level code : Part) (w : Word) → FairPlanned reply (wrsPlan t u text lifetime level code w)
+  pub fair-wrsPlan : (text : List ℕ) (lifetime : ℕ) (level code : Part) (w : Word) → Chained names 2 w
+      → FairPlanned names reply (wrsPlan t u text lifetime level code w)
   unfolding wrsPlan
-  fair-wrsPlan text lifetime level code w = fair-holder 2 w _ (omega arith) (λ d. fair-making _ [] [] [] (omega arith) tt tt tt)
+  fair-wrsPlan text lifetime level code w c =
+      fair-toHolder names reply 2 w c t u _ (λ d. fair-making _ [] [] [] (λ n e. fair-end names n 2 w e c) tt tt tt)
 
-  pub fair-cpyPlan : (v : ℕ) (old new : Word) (life lev code : Part) → FairPlanned reply (cpyPlan t v u old new life lev code)
+  pub fair-cpyPlan : (v : ℕ) (old new : Word) (life lev code : Part) → Chained names 1 old → Chained names 2 new → names 3 ≡ []
+      → FairPlanned names reply (cpyPlan t v u old new life lev code)
   unfolding cpyPlan
-  fair-cpyPlan v old new life lev code =
-      fair-end t reply v 1 old _ (omega arith) (λ _ f.
-      fair-holder 2 new _ (omega arith) (λ d.
-      fair-making _ _ _ _ (omega arith) (fair-at 13 1 0 refl (omega arith), tt) (fair-at 15 1 0 refl (omega arith), tt)
-      (fair-at 25 3 0 refl (omega arith), tt)))
+  fair-cpyPlan v old new life lev code c d z =
+      fair-toEnd names reply 1 old c t v _ (λ _ f.
+      fair-toHolder names reply 2 new d t u _ (λ _.
+      fair-making _ _ _ _ (λ n e. fair-end names n 2 new e d) (fair-end names 13 1 old refl c, tt) (fair-end names 15 1 old refl c, tt)
+      (fair-whole names 25 3 refl (omega arith) z, tt)))
 
   -- a give: 16 at its place
-  fair-taken : (to : Begin) (m : Making) → 1 ≤ m .place → Every FairCheck (linkTaken t to m)
-  fair-taken own m l = tt
-  fair-taken (takeOf n) m l = tt
-  fair-taken (giveTo n) m l = (fair-at 16 (m .place) 0 refl l, tt)
+  fair-taken : (to : Begin) (m : Making) → Fair names (refusalAt 16 (m .place)) → Every (FairCheck names) (linkTaken t to m)
+  fair-taken own m h = tt
+  fair-taken (takeOf n) m h = tt
+  fair-taken (giveTo n) m h = (h, tt)
 
-  pub fair-dupPlan : (v : ℕ) (to : Begin) (old new : Word) (code : Part) → FairPlanned reply (dupPlan t v u to old new code)
+  pub fair-dupPlan : (v : ℕ) (to : Begin) (old new : Word) (code : Part) → Chained names 1 old → Chained names 2 new
+      → FairPlanned names reply (dupPlan t v u to old new code)
   unfolding dupPlan
-  fair-dupPlan v to old new code =
-      fair-end t reply v 1 old _ (omega arith) (λ _ f.
-      fair-holder 2 new _ (omega arith) (λ d. fair-making _ [] _ [] (omega arith) tt (fair-taken to (linking t f d new code) (omega arith)) tt))
+  fair-dupPlan v to old new code c d =
+      fair-toEnd names reply 1 old c t v _ (λ _ f.
+      fair-toHolder names reply 2 new d t u _ (λ s.
+      fair-making _ [] _ [] (λ n e. fair-end names n 2 new e d) tt (fair-taken to (linking t f s new code) (fair-end names 16 2 new refl d)) tt))
 
   -- a plan of two checks that writes nothing
-  pub fair-chnPlan : (old link : Word) → FairPlanned reply (chnPlan t u old link)
+  pub fair-chnPlan : (old link : Word) → Chained names 1 old → names 2 ≡ [] → FairPlanned names reply (chnPlan t u old link)
   unfolding chnPlan
-  fair-chnPlan old link =
-      fair-end t reply u 1 old _ (omega arith) (λ _ _.
-      record { checks = (fair-at 14 1 0 refl (omega arith), (fair-at 16 2 0 refl (omega arith), tt)); fits = λ h. omega arith })
+  fair-chnPlan old link c z =
+      fair-toEnd names reply 1 old c t u _ (λ _ _.
+      record { checks = (fair-end names 14 1 old refl c, (fair-whole names 16 2 refl (omega arith) z, tt)); fits = λ h. omega arith })
 
-  pub fair-dprPlan : (w : Word) (code : ℕ) → FairPlanned reply (dprPlan t u w code)
+  pub fair-dprPlan : (w : Word) (code : ℕ) → Chained names 1 w → names 2 ≡ [] → FairPlanned names reply (dprPlan t u w code)
   unfolding dprPlan
-  fair-dprPlan w code =
-      fair-end t reply u 1 w _ (omega arith) (λ _ _.
-      record { checks = (fair-at 14 1 0 refl (omega arith), (fair-at 21 2 0 refl (omega arith), tt)); fits = λ h. omega arith })
+  fair-dprPlan w code c z =
+      fair-toEnd names reply 1 w c t u _ (λ _ _.
+      record { checks = (fair-end names 14 1 w refl c, (fair-whole names 21 2 refl (omega arith) z, tt)); fits = λ h. omega arith })
 
-  pub fair-delPlan : (place : ℕ) (w : Word) → 1 ≤ place → FairPlanned reply (delPlan t u place w)
+  pub fair-delPlan : (a : ℕ) (w : Word) → Chained names a w → FairPlanned names reply (delPlan t u a w)
   unfolding delPlan
-  fair-delPlan place w l =
-      fair-end t reply u place w _ l (λ _ _. record { checks = (fair-at 14 place 0 refl l, (fair-at 18 place 0 refl l, tt)); fits = λ h. omega arith })
+  fair-delPlan a w c =
+      fair-toEnd names reply a w c t u _ (λ _ _.
+      record { checks = (fair-end names 14 a w refl c, (fair-end names 18 a w refl c, tt)); fits = λ h. omega arith })
 
   -- a plan that writes: 20 where the buffer is too short
-  fair-showing : (cs late : List Check) (out : List ℕ) → Every FairCheck cs → Every FairCheck late → FairPlanned reply (showing cs out reply late)
+  fair-showing : (cs late : List Check) (out : List ℕ) → Every (FairCheck names) cs → Every (FairCheck names) late
+      → FairPlanned names reply (showing cs out reply late)
   fair-showing cs late out h l =
       record {
-        checks = every-append FairCheck cs _ h (fair-line 20 0 refl, l);
+        checks = every-append (FairCheck names) cs _ h (fair-line names 20 refl, l);
         fits = λ i. ltb-false _ _ (every-parts Idle cs (tooShort out reply ∷ late) i .1 .0);
       }
 
-  pub fair-rdsPlan : (w : Word) (first count : Part) → FairPlanned reply (rdsPlan t u reply w first count)
+  -- 13 and 15 of the name read or listed
+  fair-reading : (w : Word) → Chained names 1 w → (s : State) (fifteen : Check) (late : List Check) (out : List ℕ) → Fair names (fifteen .refusal)
+      → Every (FairCheck names) late → FairPlanned names reply (showing (readInhibited (endOf 1 w) s ∷ fifteen ∷ []) out reply late)
+  fair-reading w c s fifteen late out h l =
+      fair-showing (readInhibited (endOf 1 w) s ∷ fifteen ∷ []) late out (fair-end names 13 1 w refl c, (h, tt)) l
+
+  -- .. and 28
+  pub fair-rdsPlan : (w : Word) (first count : Part) → Chained names 1 w → names 2 ≡ [] → FairPlanned names reply (rdsPlan t u reply w first count)
   unfolding rdsPlan
-  fair-rdsPlan w first count =
-      fair-end t reply u 1 w _ (omega arith) (λ _ f.
-      fair-showing (readInhibited 1 f ∷ notSimple 1 t f ∷ []) _ _ (fair-at 13 1 0 refl (omega arith), (fair-at 15 1 0 refl (omega arith), tt))
-      (fair-at 28 2 0 refl (omega arith), tt))
+  fair-rdsPlan w first count c z =
+      fair-toEnd names reply 1 w c t u _ (λ _ f.
+      fair-reading w c f (notSimple (endOf 1 w) t f) _ _ (fair-end names 15 1 w refl c) (fair-whole names 28 2 refl (omega arith) z, tt))
 
-  pub fair-lstPlan : (w : Word) → FairPlanned reply (lstPlan t u reply w)
+  pub fair-lstPlan : (w : Word) → Chained names 1 w → FairPlanned names reply (lstPlan t u reply w)
   unfolding lstPlan
-  fair-lstPlan w =
-      fair-end t reply u 1 w _ (omega arith) (λ _ f.
-      fair-showing (readInhibited 1 f ∷ noDirectory 1 t f ∷ []) [] _ (fair-at 13 1 0 refl (omega arith), (fair-at 15 1 0 refl (omega arith), tt)) tt)
+  fair-lstPlan w c =
+      fair-toEnd names reply 1 w c t u _ (λ _ f. fair-reading w c f (noDirectory (endOf 1 w) t f) [] _ (fair-end names 15 1 w refl c) tt)
 
-  pub fair-lstBasePlan : FairPlanned reply (lstBasePlan t u reply)
+  pub fair-lstBasePlan : FairPlanned names reply (lstBasePlan t u reply)
   unfolding lstBasePlan
   fair-lstBasePlan = fair-showing [] [] _ tt tt

@@ -10,6 +10,8 @@ use Rattle.paper.specs.Request.{Request, crd, wrs, rds, cpy, dup, chn, del, dpr
 use Rattle.paper.specs.Effect.{listOf, begun, Planned, crdPlan, wrsPlan, rdsPlan, cpyPlan, dupPlan, chnPlan, dprPlan, lstPlan, lstBasePlan}
 use Rattle.paper.specs.Answer.{refusing, ran, single, deleting, granted, requested}
 use Rattle.demands.proofs.Request.Fair.{Fair}
+use Rattle.demands.proofs.Request.Chains.{namesAt}
+use Rattle.demands.proofs.Request.Spoken.{Spoken}
 use Rattle.demands.proofs.Request.Course.{Course, untried, tried, course}
 use Rattle.demands.proofs.Answered.Numbered.{FairPlanned, fair-crdPlan, fair-wrsPlan, fair-rdsPlan, fair-cpyPlan, fair-dupPlan, fair-chnPlan, fair-dprPlan, fair-lstPlan, fair-lstBasePlan}
 
@@ -28,38 +30,43 @@ isDel lstBase = false
 -- the three ways of a request, each the same for every stop number
 pub data Came (t line text reply : List ℕ) (u : ℕ) : Type 0 where
   -- refused before it is tried
-  lent : (f : Refusal) → Fair f → ((k : ℕ) → requested t line text reply u k ≡ refusing t reply f) → Came t line text reply u
+  lent : (f : Refusal) → Fair (namesAt line) f → ((k : ℕ) → requested t line text reply u k ≡ refusing t reply f) → Came t line text reply u
   -- tried by one plan
-  planned : (r : Request) → asked line text ≡ request r → isDel r ≡ false → (p : Planned) → FairPlanned reply p
+  planned : (r : Request) → asked line text ≡ request r → isDel r ≡ false → (p : Planned) → FairPlanned (namesAt line) reply p
       → ((k : ℕ) → requested t line text reply u k ≡ single t reply k (ran k p)) → Came t line text reply u
   -- a DEL
-  deletes : (ws : List Word) → asked line text ≡ request (del ws) → ((k : ℕ) → requested t line text reply u k ≡ deleting t u reply k 0 0 ws)
+  deletes : (ws : List Word) → asked line text ≡ request (del ws) → Spoken (namesAt line) (del ws)
+      → ((k : ℕ) → requested t line text reply u k ≡ deleting t u reply k 0 0 ws)
       → Came t line text reply u
 
 pub came : (t line text reply : List ℕ) (u : ℕ) → Came t line text reply u
 unfolding granted
 came t line text reply u = go (course t line text reply u)
   where
-    grants : (r : Request) → asked line text ≡ request r → ((k : ℕ) → requested t line text reply u k ≡ granted t text reply u k r) → Came t line text reply u
-    grants (crd w level code) q = planned (crd w level code) q refl (crdPlan t u w level code) (fair-crdPlan t reply u w level code)
-    grants (wrs lifetime level code w) q =
-        planned (wrs lifetime level code w) q refl (wrsPlan t u text lifetime level code w) (fair-wrsPlan t reply u text lifetime level code w)
-    grants (rds from w first count) q =
+    names : ℕ → List (List ℕ)
+    names = namesAt line
+
+    grants : (r : Request) → asked line text ≡ request r → Spoken names r → ((k : ℕ) → requested t line text reply u k ≡ granted t text reply u k r)
+        → Came t line text reply u
+    grants (crd w level code) q s = planned (crd w level code) q refl (crdPlan t u w level code) (fair-crdPlan names t reply u w level code s)
+    grants (wrs lifetime level code w) q s =
+        planned (wrs lifetime level code w) q refl (wrsPlan t u text lifetime level code w) (fair-wrsPlan names t reply u text lifetime level code w s)
+    grants (rds from w first count) q s =
         planned (rds from w first count) q refl (rdsPlan t (listOf u from) reply (begun from w) first count)
-        (fair-rdsPlan t reply (listOf u from) (begun from w) first count)
-    grants (cpy from old new lifetime level code) q =
+        (fair-rdsPlan names t reply (listOf u from) (begun from w) first count (s .0) (s .1))
+    grants (cpy from old new lifetime level code) q s =
         planned (cpy from old new lifetime level code) q refl (cpyPlan t (listOf u from) u (begun from old) new lifetime level code)
-        (fair-cpyPlan t reply u (listOf u from) (begun from old) new lifetime level code)
-    grants (dup from old to new code) q =
+        (fair-cpyPlan names t reply u (listOf u from) (begun from old) new lifetime level code (s .0) (s .1 .0) (s .1 .1))
+    grants (dup from old to new code) q s =
         planned (dup from old to new code) q refl (dupPlan t (listOf u from) (listOf u to) to (begun from old) (begun to new) code)
-        (fair-dupPlan t reply (listOf u to) (listOf u from) to (begun from old) (begun to new) code)
-    grants (chn old link) q = planned (chn old link) q refl (chnPlan t u old link) (fair-chnPlan t reply u old link)
-    grants (del ws) q = deletes ws q
-    grants (dpr w code) q = planned (dpr w code) q refl (dprPlan t u w code) (fair-dprPlan t reply u w code)
-    grants (lst from w) q =
-        planned (lst from w) q refl (lstPlan t (listOf u from) reply (begun from w)) (fair-lstPlan t reply (listOf u from) (begun from w))
-    grants lstBase q = planned lstBase q refl (lstBasePlan t u reply) (fair-lstBasePlan t reply u)
+        (fair-dupPlan names t reply (listOf u to) (listOf u from) to (begun from old) (begun to new) code (s .0) (s .1))
+    grants (chn old link) q s = planned (chn old link) q refl (chnPlan t u old link) (fair-chnPlan names t reply u old link (s .0) (s .1))
+    grants (del ws) q s = deletes ws q s
+    grants (dpr w code) q s = planned (dpr w code) q refl (dprPlan t u w code) (fair-dprPlan names t reply u w code (s .0) (s .1))
+    grants (lst from w) q s =
+        planned (lst from w) q refl (lstPlan t (listOf u from) reply (begun from w)) (fair-lstPlan names t reply (listOf u from) (begun from w) s)
+    grants lstBase q s = planned lstBase q refl (lstBasePlan t u reply) (fair-lstBasePlan names t reply u)
 
     go : Course t line text reply u → Came t line text reply u
     go (untried f h e) = lent f h e
-    go (tried r h e) = grants r (h .asked) e
+    go (tried r h e) = grants r (h .asked) (h .spoken) e

@@ -16,7 +16,7 @@ use Rattle.paper.specs.Request.{Begin}
 use Rattle.paper.specs.Block.{fileText}
 use Rattle.paper.specs.Walk.{State, file, reached, toLast, lastName}
 use Rattle.paper.specs.Store.{puts}
-use Rattle.paper.specs.Effect.{Planned, plan, halted, chainOf, toHolder, toEnd, Making, borne, placing, needed, readInhibited, writeInhibited, notSimple, tooLow, making, filing, crdPlan, wrsPlan, cpyPlan, dupPlan, chnPlan, dprPlan, delPlan, rdsPlan, lstPlan, lstBasePlan}
+use Rattle.paper.specs.Effect.{Planned, plan, halted, chainOf, toHolder, toEnd, Making, borne, placing, needed, writeInhibited, making, filing, crdPlan, wrsPlan, cpyPlan, dupPlan, chnPlan, dprPlan, delPlan, rdsPlan, lstPlan, lstBasePlan}
 use Rattle.laws.proofs.Lists.{Every, every-parts}
 use Rattle.laws.proofs.Fields.{entry-record-kind, length-entry}
 use Rattle.laws.proofs.Entries.{found-stands}
@@ -100,7 +100,7 @@ module _ (t : List ℕ) (c : Sound t) where
       let source : List ℕ = rec t (file t f) in
       let body : List ℕ = fileText t (file t f) in
       filing-safe 2 new d 1 (orElse lev (level source)) (orElse code 0) (orElse life (lifetime source)) (length body) body
-      (readInhibited 1 f ∷ []) (notSimple 1 t f ∷ []) (tooLow 3 lev source ∷ []) l))
+      _ _ _ l))
 
   pub dup-safe : (v u : ℕ) (to : Begin) (old new : Word) (code : Part) → length (lastName (chainOf new)) ≤ 10
       → Safe t (dupPlan t v u to old new code)

@@ -89,6 +89,28 @@ instead-formed n s (m ∷ ms) p e =
     let q = s .point in
     rw (s .link, b, q, c, s .dash ms)
 
+-- .. and as long
+instead-long : (n : List ℕ) → Shelf n → (ns : List (List ℕ)) → pointed (getD ns 0 []) ≡ true → length (chain ns) ≡ length (chain (n ∷ drop 1 ns))
+unfolding chain pointed
+instead-long n s [] p = absurd (true≢false (sym p))
+instead-long n s (m ∷ ms) p = let q = s .point in rw (p, q)
+
+begun-long : (n : List ℕ) → Shelf n → (from : Begin) (w : Word) → begun from w ≡ instead n w
+    → length (chain (w .names)) ≡ length (chain (begun (cond (userName (firstName w)) from own) w .names))
+begun-long n s from w q = go (userName (firstName w)) refl
+  where
+    go : (b : Bool) → userName (firstName w) ≡ b → length (chain (w .names)) ≡ length (chain (begun (cond b from own) w .names))
+    go true e = rw q (instead-long n s (w .names) (user-pointed _ e))
+    go false e = refl
+
+pub old-long : (w : Word) → length (chain (w .names)) ≡ length (chain (begun (oldFrom w) w .names))
+unfolding oldFrom
+old-long w = begun-long dotT take-shelf (takeOf (userNumber (firstName w))) w refl
+
+pub new-long : (w : Word) → length (chain (w .names)) ≡ length (chain (begun (newTo w) w .names))
+unfolding newTo
+new-long w = begun-long dotG give-shelf (giveTo (userNumber (firstName w))) w refl
+
 instead-legal : (n : List ℕ) → Shelf n → (ns : List (List ℕ)) → legalBase (baseName (n ∷ ns)) ≡ true
 unfolding chain
 instead-legal n s ns = rw (s .point) (s .legal)

@@ -11,6 +11,8 @@ use Rattle.paper.specs.Request.{Request, Read, request, unread, asked}
 use Rattle.paper.specs.Sound.{sound}
 use Rattle.paper.specs.Answer.{refusing, granted, entrance, requested}
 use Rattle.demands.proofs.Request.Fair.{Fair, verdict-idle, verdict-fair, fair-line}
+use Rattle.demands.proofs.Request.Chains.{namesAt}
+use Rattle.demands.proofs.Request.Spoken.{Spoken, Said, said}
 use Rattle.demands.proofs.Request.Read.{Told, Right, read-right}
 
 -- what the entrance let through, and the reader gave
@@ -20,6 +22,12 @@ pub record Admitted (t line text : List ℕ) (u : ℕ) (r : Request) : Type 0 wh
   pub user : u ≤ 999999
   pub asked : asked line text ≡ request r
   pub told : Told text r
+  pub spoken : Spoken (namesAt line) r
+
+-- 1, 2 and 3
+pub entrance-fair : (names : ℕ → List (List ℕ)) (t : List ℕ) (u : ℕ) (f : Refusal) → entrance t u ≡ refused f → Fair names f
+unfolding entrance
+entrance-fair names t u f p = verdict-fair names _ f (fair-line names 1 refl, (fair-line names 2 refl, (fair-line names 3 refl, tt))) p
 
 -- what was read is tried where the entrance lets it through
 pub admits : (t line text reply : List ℕ) (u k : ℕ) (r : Request) → sized t ≡ true → sound t ≡ true → u ≤ 999999 → asked line text ≡ request r
@@ -28,7 +36,7 @@ unfolding requested entrance verdict
 admits t line text reply u k r z c l q = rw (z, c, le-ltb 999999 u l, q)
 
 pub data Course (t line text reply : List ℕ) (u : ℕ) : Type 0 where
-  untried : (f : Refusal) → Fair f → ((k : ℕ) → requested t line text reply u k ≡ refusing t reply f) → Course t line text reply u
+  untried : (f : Refusal) → Fair (namesAt line) f → ((k : ℕ) → requested t line text reply u k ≡ refusing t reply f) → Course t line text reply u
   tried : (r : Request) → Admitted t line text u r → ((k : ℕ) → requested t line text reply u k ≡ granted t text reply u k r)
       → Course t line text reply u
 
@@ -36,9 +44,9 @@ pub course : (t line text reply : List ℕ) (u : ℕ) → Course t line text rep
 unfolding requested entrance
 course t line text reply u = enters (entrance t u) refl
   where
-    reads : entrance t u ≡ passed → (x : Read) → asked line text ≡ x → Right text x → Course t line text reply u
-    reads p (unread f) q h = untried f h (λ k. rw (p, q))
-    reads p (request r) q h =
+    reads : entrance t u ≡ passed → (x : Read) → asked line text ≡ x → Right text x → Said (namesAt line) x → Course t line text reply u
+    reads p (unread f) q h s = untried f s (λ k. rw (p, q))
+    reads p (request r) q h s =
         let i = verdict-idle _ p in
         tried r (record {
           sized = not-false (sized t) (i .0);
@@ -46,10 +54,11 @@ course t line text reply u = enters (entrance t u) refl
           user = ltb-false _ _ (i .1 .1 .0);
           asked = q;
           told = h;
+          spoken = s;
         })
         (λ k. rw (p, q))
 
     enters : (v : Verdict) → entrance t u ≡ v → Course t line text reply u
-    enters passed p = reads p (asked line text) refl (read-right line text)
+    enters passed p = reads p (asked line text) refl (read-right line text) (said line text)
     enters (refused f) p =
-        untried f (verdict-fair _ f (fair-line 1 0 refl, (fair-line 2 0 refl, (fair-line 3 0 refl, tt))) p) (λ k. rw p)
+        untried f (entrance-fair (namesAt line) t u f p) (λ k. rw p)

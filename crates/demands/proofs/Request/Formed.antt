@@ -51,18 +51,20 @@ links-chain (n ∷ ns) e = go (pointed n)
     go true = e
     go false = e
 
--- a legal base name is a name, so there is a chain
-chain-some : (ns : List (List ℕ)) → legalBase (baseName ns) ≡ true → 0 < length (chain ns)
+-- where there is a name there is a chain
+pub chain-some : (ns : List (List ℕ)) → 0 < length ns → 0 < length (chain ns)
+unfolding chain
+chain-some [] l = l
+chain-some (n ∷ ns) l = either (λ (s : List (List ℕ)). 0 < length s) (pointed n) (n ∷ ns) (dotW ∷ n ∷ ns) l (omega arith)
+
+-- a legal base name is a name
+based-some : (ns : List (List ℕ)) → legalBase (baseName ns) ≡ true → 0 < length ns
 unfolding chain legalBase same pointed
-chain-some [] e = absurd (true≢false (sym e))
-chain-some (n ∷ ns) e = go (pointed n)
-  where
-    go : (b : Bool) → 0 < length (cond b (n ∷ ns) (dotW ∷ n ∷ ns))
-    go true = omega arith
-    go false = omega arith
+based-some [] e = absurd (true≢false (sym e))
+based-some (n ∷ ns) e = omega arith
 
 pub named-some : (w : Word) → Named w → 0 < length (chain (w .names))
-named-some w n = chain-some (w .names) (n .legal)
+named-some w n = chain-some (w .names) (based-some (w .names) (n .legal))
 
 pub named-last : (w : Word) → Named w → Last w
 unfolding lastName

@@ -1,5 +1,5 @@
--- What reading gives: a request as its function needs it, or a fair refusal. A reader is a few checks in number order, so a request
--- comes out only where none of them held, and each fact of it is the opposite of a check.
+-- What reading gives: a request as its function needs it. A reader is a few checks in number order, so a request comes out only where
+-- none of them held, and each fact of it is the opposite of a check.
 use mathlib.Core.Bool.{Bool, true, false, _&&_, not, true≢false}
 use mathlib.Core.List.{List, [], _∷_, _++_, append-nil}
 use mathlib.Core.Path.{_≡_, sym, refl, subst}
@@ -14,14 +14,14 @@ use Rattle.paper.specs.Name.{linkName, chain, wellFormed, legalBase, baseName, 
 use Rattle.paper.specs.Declaration.{Part, given, notGiven, isGiven, Parts, fits, fitWrs, fitCpy, fitDup, wrsLifetime, dprCode}
 use Rattle.paper.specs.Line.{Word, words, word, legalLine}
 use Rattle.paper.specs.Octal.{partOf}
-use Rattle.paper.specs.Check.{Check, check, Verdict, passed, refused, verdict}
+use Rattle.paper.specs.Check.{whole, Check, check, Verdict, passed, refused, verdict}
 use Rattle.paper.specs.Request.{declaredAt, octalAt, partsAt, Begin, oldFrom, isTake, isTakeWithin, illegalBut, Request, crd, wrs, rds, cpy, dup, chn, del, dpr, lst, lstBase, Read, request, unread, after, needed, readAs, counted, miscounted, malformed, illegal, unfit, each, between, misnamed, readCrd, readWrs, readRds, readLst, readCpy, readDup, linkAlone, readChn, readDpr, readDel, isFunction, readFunction, read, textTooLong, withText, asked}
 use Rattle.paper.specs.Walk.{lastName}
 use Rattle.paper.specs.Effect.{begun}
 use Rattle.laws.proofs.Tests.{and-left, and-right, and-parts, either}
-use Rattle.laws.proofs.Lists.{Every, every-at, every-append, every-parts, every-both}
+use Rattle.laws.proofs.Lists.{Every, every-at, every-parts, every-both}
 use Rattle.demands.proofs.Request.Formed.{Named, Within, lettered-at, fits-parts, taking-given, medium-long, may-medium-long}
-use Rattle.demands.proofs.Request.Fair.{Idle, verdict-idle, Fair, FairCheck, verdict-fair, fair-line, fair-at}
+use Rattle.demands.proofs.Request.Fair.{Idle, verdict-idle}
 use Rattle.demands.proofs.Request.Begun.{old-named, new-named, Gives}
 
 -- ---- what each function is told
@@ -143,73 +143,52 @@ based-by false b e f = absurd (true≢false (sym f))
 
 -- ---- the readers
 
--- a request that is told all it needs, once its text is not too long; or a fair refusal
+-- a request that is told all it needs, once its text is not too long
 abbrev Heard : List ℕ → Read → Type 0
 Heard text (request r) = textTooLong r text ≡ false → Told text r
-Heard text (unread f) = Fair f
+Heard text (unread f) = Unit {0}
 
-heard-after : (text : List ℕ) (x : Read) (cs : List Check) → Every FairCheck cs → (Every Idle cs → Heard text x) → Heard text (after (verdict cs) x)
-heard-after text x cs f h = go (verdict cs) refl
+heard-after : (text : List ℕ) (x : Read) (cs : List Check) → (Every Idle cs → Heard text x) → Heard text (after (verdict cs) x)
+heard-after text x cs h = go (verdict cs) refl
   where
     go : (v : Verdict) → verdict cs ≡ v → Heard text (after v x)
     go passed e = h (verdict-idle cs e)
-    go (refused g) e = verdict-fair cs g f e
+    go (refused g) e = tt
 
--- a request with a part that it needs, or 9
-heard-needed : (text : List ℕ) (place : ℕ) (p : Part) (r : ℕ → Request) → 1 ≤ place → ((n : ℕ) → p ≡ given n → Heard text (request (r n)))
+-- a request with a part that it needs
+heard-needed : (text : List ℕ) (place : ℕ) (p : Part) (r : ℕ → Request) → ((n : ℕ) → p ≡ given n → Heard text (request (r n)))
     → Heard text (needed place p r)
-heard-needed text place (given n) r l h = h n refl
-heard-needed text place notGiven r l h = fair-at 9 place 0 refl l
-
-each-fair : (f : ℕ → Word → Check) → ((p : ℕ) (w : Word) → 1 ≤ p → FairCheck (f p w)) → (p : ℕ) (ws : List Word) → 1 ≤ p → Every FairCheck (each f p ws)
-unfolding each
-each-fair f h p [] l = tt
-each-fair f h p (w ∷ ws) l = (h p w l, each-fair f h (p + 1) ws (omega arith))
-
-fair-misnamed : (a b : ℕ) (line : List ℕ) → 1 ≤ a → Every FairCheck (misnamed a b line)
-fair-misnamed a b line l =
-    every-append FairCheck (each malformed a (between a b line)) _
-    (each-fair malformed (λ p w. fair-at 7 p _ refl) a _ l) (each-fair illegal (λ p w. fair-at 8 p 1 refl) a _ l)
-
--- the refusals of CPY and DUP: the count, 7 and 8 of both names, 9
-abbrev fair : ℕ → ℕ → ℕ → Type 0
-fair number place link = Fair (record { number = number; place = place; link = link })
-
-two-names : (i j : ℕ) → fair 6 0 0 × (fair 7 1 i × (fair 7 2 j × (fair 8 1 1 × (fair 8 2 1 × (fair 9 3 0 × Unit {0})))))
-two-names i j =
-    let eight : fair 8 1 1 × (fair 8 2 1 × (fair 9 3 0 × Unit {0})) =
-    (fair-at 8 1 1 refl (omega arith), (fair-at 8 2 1 refl (omega arith), (fair-at 9 3 0 refl (omega arith), tt))) in
-    (fair-line 6 0 refl, (fair-at 7 1 i refl (omega arith), (fair-at 7 2 j refl (omega arith), eight)))
+heard-needed text place (given n) r h = h n refl
+heard-needed text place notGiven r h = tt
 
 module _ (line text : List ℕ) where
   -- the usual reader: the count, the names from word a up to b, and the checks after them
-  reader : (least most a b : ℕ) (cs : List Check) (x : Read) → 1 ≤ a → Every FairCheck cs
+  reader : (least most a b : ℕ) (cs : List Check) (x : Read)
       → (least ≤ length (words line) - 1 → length (words line) - 1 ≤ most → Every Named (between a b line) → Every Idle cs → Heard text x)
       → Heard text (after (verdict (miscounted least most line ∷ misnamed a b line ++ cs)) x)
-  reader least most a b cs x l f h =
-      heard-after text x _ (fair-line 6 0 refl, every-append FairCheck (misnamed a b line) cs (fair-misnamed a b line l) f)
-      (λ i.
+  reader least most a b cs x h =
+      heard-after text x _ (λ i.
       let n = counted-by least most line (i .0) in
       let g = every-parts Idle (misnamed a b line) cs (i .1) in
       h (n .0) (n .1) (all-named a b line (g .0)) (g .1))
 
   -- .. and nothing after them
-  reader-names : (least most a b : ℕ) (x : Read) → 1 ≤ a
+  reader-names : (least most a b : ℕ) (x : Read)
       → (least ≤ length (words line) - 1 → length (words line) - 1 ≤ most → Every Named (between a b line) → Heard text x)
       → Heard text (after (verdict (miscounted least most line ∷ misnamed a b line)) x)
-  reader-names least most a b x l h = rw append-nil at (reader least most a b [] x l tt (λ n m w _. h n m w))
+  reader-names least most a b x h = rw append-nil at (reader least most a b [] x (λ n m w _. h n m w))
 
   heard-crd : Heard text (readCrd line)
   unfolding readCrd
   heard-crd =
-      reader 1 2 1 2 _ _ (omega arith) (fair-at 9 2 0 refl (omega arith), tt) (λ n m w g _.
+      reader 1 2 1 2 _ _ (λ n m w g _.
       record { name = name-at 1 1 2 1 line refl n w; level = lettered-at line 2 .level; code = lettered-at line 2 .code })
 
   heard-wrs : Heard text (readWrs line)
   unfolding readWrs
   heard-wrs =
-      reader-names 2 2 2 3 _ (omega arith) (λ n m w.
-      heard-needed text 1 (wrsLifetime (declaredAt line 1)) _ (omega arith) (λ life e short.
+      reader-names 2 2 2 3 _ (λ n m w.
+      heard-needed text 1 (wrsLifetime (declaredAt line 1)) _ (λ life e short.
       let p = partsAt line 1 in
       let t = taking-given fitWrs (λ p. p .lifetime) (declaredAt line 1) life e in
       record {
@@ -221,28 +200,26 @@ module _ (line text : List ℕ) where
       }))
 
   -- the count, a name that may be a take, and the checks after it
-  take-read : (most : ℕ) (late : List Check) (r : Request) → Every FairCheck late → (Named (begun (oldFrom (word line 1)) (word line 1)) → Told text r)
+  take-read : (most : ℕ) (late : List Check) (r : Request) → (Named (begun (oldFrom (word line 1)) (word line 1)) → Told text r)
       → Heard text (readAs r (verdict (miscounted 1 most line ∷ malformed 1 (word line 1) ∷ illegalBut isTake 1 (word line 1) ∷ late)))
-  take-read most late r fair told =
-      heard-after text (request r) _ (fair-line 6 0 refl, (fair-at 7 1 _ refl (omega arith), (fair-at 8 1 1 refl (omega arith), fair)))
-      (λ h _. told (old-named isTake 1 (word line 1) (λ e. e) (h .1 .0) (h .1 .1 .0)))
+  take-read most late r told =
+      heard-after text (request r) _ (λ h _. told (old-named isTake 1 (word line 1) (λ e. e) (h .1 .0) (h .1 .1 .0)))
 
   heard-rds : Heard text (readRds line)
   unfolding readRds
   heard-rds =
-      take-read 3 _ (rds (oldFrom (word line 1)) (word line 1) (partOf (octalAt line 2)) (partOf (octalAt line 3)))
-      (fair-at 27 2 0 refl (omega arith), (fair-at 27 3 0 refl (omega arith), tt)) (λ n. n)
+      take-read 3 _ (rds (oldFrom (word line 1)) (word line 1) (partOf (octalAt line 2)) (partOf (octalAt line 3))) (λ n. n)
 
   heard-lst : Heard text (readLst line)
   unfolding readLst
   heard-lst =
-      either (Heard text) (lonePoint (word line 1 .names)) _ _ (heard-after text (request lstBase) _ (fair-line 6 0 refl, tt) (λ _ _. tt))
-      (take-read 1 [] (lst (oldFrom (word line 1)) (word line 1)) tt (λ n. n))
+      either (Heard text) (lonePoint (word line 1 .names)) _ _ (heard-after text (request lstBase) _ (λ _ _. tt))
+      (take-read 1 [] (lst (oldFrom (word line 1)) (word line 1)) (λ n. n))
 
   heard-cpy : Heard text (readCpy line)
   unfolding readCpy
   heard-cpy =
-      heard-after text _ _ (two-names _ _) (λ h _.
+      heard-after text _ _ (λ h _.
       let p = partsAt line 3 in
       let g = h .1 .1 .1 .1 .1 .0 in
       record {
@@ -256,7 +233,7 @@ module _ (line text : List ℕ) where
   heard-dup : Heard text (readDup line)
   unfolding readDup
   heard-dup =
-      heard-after text _ _ (two-names _ _) (λ h _.
+      heard-after text _ _ (λ h _.
       let w = new-named 2 (word line 2) (h .1 .1 .0) (h .1 .1 .1 .1 .0) in
       record {
         old = old-named isTakeWithin 1 (word line 1) (λ e. and-left (isTake (word line 1)) _ e) (h .1 .0) (h .1 .1 .1 .0);
@@ -268,14 +245,7 @@ module _ (line text : List ℕ) where
   heard-chn : Heard text (readChn line)
   unfolding readChn
   heard-chn =
-      heard-after text _ _ (
-        fair-line 6 0 refl,
-        (
-          fair-at 7 1 _ refl (omega arith),
-          (fair-at 7 2 0 refl (omega arith), (fair-at 8 1 1 refl (omega arith), (fair-at 8 2 0 refl (omega arith), tt))),
-        ),
-      )
-      (λ h _.
+      heard-after text _ _ (λ h _.
       let l = link-alone (word line 2 .names) (not-false _ (h .1 .1 .0)) in
       record {
         old = record { formed = not-false _ (h .1 .0); legal = not-false _ (h .1 .1 .1 .0) };
@@ -288,7 +258,7 @@ module _ (line text : List ℕ) where
   heard-del : Heard text (readDel line)
   unfolding readDel between
   heard-del =
-      reader-names 1 8 1 (length (words line)) _ (omega arith) (λ n m w _.
+      reader-names 1 8 1 (length (words line)) _ (λ n m w _.
       let l : length (drop 1 (words line)) ≡ length (words line) - 1 = length-drop 1 (words line) in
       record {
         names = subst (Every Named) (take-all (length (words line) - 1) (drop 1 (words line)) (omega arith)) w;
@@ -299,8 +269,8 @@ module _ (line text : List ℕ) where
   heard-dpr : Heard text (readDpr line)
   unfolding readDpr
   heard-dpr =
-      reader-names 2 2 1 2 _ (omega arith) (λ n m w.
-      heard-needed text 2 (dprCode (declaredAt line 2)) _ (omega arith) (λ code e _.
+      reader-names 2 2 1 2 _ (λ n m w.
+      heard-needed text 2 (dprCode (declaredAt line 2)) _ (λ code e _.
       let t = taking-given fitDup (λ p. p .code) (declaredAt line 2) code e in
       let l : Within 0 7 (given code) = rw (t .1) at (lettered-at line 2 .code) in
       record { name = name-at 2 1 2 1 line refl n w; code = l .1 }))
@@ -317,25 +287,25 @@ module _ (line text : List ℕ) where
       (either (Heard text) (isFunction 68 69 76 line) _ _ heard-del
       (either (Heard text) (isFunction 68 80 82 line) _ _ heard-dpr
       (either (Heard text) (isFunction 76 83 84 line) _ _ heard-lst
-      (fair-line 5 0 refl)))))))))
+      tt))))))))
 
   heard : Heard text (read line)
   unfolding read
-  heard = either (Heard text) (legalLine line) _ _ heard-function (fair-line 4 0 refl)
+  heard = either (Heard text) (legalLine line) _ _ heard-function tt
 
--- a request with all that its function needs, or a fair refusal
+-- a request with all that its function needs
 abbrev pub Right : List ℕ → Read → Type 0
 Right text (request r) = Told text r
-Right text (unread f) = Fair f
+Right text (unread f) = Unit {0}
 
 pub read-right : (line text : List ℕ) → Right text (asked line text)
 unfolding asked
 read-right line text = go (read line) (heard line text)
   where
     go : (x : Read) → Heard text x → Right text (withText text x)
-    go (request r) h = ended (verdict (check (textTooLong r text) 10 0 ∷ [])) refl
+    go (request r) h = ended (verdict (check (textTooLong r text) 10 (whole 0) ∷ [])) refl
       where
-        ended : (v : Verdict) → verdict (check (textTooLong r text) 10 0 ∷ []) ≡ v → Right text (readAs r v)
+        ended : (v : Verdict) → verdict (check (textTooLong r text) 10 (whole 0) ∷ []) ≡ v → Right text (readAs r v)
         ended passed e = h (verdict-idle _ e .0)
-        ended (refused f) e = verdict-fair _ f (fair-line 10 0 refl, tt) e
+        ended (refused f) e = tt
     go (unread f) h = h

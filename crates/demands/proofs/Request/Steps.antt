@@ -1,15 +1,19 @@
 -- What a walk does, on any table: each link looks its name up among the entries that stand where the walk is, and enters a directory.
--- It stops with 11, 12 or 13 alone; so what holds of a halted plan, and of the plan where the walks end, holds of the whole.
+-- It stops with 11, 12 or 13 alone, at a link of its chain; so what holds of a halted plan, and of the plan where the walks end, holds of the whole.
 use mathlib.Core.Bool.{Bool, true, false, not, cond}
 use mathlib.Core.List.{List, [], _∷_}
 use mathlib.Core.Logic.{_⊎_, inl, inr}
-use mathlib.Core.Path.{_≡_, refl, ap, _∙_, subst}
-use Prim.Native.Nat.{ℕ, suc, _<_}
+use mathlib.Core.Path.{_≡_, refl, sym, ap, _∙_, subst}
+use Prim.Native.Nat.{ℕ, suc, _+_, _≤_, _<_}
+use native.Mathlib.Omega.{arith}
 use lib.ListN.{length}
+use lib.Dec.{eqb}
+use borrow.Author.Tests.{ne-eqb}
 use Rattle.paper.specs.Scan.{Found, at, nowhere}
 use Rattle.paper.specs.Record.{directory, nameOf}
 use Rattle.paper.specs.Table.{rooms, rec}
 use Rattle.paper.specs.Line.{Word}
+use Rattle.paper.specs.Check.{atLink, refusalAt}
 use Rattle.paper.specs.Code.{noRead}
 use Rattle.paper.specs.Entry.{inDirectory, find}
 use Rattle.paper.specs.Walk.{State, start, applies, file, Step, on, off, looked, look, enter, then, follow, Walked, reached, stopped, linked, toDirectory, lastName, toLast, lastFrom, endFrom, ended}
@@ -86,10 +90,6 @@ abbrev Steps : Step → Type 0
 Steps (on s) = Unit {0}
 Steps (off n) = Walks n
 
-abbrev Stops : Walked → Type 0
-Stops (reached s) = Unit {0}
-Stops (stopped n link) = Walks n
-
 steps-look : (t : List ℕ) (s : State) (n : List ℕ) → Steps (look t s n)
 unfolding look
 steps-look t s n = go (find t (s .holder) n)
@@ -111,43 +111,91 @@ steps-follow t s n = go (look t s n) (steps-look t s n)
     go (on s) h = steps-enter t s
     go (off n) h = h
 
-stops-linked : (k : ℕ) (x : Step) (f : State → Walked) → Steps x → ((s : State) → Stops (f s)) → Stops (linked k x f)
-stops-linked k (on s) f h g = g s
-stops-linked k (off n) f h g = h
+-- what holds where a walk stops
+abbrev Stops : (ℕ → ℕ → Type 0) → Walked → Type 0
+Stops H (reached s) = Unit {0}
+Stops H (stopped n link) = H n link
 
-stops-directory : (t : List ℕ) (k : ℕ) (s : State) (ns : List (List ℕ)) → Stops (toDirectory t k s ns)
+stops-linked : (H : ℕ → ℕ → Type 0) (k : ℕ) (x : Step) (f : State → Walked) → Steps x → ((n : ℕ) → Walks n → H n k)
+    → ((s : State) → Stops H (f s)) → Stops H (linked k x f)
+stops-linked H k (on s) f h a g = g s
+stops-linked H k (off n) f h a g = a n h
+
+-- at a link from k on, of these names
+record From (k : ℕ) (ns : List (List ℕ)) (n link : ℕ) : Type 0 where
+  number : Walks n
+  least : k ≤ link
+  most : link < k + length ns
+
+stops-directory : (t : List ℕ) (k : ℕ) (s : State) (ns : List (List ℕ)) → Stops (From k ns) (toDirectory t k s ns)
 unfolding toDirectory
 stops-directory t k s [] = tt
 stops-directory t k s (n ∷ []) = tt
 stops-directory t k s (n ∷ m ∷ ns) =
-    stops-linked k (follow t s n) _ (steps-follow t s n) (λ d. stops-directory t (suc k) d (m ∷ ns))
+    stops-linked (From k (n ∷ m ∷ ns)) k (follow t s n) _ (steps-follow t s n)
+    (λ _ h. record { number = h; least = omega arith; most = omega arith })
+    (λ d. later (toDirectory t (suc k) d (m ∷ ns)) (stops-directory t (suc k) d (m ∷ ns)))
+  where
+    later : (x : Walked) → Stops (From (suc k) (m ∷ ns)) x → Stops (From k (n ∷ m ∷ ns)) x
+    later (reached d) h = tt
+    later (stopped a link) h = record { number = h .number; least = omega (arith, h .least); most = omega (arith, h .most) }
 
-stops-last : (t : List ℕ) (d : State) (ns : List (List ℕ)) → Stops (toLast t d ns)
-stops-last t d ns = stops-linked (length ns) (look t d (lastName ns)) reached (steps-look t d (lastName ns)) (λ s. tt)
+-- a walk stops at a link of its chain, which is 0 only where there is none
+pub record Halts (ns : List (List ℕ)) (n link : ℕ) : Type 0 where
+  pub number : Walks n
+  pub most : link ≤ length ns
+  pub none : eqb link 0 ≡ eqb (length ns) 0
+
+halts-from : (ns : List (List ℕ)) (n link : ℕ) → From 1 ns n link → Halts ns n link
+halts-from ns n link h =
+    let l = h .least in
+    let m = h .most in
+    record {
+      number = h .number;
+      most = omega arith;
+      none = ne-eqb link 0 (λ (z : link ≡ 0). omega arith) ∙ sym (ne-eqb (length ns) 0 (λ (z : length ns ≡ 0). omega arith));
+    }
+
+stops-last : (t : List ℕ) (d : State) (ns : List (List ℕ)) → Stops (Halts ns) (toLast t d ns)
+stops-last t d ns =
+    stops-linked (Halts ns) (length ns) (look t d (lastName ns)) reached (steps-look t d (lastName ns))
+    (λ _ h. record { number = h; most = omega arith; none = refl }) (λ s. tt)
 
 -- ---- what follows a walk
 
-module _ (X : Planned → Type 0) (place : ℕ) (stop : (n link : ℕ) → Walks n → X (halted (record { number = n; place = place; link = link }))) where
-  onward-by : (w : Walked) (f : State → Planned) → Stops w → ((s : State) → w ≡ reached s → X (f s)) → X (onward place w f)
-  onward-by (reached s) f h g = g s refl
-  onward-by (stopped n link) f h g = stop n link h
+module _ (X : Planned → Type 0) (argument : ℕ) (w : Word) (stop : (n link : ℕ) → Halts (chainOf w) n link → X (halted (refusalAt n (atLink argument link))))
+    (t : List ℕ) (u : ℕ) where
+  -- to an argument's directory
+  pub holder-within : (f : State → Planned) → ((d : State) → toDirectory t 1 (start u) (chainOf w) ≡ reached d → X (f d))
+      → X (toHolder t u argument w f)
+  holder-within f g = go (toDirectory t 1 (start u) (chainOf w)) refl (stops-directory t 1 (start u) (chainOf w))
+    where
+      go : (x : Walked) → toDirectory t 1 (start u) (chainOf w) ≡ x → Stops (From 1 (chainOf w)) x → X (onward argument x f)
+      go (reached d) e h = g d e
+      go (stopped n link) e h = stop n link (halts-from (chainOf w) n link h)
 
-  module _ (t : List ℕ) (u : ℕ) (w : Word) where
-    -- to an argument's directory
-    pub holder-by : (f : State → Planned) → ((d : State) → toDirectory t 1 (start u) (chainOf w) ≡ reached d → X (f d)) → X (toHolder t u place w f)
-    holder-by f = onward-by (toDirectory t 1 (start u) (chainOf w)) f (stops-directory t 1 (start u) (chainOf w))
+  -- .. and to the file that it names
+  pub end-within : (f : State → State → Planned)
+      → ((d s : State) → toDirectory t 1 (start u) (chainOf w) ≡ reached d → toLast t d (chainOf w) ≡ reached s → X (f d s))
+      → X (toEnd t u argument w f)
+  unfolding ended
+  end-within f g = go (toDirectory t 1 (start u) (chainOf w)) refl (stops-directory t 1 (start u) (chainOf w))
+    where
+      last : (d : State) (x : Walked) → Stops (Halts (chainOf w)) x → ((s : State) → x ≡ reached s → X (f d s)) → X (inward argument (lastFrom d x) f)
+      last d (reached s) h k = k s refl
+      last d (stopped n link) h k = stop n link h
 
-    -- .. and to the file that it names
-    pub end-by : (f : State → State → Planned)
-        → ((d s : State) → toDirectory t 1 (start u) (chainOf w) ≡ reached d → toLast t d (chainOf w) ≡ reached s → X (f d s))
-        → X (toEnd t u place w f)
-    unfolding ended
-    end-by f g = go (toDirectory t 1 (start u) (chainOf w)) refl (stops-directory t 1 (start u) (chainOf w))
-      where
-        last : (d : State) (x : Walked) → Stops x → ((s : State) → x ≡ reached s → X (f d s)) → X (inward place (lastFrom d x) f)
-        last d (reached s) h k = k s refl
-        last d (stopped n link) h k = stop n link h
+      go : (x : Walked) → toDirectory t 1 (start u) (chainOf w) ≡ x → Stops (From 1 (chainOf w)) x → X (inward argument (endFrom t (chainOf w) x) f)
+      go (reached d) e h = last d (toLast t d (chainOf w)) (stops-last t d (chainOf w)) (λ s. g d s e)
+      go (stopped n link) e h = stop n link (halts-from (chainOf w) n link h)
 
-        go : (x : Walked) → toDirectory t 1 (start u) (chainOf w) ≡ x → Stops x → X (inward place (endFrom t (chainOf w) x) f)
-        go (reached d) e h = last d (toLast t d (chainOf w)) (stops-last t d (chainOf w)) (λ s. g d s e)
-        go (stopped n link) e h = stop n link h
+-- .. where the link does not matter
+module _ (X : Planned → Type 0) (argument : ℕ) (stop : (n link : ℕ) → Walks n → X (halted (refusalAt n (atLink argument link)))) (t : List ℕ) (u : ℕ)
+    (w : Word) where
+  pub holder-by : (f : State → Planned) → ((d : State) → toDirectory t 1 (start u) (chainOf w) ≡ reached d → X (f d)) → X (toHolder t u argument w f)
+  holder-by = holder-within X argument w (λ n link h. stop n link (h .number)) t u
+
+  pub end-by : (f : State → State → Planned)
+      → ((d s : State) → toDirectory t 1 (start u) (chainOf w) ≡ reached d → toLast t d (chainOf w) ≡ reached s → X (f d s))
+      → X (toEnd t u argument w f)
+  end-by = end-within X argument w (λ n link h. stop n link (h .number)) t u

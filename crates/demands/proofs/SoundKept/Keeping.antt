@@ -21,7 +21,7 @@ use Rattle.paper.specs.Entry.{Holder, holder, full}
 use Rattle.paper.specs.Block.{blocks, fileText}
 use Rattle.paper.specs.Walk.{State, start, file, reached, toDirectory, lastName}
 use Rattle.paper.specs.Store.{puts, run}
-use Rattle.paper.specs.Effect.{Making, borne, losing, settled, chainOf, making, filing, linking, readInhibited, notSimple, tooLow, crdPlan, wrsPlan, cpyPlan, dupPlan, chnPlan}
+use Rattle.paper.specs.Effect.{Making, borne, losing, settled, chainOf, making, filing, linking, crdPlan, wrsPlan, cpyPlan, dupPlan, chnPlan}
 use Rattle.laws.proofs.Entries.{Stands, found-stands}
 use Rattle.laws.proofs.Blocks.{file-most}
 use Rattle.demands.proofs.Sound.Clauses.{Sound, entry-code, length-most}
@@ -153,7 +153,7 @@ module _ (t : List ℕ) (c : Sound t) where
       let n = within-else 1 2 (lifetime source) life (h .lifetime) (s .fields .lifetime .0) (s .fields .lifetime .1) in
       filing-keeps 2 new d 1 (orElse lev (level source)) (orElse code 0) (orElse life (lifetime source)) (fileText t (file t f))
       (simple-heading _ _ _ _ l b n (copy-few (file t f) (s .within) (s .heading)))
-      (entered u new d (orElse code 0) m (h .new) b q) (readInhibited 1 f ∷ []) (notSimple 1 t f ∷ []) (tooLow 3 lev source ∷ [])))
+      (entered u new d (orElse code 0) m (h .new) b q) _ _ _))
 
   pub dup-keeps : (v u : ℕ) (to : Begin) (old new : Word) (code : Part) → u ≤ 999999 → DupRead old new to code
       → Keeps t (dupPlan t v u to old new code)

@@ -23,7 +23,7 @@ use Rattle.paper.specs.Sound.{implies}
 use Rattle.paper.specs.Block.{block, fileText}
 use Rattle.paper.specs.Walk.{State, applies, file, reached, toLast, lastName}
 use Rattle.paper.specs.Store.{Store, puts, run}
-use Rattle.paper.specs.Effect.{Planned, plan, halted, chainOf, toHolder, toEnd, Making, borne, placing, needed, readInhibited, writeInhibited, notSimple, tooLow, making, filing, linking, newFile, freed, lost, settled, recoded, renamed, crdPlan, wrsPlan, cpyPlan, dupPlan, chnPlan, dprPlan, delPlan, rdsPlan, lstPlan, lstBasePlan}
+use Rattle.paper.specs.Effect.{Planned, plan, halted, chainOf, toHolder, toEnd, Making, borne, placing, needed, writeInhibited, making, filing, linking, newFile, freed, lost, settled, recoded, renamed, crdPlan, wrsPlan, cpyPlan, dupPlan, chnPlan, dprPlan, delPlan, rdsPlan, lstPlan, lstBasePlan}
 use Rattle.laws.proofs.Tests.{truth, not-both, false-by, implies-use}
 use Rattle.laws.proofs.Scans.{any-here, any-none, all-true}
 use Rattle.laws.proofs.Lists.{Every, every-parts, every-append, every-imp}
@@ -194,7 +194,7 @@ module _ (t : List ℕ) (c : Sound t) where
       let source : List ℕ = rec t (file t f) in
       let body : List ℕ = fileText t (file t f) in
       filing-shape 2 new d 1 (orElse lev (level source)) (orElse code 0) (orElse life (lifetime source)) (length body) body
-      (readInhibited 1 f ∷ []) (notSimple 1 t f ∷ []) (tooLow 3 lev source ∷ []) l))
+      _ _ _ l))
 
   pub dup-shape : (v u : ℕ) (to : Begin) (old new : Word) (code : Part) → length (lastName (chainOf new)) ≤ 10
       → Shape t (dupPlan t v u to old new code)

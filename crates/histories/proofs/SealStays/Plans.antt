@@ -13,13 +13,13 @@ use Rattle.paper.specs.Record.{byte, headingCode, entryCode, blank}
 use Rattle.paper.specs.Table.{rooms, rec, room}
 use Rattle.paper.specs.Declaration.{Part, orElse}
 use Rattle.paper.specs.Line.{Word}
-use Rattle.paper.specs.Check.{Refusal, Check, verdict, refused}
+use Rattle.paper.specs.Check.{Place, Refusal, refusalAt, Check, verdict, refused}
 use Rattle.paper.specs.Request.{Begin, own, takeOf, giveTo}
 use Rattle.paper.specs.Code.{joined, noRead}
 use Rattle.paper.specs.Sound.{implies}
 use Rattle.paper.specs.Block.{fileText}
 use Rattle.paper.specs.Walk.{State, start, applies, file, Walked, reached, stopped, toDirectory, toLast, lastName, lastFrom, endFrom, ended}
-use Rattle.paper.specs.Effect.{Planned, onward, inward, chainOf, toHolder, toEnd, Making, borne, placing, displacing, readInhibited, notSimple, tooLow, linkTaken, making, filing, linking, newFile, crdPlan, wrsPlan, cpyPlan, dupPlan, chnPlan, dprPlan, delPlan, rdsPlan, lstPlan, lstBasePlan}
+use Rattle.paper.specs.Effect.{Planned, onward, inward, chainOf, endOf, toHolder, toEnd, Making, borne, placing, displacing, readInhibited, linkTaken, making, filing, linking, newFile, crdPlan, wrsPlan, cpyPlan, dupPlan, chnPlan, dprPlan, delPlan, rdsPlan, lstPlan, lstBasePlan}
 use Rattle.laws.proofs.Tests.{implies-use}
 use Rattle.laws.proofs.Scans.{all-true}
 use Rattle.laws.proofs.Fields.{length-entry}
@@ -47,8 +47,8 @@ joined-read a b l m =
     (all-true (λ a. allBelow (λ b. implies (noRead a) (noRead (joined a b))) 8) 8 a (omega arith) joins))
 
 -- 13: "read inhibited"
-abbrev no-reading : Refusal
-no-reading = record { number = 13; place = 1; link = 0 }
+abbrev no-reading : Place → Refusal
+no-reading = refusalAt 13
 
 module _ (h : ℕ) (t s : List ℕ) (v : Veil h t s) (c : Sound t) (seal : noRead (headingCode (rec t h)) ≡ true) where
   -- ---- walks
@@ -186,9 +186,9 @@ module _ (h : ℕ) (t s : List ℕ) (v : Veil h t s) (c : Sound t) (seal : noRea
 
   -- ---- what reads the text: another file's is the same; the sealed file's is refused first
 
-  thirteen : (f : State) (rest : List Check) → noRead (f .code) ≡ true → verdict (readInhibited 1 f ∷ rest) ≡ refused no-reading
+  thirteen : (p : Place) (f : State) (rest : List Check) → noRead (f .code) ≡ true → verdict (readInhibited p f ∷ rest) ≡ refused (no-reading p)
   unfolding verdict
-  thirteen f rest e = rw e
+  thirteen p f rest e = rw e
 
   pub rds-same : (u : ℕ) (reply : List ℕ) (name : Word) (first count : Part)
       → Same (rdsPlan t u reply name first count) (rdsPlan s u reply name first count)
@@ -197,14 +197,14 @@ module _ (h : ℕ) (t s : List ℕ) (v : Veil h t s) (c : Sound t) (seal : noRea
       end-same u 1 name _ _ (λ d f r. by-cases (ℕ-discrete (file t f) h)
       (λ (q : file t f ≡ h).
       let z = sealed d f _ r q in
-      neither no-reading (checked _ refl (thirteen f _ z)) (checked _ refl (thirteen f _ z)))
+      neither (no-reading (endOf 1 name)) (checked _ refl (thirteen _ f _ z)) (checked _ refl (thirteen _ f _ z)))
       (λ (q : file t f ≢ h). one (rw (file-same f, simple-veil h t s v (file t f), file-text-veil h t s v (c .whole) (file t f) q (r .heading)))))
 
   -- a plan whose first check is that of reading
-  refused-making : (m : Making) (f : State) (a b e : List Check) (x : List ℕ) → noRead (f .code) ≡ true
-      → Refused (making x m (readInhibited 1 f ∷ a) b e) no-reading
+  refused-making : (m : Making) (p : Place) (f : State) (a b e : List Check) (x : List ℕ) → noRead (f .code) ≡ true
+      → Refused (making x m (readInhibited p f ∷ a) b e) (no-reading p)
   unfolding making
-  refused-making m f a b e x z = checked _ refl (thirteen f _ z)
+  refused-making m p f a b e x z = checked _ refl (thirteen p f _ z)
 
   pub cpy-same : (a u : ℕ) (old new : Word) (life lev code : Part) → length (lastName (chainOf new)) ≤ 10
       → Same (cpyPlan t a u old new life lev code) (cpyPlan s a u old new life lev code)
@@ -213,8 +213,7 @@ module _ (h : ℕ) (t s : List ℕ) (v : Veil h t s) (c : Sound t) (seal : noRea
       end-same a 1 old _ _ (λ o f r. holder-same u 2 new _ _ (λ d _. by-cases (ℕ-discrete (file t f) h)
       (λ (q : file t f ≡ h).
       let z = sealed o f _ r q in
-      neither no-reading (refused-making _ f [] _ _ t z) (refused-making _ f [] _ _ s z))
+      neither (no-reading (endOf 1 old)) (refused-making _ _ f [] _ _ t z) (refused-making _ _ f [] _ _ s z))
       (λ (q : file t f ≢ h).
       one (rw (file-same f, simple-veil h t s v (file t f), heading-same o f _ r, file-text-veil h t s v (c .whole) (file t f) q (r .heading))
-      (filing-same 2 new d (orElse code 0) _ (fileText t (file t f)) (readInhibited 1 f ∷ []) (notSimple 1 t f ∷ [])
-      (tooLow 3 lev (rec t (file t f)) ∷ []) l)))))
+      (filing-same 2 new d (orElse code 0) _ (fileText t (file t f)) _ _ _ l)))))
