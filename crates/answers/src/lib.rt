@@ -1,13 +1,22 @@
-// "An answer has: number; place ..; names done; displaced or not; bytes written; stores made."
+// "An answer has: number; place ..; names done; displaced or not; bytes written; stores made." "The place becomes argument and link".
 ghost use mathlib.Core.Path.{_≡_};
 ghost use Prim.Native.Nat.{_<_};
 ghost use Rattle.paper.specs.Answer.{plain, granting};
-ghost use Rattle.answers.specs.Shown.{shown, stored};
+ghost use Rattle.paper.specs.Check.{whole};
+ghost use Rattle.answers.specs.Shown.{placeMeant, shown, stored};
 
+// An argument from 1, and a link of its chain from 1; 0 for none.
+pub struct Place {
+    pub argument: u32,
+    pub link: u32,
+}
+
+// The seven numbers, the place as two of them.
 #[repr(C)]
 pub struct Answer {
     pub number: u32,
     pub place: u32,
+    pub link: u32,
     pub names: u32,
     pub displaced: u32,
     pub bytes: u32,
@@ -16,12 +25,13 @@ pub struct Answer {
 
 impl Answer {
     // "On any number but 0, displaced is no and bytes are 0."
-    pub fn plain(number: u32, place: u32, names: u32, stores: u32) -> Self
-        ensures { λ r. ⌜ r ≡ shown (plain number place names stores) ⌝ }
+    pub fn plain(number: u32, place: Place, names: u32, stores: u32) -> Self
+        ensures { λ r. ⌜ r ≡ shown (plain number (placeMeant place) names stores) ⌝ }
     {
         Answer {
             number: number,
-            place: place,
+            place: place.argument,
+            link: place.link,
             names: names,
             displaced: 0,
             bytes: 0,
@@ -29,11 +39,39 @@ impl Answer {
         }
     }
 
+    // The same of no argument.
+    pub fn placeless(number: u32, names: u32, stores: u32) -> Self
+        ensures { λ r. ⌜ r ≡ shown (plain number (whole 0) names stores) ⌝ }
+    {
+        Answer::plain(
+            number,
+            Place {
+                argument: 0,
+                link: 0,
+            },
+            names,
+            stores,
+        )
+    }
+
     // A refusal: a number and its place.
-    pub fn refused(number: u8, place: u32) -> Self
-        ensures { λ r. ⌜ r ≡ shown (plain number place 0 0) ⌝ }
+    pub fn refused(number: u8, place: Place) -> Self
+        ensures { λ r. ⌜ r ≡ shown (plain number (placeMeant place) 0 0) ⌝ }
     {
         Answer::plain(number as u32, place, 0, 0)
+    }
+
+    // .. of a whole argument, or of none.
+    pub fn refused_whole(number: u8, argument: u32) -> Self
+        ensures { λ r. ⌜ r ≡ shown (plain number (whole argument) 0 0) ⌝ }
+    {
+        Answer::refused(
+            number,
+            Place {
+                argument: argument,
+                link: 0,
+            },
+        )
     }
 
     // All that one name asks for was done: an entry displaced or not, so many bytes written, so many stores made.
@@ -43,6 +81,7 @@ impl Answer {
         Answer {
             number: 0,
             place: 0,
+            link: 0,
             names: 1,
             displaced: displaced as u32,
             bytes: bytes,
@@ -55,7 +94,7 @@ impl Answer {
         ensures { λ r. ⌜ r ≡ shown (stored stores stop displaced) ⌝ }
     {
         if stop < stores {
-            return Answer::plain(22, 0, 0, stop);
+            return Answer::placeless(22, 0, stop);
         }
         Answer::granted(displaced, 0, stores)
     }

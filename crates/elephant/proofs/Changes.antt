@@ -12,6 +12,7 @@ use Rattle.paper.specs.Table.{rooms, rec}
 use Rattle.paper.specs.Code.{noWrite, lacks}
 use Rattle.paper.specs.Entry.{find}
 use Rattle.paper.specs.Store.{puts}
+use Rattle.paper.specs.Check.{Place, whole}
 use Rattle.paper.specs.Answer.{plain}
 use Rattle.paper.specs.Walk.{file}
 use Rattle.paper.specs.Effect.{isFound, writeInhibited, lacking, taken, renamed, chnAt, recoded, dprAt}
@@ -30,20 +31,22 @@ use Rattle.elephant.proofs.Verdicts.{first-holds, second-holds, both-pa
 
 -- ---- DPR
 
-module _ (t : List ℕ) (k code : ℕ) (f : State) where
-  pub dpr-shut : noWrite (f .code .0) ≡ true → Did t k (dprAt t code (meant f)) (shown (plain 14 1 0 0)) t
-  dpr-shut a = did-refused t k _ _ (first-holds (writeInhibited 1 (meant f)) _ a)
+module _ (t : List ℕ) (place : Place) (k code : ℕ) (f : State) where
+  pub dpr-shut : noWrite (f .code .0) ≡ true → Did t k (dprAt t place code (meant f)) (shown (plain 14 place 0 0)) t
+  dpr-shut a = did-refused t k _ _ (first-holds (writeInhibited place (meant f)) _ a)
 
   module _ (a : noWrite (f .code .0) ≡ false) (h : ℕ) (x : h ≡ file t (meant f)) where
-    pub dpr-lacks : lacks code (headingCode (rec t h)) ≡ true → Did t k (dprAt t code (meant f)) (shown (plain 21 2 0 0)) t
-    dpr-lacks b = did-refused t k _ _ (second-holds (writeInhibited 1 (meant f)) (lacking 2 code (headingCode (rec t (file t (meant f))))) [] a (rw (← x) b))
+    pub dpr-lacks : lacks code (headingCode (rec t h)) ≡ true → Did t k (dprAt t place code (meant f)) (shown (plain 21 (whole 2) 0 0)) t
+    dpr-lacks b =
+        did-refused t k _ _
+        (second-holds (writeInhibited place (meant f)) (lacking (whole 2) code (headingCode (rec t (file t (meant f))))) [] a (rw (← x) b))
 
     -- the store made
     pub dpr-laid : lacks code (headingCode (rec t h)) ≡ false → (bytes v : List ℕ) (l : ℕ) → file t (meant f) < rooms t
         → bytes ≡ recoded (padded 32 (rec t h)) code → Made t v k l (puts h bytes ∷ [])
-        → Did t k (dprAt t code (meant f)) (shown (stored 1 k false)) v
+        → Did t k (dprAt t place code (meant f)) (shown (stored 1 k false)) v
     dpr-laid b bytes v l y z m =
-        did-stored t v k l _ (both-pass (writeInhibited 1 (meant f)) (lacking 2 code (headingCode (rec t (file t (meant f))))) a (rw (← x) b)) refl
+        did-stored t v k l _ (both-pass (writeInhibited place (meant f)) (lacking (whole 2) code (headingCode (rec t (file t (meant f))))) a (rw (← x) b)) refl
         (rw (z, x, whole-there t (file t (meant f)) y) at m)
 
 -- ---- CHN
@@ -57,22 +60,22 @@ found-none : (x : scan.Found) → foundShown x ≡ found.Nowhere → isFound x �
 found-none (scan.at e) z = clash (cc)
 found-none scan.nowhere z = refl
 
-module _ (t : List ℕ) (k : ℕ) (n : List ℕ) (d f : State) where
-  pub chn-shut : noWrite (d .code .0) ≡ true → Did t k (chnAt t n (meant d) (meant f)) (shown (plain 14 1 0 0)) t
-  chn-shut a = did-refused t k _ _ (first-holds (writeInhibited 1 (meant d)) _ a)
+module _ (t : List ℕ) (place : Place) (k : ℕ) (n : List ℕ) (d f : State) where
+  pub chn-shut : noWrite (d .code .0) ≡ true → Did t k (chnAt t place n (meant d) (meant f)) (shown (plain 14 place 0 0)) t
+  chn-shut a = did-refused t k _ _ (first-holds (writeInhibited place (meant d)) _ a)
 
   module _ (a : noWrite (d .code .0) ≡ false) where
     pub chn-taken : (i : Room) → foundShown (find t (holderShown (d .holder)) n) ≡ found.At i
-        → Did t k (chnAt t n (meant d) (meant f)) (shown (plain 16 2 0 0)) t
+        → Did t k (chnAt t place n (meant d) (meant f)) (shown (plain 16 (whole 2) 0 0)) t
     chn-taken i z =
         let x = find t (holderShown (d .holder)) n in
-        did-refused t k _ _ (second-holds (writeInhibited 1 (meant d)) (taken 2 x) [] a (found-there x i z))
+        did-refused t k _ _ (second-holds (writeInhibited place (meant d)) (taken (whole 2) x) [] a (found-there x i z))
 
     -- the store made
     pub chn-laid : foundShown (find t (holderShown (d .holder)) n) ≡ found.Nowhere → (bytes v : List ℕ) (l : ℕ) → f .entry .0 < rooms t
         → length n ≤ 10 → bytes ≡ renamed (padded 32 (rec t (f .entry .0))) (take 10 n) → Made t v k l (puts (f .entry .0) bytes ∷ [])
-        → Did t k (chnAt t n (meant d) (meant f)) (shown (stored 1 k false)) v
+        → Did t k (chnAt t place n (meant d) (meant f)) (shown (stored 1 k false)) v
     chn-laid z bytes v l y o x m =
         let w = find t (holderShown (d .holder)) n in
-        did-stored t v k l _ (both-pass (writeInhibited 1 (meant d)) (taken 2 w) a (found-none w z)) refl
+        did-stored t v k l _ (both-pass (writeInhibited place (meant d)) (taken (whole 2) w) a (found-none w z)) refl
         (rw (x, whole-there t (f .entry .0) y, take-all 10 n o) at m)

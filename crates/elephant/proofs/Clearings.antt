@@ -7,6 +7,7 @@ use Prim.Native.Nat.{ℕ, _+_, _≤_, _<_}
 use native.Mathlib.Omega.{arith}
 use lib.ListN.{length, take}
 use Rattle.paper.specs.Code.{noWrite}
+use Rattle.paper.specs.Check.{Place}
 use Rattle.paper.specs.Entry.{peopled}
 use Rattle.paper.specs.Record.{byte, textLength, headingNamed, directory, blank}
 use Rattle.paper.specs.Table.{rooms, rec}
@@ -20,6 +21,7 @@ use Rattle.effects.proofs.Stages.{made-both}
 use Rattle.effects.proofs.Papers.{file-freed, clear-stores-length}
 use Rattle.effects.specs.Beside.{namedBeside}
 use Rattle.effects.proofs.Naming.{lost-blank}
+use Rattle.answers.specs.Shown.{placeShown}
 use Rattle.walk.specs.Shown.{meant}
 use Rattle.walk.specs.declared.state.State.{State}
 use Rattle.elephant.specs.Done.{Fit}
@@ -48,8 +50,8 @@ module _ (t : List ℕ) (e h : ℕ) (f : Fit t) (l : h < rooms t) (k : byte (rec
 
 -- ---- one name
 
-module _ (t : List ℕ) (k place : ℕ) (d f : State) where
-  pub del-shut : noWrite (d .code .0) ≡ true → Came t k (delAt t place (meant d) (meant f)) (Refused 14 place) t
+module _ (t : List ℕ) (place : Place) (k : ℕ) (d f : State) where
+  pub del-shut : noWrite (d .code .0) ≡ true → Came t k (delAt t place (meant d) (meant f)) (Refused 14 (placeShown place)) t
   del-shut a = came-refused t k _ _ (first-holds (writeInhibited place (meant d)) _ a)
 
   module _ (a : noWrite (d .code .0) ≡ false) (h : ℕ) (g : h ≡ headingNamed (rec t (f .entry .0))) (l : f .entry .0 < rooms t) where
@@ -69,7 +71,7 @@ module _ (t : List ℕ) (k place : ℕ) (d f : State) where
 
     module _ (z : namedBeside t h (f .entry .0) ≡ false) where
       -- a directory with entries would be lost
-      pub del-peopled : (directory (rec t h) && peopled t h) ≡ true → Came t k (delAt t place (meant d) (meant f)) (Refused 18 place) t
+      pub del-peopled : (directory (rec t h) && peopled t h) ≡ true → Came t k (delAt t place (meant d) (meant f)) (Refused 18 (placeShown place)) t
       unfolding losing
       del-peopled y =
           let q : losing t (f .entry .0) blank ≡ true = rw (lost-by false z, ← g) y in

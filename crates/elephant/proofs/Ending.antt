@@ -8,7 +8,7 @@ use native.Mathlib.Omega.{arith}
 use lib.ListN.{getD, length, length-append}
 use Rattle.paper.specs.Scan as F
 use Rattle.paper.specs.Table.{sized, room}
-use Rattle.paper.specs.Check.{Check, check, Verdict, passed, refused, verdict}
+use Rattle.paper.specs.Check.{Place, whole, Check, check, Verdict, passed, refused, verdict}
 use Rattle.paper.specs.Entry.{Holder}
 use Rattle.paper.specs.Block.{blocks}
 use Rattle.paper.specs.Store.{puts}
@@ -23,7 +23,7 @@ use Rattle.effects.specs.Listed.{freeRooms, textRooms}
 use Rattle.effects.specs.Stage.{Made, textStores, clearStores}
 use Rattle.effects.proofs.Papers.{free-room, new-file, text-stores-length, clear-stores-length}
 use Rattle.walk.specs.declared.state.State.{State}
-use Rattle.answers.specs.Shown.{shown, stored}
+use Rattle.answers.specs.Shown.{placeMeant, placeShown, shown, stored}
 use Rattle.placing.specs.Placing.{met, entryChecks, refusalShown, entryStores}
 use Rattle.placing.specs.declared.Meets.{Meets}
 use Rattle.placing.specs.declared.Refusal.{Refusal}
@@ -89,32 +89,32 @@ shown-first cs ds r e n = go (verdict cs) refl
     go passed q = absurd (n (rw (e, q)))
     go (refused f) q = rw (front-refuses cs ds f q) (e ∙ rw q)
 
-pub entry-telling : (t : List ℕ) (place : ℕ) (d : Holder) (m : Meets) (n : ℕ) → Every Telling (entryChecks t place d m n)
+pub entry-telling : (t : List ℕ) (place : Place) (d : Holder) (m : Meets) (n : ℕ) → Every Telling (entryChecks t place d m n)
 entry-telling t place d m n = (omega arith, (omega arith, (omega arith, tt)))
 
 -- 16 to 19 and 25 where the link is not taken: by the refusal of 17 to 19
-module _ (t : List ℕ) (to : Begin) (place : ℕ) (d : Holder) (m : Meets) (n : ℕ) (low : Bool) (r : Refusal)
+module _ (t : List ℕ) (to : Begin) (place : Place) (d : Holder) (m : Meets) (n : ℕ) (low : Bool) (r : Refusal)
     (e : r ≡ refusalShown (verdict (entryChecks t place d m n))) (x : takenBy to (m .displaced) ≡ false) where
-  not-taken : verdict (allChecks t to place d m n low) ≡ verdict (entryChecks t place d m n ++ check low 25 3 ∷ [])
+  not-taken : verdict (allChecks t to place d m n low) ≡ verdict (entryChecks t place d m n ++ check low 25 (whole 3) ∷ [])
   not-taken = first-passes (check (takenBy to (m .displaced)) 16 place) _ x
 
   pub told-first : (r .number ≡ 0 → ⊥) → r ≡ refusalShown (verdict (allChecks t to place d m n low))
-  told-first z = shown-first (entryChecks t place d m n) (check low 25 3 ∷ []) r e z ∙ ap refusalShown (sym not-taken)
+  told-first z = shown-first (entryChecks t place d m n) (check low 25 (whole 3) ∷ []) r e z ∙ ap refusalShown (sym not-taken)
 
-  none-first : r .number ≡ 0 → verdict (allChecks t to place d m n low) ≡ verdict (check low 25 3 ∷ [])
+  none-first : r .number ≡ 0 → verdict (allChecks t to place d m n low) ≡ verdict (check low 25 (whole 3) ∷ [])
   none-first z =
       not-taken
       ∙ front-passes (entryChecks t place d m n) _ (none-refuses _ (entry-telling t place d m n) (sym (ap (λ (s : Refusal). s .number) e) ∙ z))
 
-  pub told-low : r .number ≡ 0 → low ≡ true → record { number = 25; place = 3 } ≡ refusalShown (verdict (allChecks t to place d m n low))
-  told-low z y = ap refusalShown (sym (none-first z ∙ first-holds (check low 25 3) [] y))
+  pub told-low : r .number ≡ 0 → low ≡ true → record { number = 25; place = placeShown (whole 3) } ≡ refusalShown (verdict (allChecks t to place d m n low))
+  told-low z y = ap refusalShown (sym (none-first z ∙ first-holds (check low 25 (whole 3)) [] y))
 
   pub told-none : r .number ≡ 0 → low ≡ false → r ≡ refusalShown (verdict (allChecks t to place d m n low))
   told-none z y =
       e ∙ ap refusalShown (none-refuses _ (entry-telling t place d m n) (sym (ap (λ (s : Refusal). s .number) e) ∙ z))
-      ∙ ap refusalShown (sym (none-first z ∙ first-passes (check low 25 3) [] y ∙ none-left))
+      ∙ ap refusalShown (sym (none-first z ∙ first-passes (check low 25 (whole 3)) [] y ∙ none-left))
 
-pub all-telling : (t : List ℕ) (to : Begin) (place : ℕ) (d : Holder) (m : Meets) (n : ℕ) (low : Bool) → Every Telling (allChecks t to place d m n low)
+pub all-telling : (t : List ℕ) (to : Begin) (place : Place) (d : Holder) (m : Meets) (n : ℕ) (low : Bool) → Every Telling (allChecks t to place d m n low)
 all-telling t to place d m n low = (omega arith, (omega arith, (omega arith, (omega arith, (omega arith, tt)))))
 
 -- ---- the plan
@@ -130,7 +130,7 @@ needed-by t m F.nowhere k free = refl
 
 module _
     (t r name text : List ℕ) (named : ℕ) (w : Ready t r name text named)
-    (place : ℕ) (to : Begin) (d : State) (code : ℕ) (f : File) (free : ℕ) (isFree : free ≡ getD r (fileCount f text) 0) where
+    (place : Place) (to : Begin) (d : State) (code : ℕ) (f : File) (free : ℕ) (isFree : free ≡ getD r (fileCount f text) 0) where
   abbrev making : Making
   making = makingOf t place d name code named f text
 
@@ -146,10 +146,10 @@ module _
       (sym (isFree ∙ rw (w .free) (free-room t (fileCount f text) (w .size) (omega (arith, file-count f text (w .few))))))
 
   abbrev checks : List Check
-  checks = fullUp t making ∷ stillPeopled place (displacing t (borne t making) (making .entry)) ∷ noRoom t making ∷ check (f .low) 25 3 ∷ []
+  checks = fullUp t making ∷ stillPeopled place (displacing t (borne t making) (making .entry)) ∷ noRoom t making ∷ check (f .low) 25 (whole 3) ∷ []
 
   checks-met : checks
-      ≡ entryChecks t place (making .directory .holder) meets (neededBy (fileCount f text) (meets .displaced)) ++ check (f .low) 25 3 ∷ []
+      ≡ entryChecks t place (making .directory .holder) meets (neededBy (fileCount f text) (meets .displaced)) ++ check (f .low) 25 (whole 3) ∷ []
   checks-met =
       rw (
         is-displaced t (borne t making) named free,
@@ -190,11 +190,11 @@ module _
 
   module _ (k : ℕ) (m : Meets) (e : m ≡ meets) (c : Refusal)
       (q : c ≡ refusalShown (verdict (allChecks t to place (making .directory .holder) m (neededBy (fileCount f text) (m .displaced)) (f .low)))) where
-    pub ends-refused : (c .number ≡ 0 → ⊥) → Did t k (ending t (beginMeant to) making (f .low)) (shown (plain (c .number) (c .place) 0 0)) t
+    pub ends-refused : (c .number ≡ 0 → ⊥) → Did t k (ending t (beginMeant to) making (f .low)) (shown (plain (c .number) (placeMeant (c .place)) 0 0)) t
     unfolding ending
     ends-refused h = go (verdict (ends .checks)) refl (rw (taken-met, ← e) q)
       where
-        go : (v : Verdict) → verdict (ends .checks) ≡ v → c ≡ refusalShown v → Did t k (plan ends) (shown (plain (c .number) (c .place) 0 0)) t
+        go : (v : Verdict) → verdict (ends .checks) ≡ v → c ≡ refusalShown v → Did t k (plan ends) (shown (plain (c .number) (placeMeant (c .place)) 0 0)) t
         go passed x y = absurd (h (ap (λ (s : Refusal). s .number) y))
         go (refused g) x y = rw y (did-refused t k ends g x)
 

@@ -6,10 +6,12 @@ use Prim.Native.Nat.{ℕ}
 use Rattle.paper.specs.Line.{Word}
 use Rattle.paper.specs.Walk as W
 use Rattle.paper.specs.Walk.{start, toDirectory, ended}
+use Rattle.paper.specs.Check.{atLink, refusalAt}
 use Rattle.paper.specs.Answer.{plain}
 use Rattle.paper.specs.Effect.{Planned, halted, chainOf, onward, inward, toHolder, toEnd, listOf, begun}
 use Rattle.demands.proofs.Sound.Clauses.{sound-clauses}
 use Rattle.demands.proofs.Request.Walked.{walk-reached}
+use Rattle.words.specs.Place.{wordAt}
 use Rattle.words.specs.Shown.{beginMeant}
 use Rattle.words.specs.declared.begin.Begin.{Begin}
 use Rattle.walk.specs.Shown.{meant, walkedShown, begins, chainAt}
@@ -21,47 +23,47 @@ use Rattle.walk.specs.declared.end.End.the-variants.{At, Off}
 use Rattle.walk.specs.declared.end.Both.{Both}
 use Rattle.walk.specs.declared.end.Both.the-variants as both
 use Rattle.walk.proofs.Ends.{walked-stopped, walked-reached, end-arrived, end-astray, arrived-last}
-use Rattle.answers.specs.Shown.{shown}
+use Rattle.answers.specs.Shown.{placeShown, shown}
 use Rattle.answers.specs.declared.Answer.{Answer}
-use Rattle.elephant.specs.Done.{Fit, Filed, wordAt, Did, Wrote}
+use Rattle.elephant.specs.Done.{Fit, Filed, Did, Wrote}
 use Rattle.elephant.specs.Deleted.{Came}
 use Rattle.elephant.specs.declared.delete.Deleted.{Deleted}
 use Rattle.elephant.specs.declared.delete.Deleted.the-variants.{Refused}
 
 -- ---- to a directory
 
-module _ (t : List ℕ) (u place k : ℕ) (w : Word) (f : W.State → Planned) where
+module _ (t : List ℕ) (u argument k : ℕ) (w : Word) (f : W.State → Planned) where
   pub holder-stops : (n l : ℕ) → walkedShown (toDirectory t 1 (start u) (chainOf w)) ≡ Stopped n l
-      → Did t k (toHolder t u place w f) (shown (plain n place 0 0)) t
+      → Did t k (toHolder t u argument w f) (shown (plain n (atLink argument l) 0 0)) t
   holder-stops n l e = rw (walked-stopped (toDirectory t 1 (start u) (chainOf w)) n l e) (record { answer = refl; table = refl })
 
   pub holder-reaches : (d : State) (r : Answer) (x : List ℕ) → walkedShown (toDirectory t 1 (start u) (chainOf w)) ≡ Reached d
-      → Did t k (f (meant d)) r x → Did t k (toHolder t u place w f) r x
+      → Did t k (f (meant d)) r x → Did t k (toHolder t u argument w f) r x
   holder-reaches d r x e y = rw (walked-reached (toDirectory t 1 (start u) (chainOf w)) d e) y
 
 -- ---- to a file
 
-module _ (t line : List ℕ) (u p : ℕ) (b : Begin) (place : ℕ) (g : W.State → W.State → Planned)
+module _ (t line : List ℕ) (u p : ℕ) (b : Begin) (argument : ℕ) (g : W.State → W.State → Planned)
     (r : End) (e : r ≡ endShown (ended t (begins u b) (chainAt line p b))) where
   abbrev end : Planned
-  end = toEnd t (listOf u (beginMeant b)) place (begun (beginMeant b) (wordAt line p)) g
+  end = toEnd t (listOf u (beginMeant b)) argument (begun (beginMeant b) (wordAt line p)) g
 
   module _ (n l : ℕ) (z : r ≡ Off n l) where
-    stops : end ≡ halted (record { number = n; place = place; link = l })
-    stops = ap (λ (x : W.End). inward place x g) (end-astray (ended t (begins u b) (chainAt line p b)) n l (sym e ∙ z))
+    stops : end ≡ halted (refusalAt n (atLink argument l))
+    stops = ap (λ (x : W.End). inward argument x g) (end-astray (ended t (begins u b) (chainAt line p b)) n l (sym e ∙ z))
 
-    pub end-off : (k : ℕ) → Did t k (end) (shown (plain n place 0 0)) t
+    pub end-off : (k : ℕ) → Did t k (end) (shown (plain n (atLink argument l) 0 0)) t
     end-off k = rw stops (record { answer = refl; table = refl })
 
-    pub name-off : (k : ℕ) → Came t k (end) (Refused n place) t
+    pub name-off : (k : ℕ) → Came t k (end) (Refused n (placeShown (atLink argument l))) t
     name-off k = rw stops (record { answer = refl; table = refl })
 
-    pub read-off : (reply : List ℕ) → Wrote t reply (end) (shown (plain n place 0 0)) reply
+    pub read-off : (reply : List ℕ) → Wrote t reply (end) (shown (plain n (atLink argument l) 0 0)) reply
     read-off reply = rw stops (record { answer = refl; reply = refl })
 
   module _ (d f : State) (z : r ≡ At d f) where
     arrives : end ≡ g (meant d) (meant f)
-    arrives = ap (λ (x : W.End). inward place x g) (end-arrived (ended t (begins u b) (chainAt line p b)) d f (sym e ∙ z))
+    arrives = ap (λ (x : W.End). inward argument x g) (end-arrived (ended t (begins u b) (chainAt line p b)) d f (sym e ∙ z))
 
     pub end-at : (k : ℕ) (a : Answer) (v : List ℕ) → Did t k (g (meant d) (meant f)) a v → Did t k (end) a v
     end-at k a v w = rw arrives w
@@ -86,7 +88,7 @@ filed t line u p b r e h d f z =
 
 abbrev bothPlan : Both → (W.State → W.State → Planned) → Planned
 bothPlan (both.At f d) g = g (meant f) (meant d)
-bothPlan (both.Off number place link) g = halted (record { number = number; place = place; link = link })
+bothPlan (both.Off number place link) g = halted (refusalAt number (atLink place link))
 
 both-plan : (e : W.End) (w : W.Walked) (g : W.State → W.State → Planned)
     → inward 1 e (λ _ f. onward 2 w (g f)) ≡ bothPlan (bothShown e w) g
@@ -106,7 +108,7 @@ module _ (t line : List ℕ) (u : ℕ) (from : Begin) (old : ℕ) (to : Begin) (
       both-plan (ended t (begins u from) (chainAt line old from)) (toDirectory t 1 (begins u to) (chainAt line new to)) g
       ∙ ap (λ (y : Both). bothPlan y g) (sym e ∙ z)
 
-  pub both-stops : (k n q l : ℕ) → r ≡ both.Off n q l → Did t k whole (shown (plain n q 0 0)) t
+  pub both-stops : (k n q l : ℕ) → r ≡ both.Off n q l → Did t k whole (shown (plain n (atLink q l) 0 0)) t
   both-stops k n q l z = rw (came (both.Off n q l) z) (record { answer = refl; table = refl })
 
   pub both-reaches : (k : ℕ) (f d : State) (a : Answer) (x : List ℕ) → r ≡ both.At f d → Did t k (g (meant f) (meant d)) a x → Did t k whole a x

@@ -7,7 +7,7 @@ use Prim.Native.Nat.{ℕ, _≤_, _<_}
 use native.Mathlib.Omega.{arith}
 use lib.Dec.{ltb}
 use borrow.Author.Tests.{lt-ltb, le-ltb}
-use Rattle.paper.specs.Check.{Verdict, passed, refused, check, verdict}
+use Rattle.paper.specs.Check.{whole, refusalAt, Verdict, passed, refused, check, verdict}
 use Rattle.paper.specs.Table.{sized}
 use Rattle.paper.specs.Sound.{sound}
 use Rattle.paper.specs.Answer.{entrance}
@@ -16,7 +16,7 @@ use Rattle.elephant.specs.Done.{Fit}
 use Rattle.elephant.specs.Entrance.{entranceNumber}
 
 abbrev three : Bool → Bool → Bool → Verdict
-three a b c = verdict (check (not a) 1 0 ∷ check (not b) 2 0 ∷ check c 3 0 ∷ [])
+three a b c = verdict (check (not a) 1 (whole 0) ∷ check (not b) 2 (whole 0) ∷ check c 3 (whole 0) ∷ [])
 
 three-judged : (a b c : Bool) (n : ℕ) → n ≡ cond a (cond b 0 2) 1 → (n ≡ 0 → ⊥) → n ≡ entranceNumber (three a b c)
 unfolding verdict
@@ -65,13 +65,13 @@ entered t u e =
     record { fit = record { sized = p .0; sound = p .1 }; passed = rw (p .0, p .1, p .2) }
 
 -- a refusal at the entrance is of the whole request
-three-refused : (a b c : Bool) (n : ℕ) → n ≡ entranceNumber (three a b c) → (n ≡ 0 → ⊥) → three a b c ≡ refused (record { number = n; place = 0; link = 0 })
+three-refused : (a b c : Bool) (n : ℕ) → n ≡ entranceNumber (three a b c) → (n ≡ 0 → ⊥) → three a b c ≡ refused (refusalAt n (whole 0))
 unfolding verdict
 three-refused true true true n e h = rw e
 three-refused true true false n e h = absurd (h e)
 three-refused true false c n e h = rw e
 three-refused false b c n e h = rw e
 
-pub not-entered : (t : List ℕ) (u n : ℕ) → n ≡ entranceNumber (entrance t u) → (n ≡ 0 → ⊥) → entrance t u ≡ refused (record { number = n; place = 0; link = 0 })
+pub not-entered : (t : List ℕ) (u n : ℕ) → n ≡ entranceNumber (entrance t u) → (n ≡ 0 → ⊥) → entrance t u ≡ refused (refusalAt n (whole 0))
 unfolding entrance
 not-entered t u n e h = three-refused (sized t) (sound t) (ltb 999999 u) n e h

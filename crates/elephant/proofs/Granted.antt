@@ -14,7 +14,7 @@ use Rattle.paper.specs.Effect.{Planned, crdPlan, wrsPlan, rdsPlan, cpyPlan, dup
 use Rattle.paper.specs.Walk.{lastName}
 use Rattle.paper.specs.Answer.{Outcome, granted, requested, ran, single}
 use Rattle.laws.proofs.Tests.{truth}
-use Rattle.words.specs.Place.{joined, namesFrom}
+use Rattle.words.specs.Place.{joined, namesFrom, wordAt}
 use Rattle.words.specs.Shown.{beginMeant, meantPart}
 use Rattle.words.specs.declared.begin.Begin.{Begin}
 use Rattle.words.specs.declared.begin.Begin.the-variants.{Own, Take, Give}
@@ -32,7 +32,7 @@ use Rattle.demands.proofs.Request.Formed as formed
 use Rattle.demands.proofs.Request.Formed.{named-last}
 use Rattle.walk.specs.Shown.{chainAt}
 use Rattle.walk.proofs.Chains.{rest-one, last-instead}
-use Rattle.elephant.specs.Done.{wordAt, Did, Wrote}
+use Rattle.elephant.specs.Done.{Did, Wrote}
 use Rattle.elephant.specs.Filing.{Named, Linked}
 use Rattle.elephant.specs.Deleted.{CameAll}
 use Rattle.elephant.specs.Reading.{reading}
@@ -43,6 +43,8 @@ use Rattle.elephant.specs.Promised.{Promised}
 use Rattle.answers.specs.declared.Answer.{Answer}
 use Rattle.elephant.proofs.Grants.{Silent, Storeless, crd-silent, wrs-silent, cpy-silent, dup-silent, chn-silent, dpr-silent, rds-storeless, lst-storeless, lst-base-storeless}
 use Rattle.elephant.proofs.Promises.{promised-storing, promised-writing, promised-names}
+use Rattle.elephant.proofs.Asking.{read-granted}
+use Rattle.elephant.proofs.Places.{read-short}
 use Rattle.elephant.proofs.Requests.{requested-granted, asked-granted, del-read, told, link-short, names-first}
 
 -- a give has one link, the last name that is written
@@ -73,8 +75,12 @@ module _ {t line text : List ℕ} {u : ℕ} {r : Request} (a : Admitted t line t
 
   -- ---- what each stands on
 
+  -- a line that was read is no longer than it may be
+  pub line-short : length line ≤ 256
+  line-short = read-short line (requestMeant line r) (read-granted line r (a .read))
+
   new-named : (p : ℕ) (s : List ℕ) → formed.Named (wordAt line p) → length s ≤ 24000 → Named t line p s
-  new-named p s n l = record { size = a .fit .sized; sound = a .fit .sound; short = named-last (wordAt line p) n .short; few = l }
+  new-named p s n l = record { size = a .fit .sized; sound = a .fit .sound; short = named-last (wordAt line p) n .short; few = l; brief = line-short }
 
   pub crd-ready : (p : ℕ) (l : Level) (d : Digit) → r ≡ Crd p l d → Named t line p []
   crd-ready p l d e = new-named p [] (hears (Crd p l d) e .name) (omega arith)
@@ -96,6 +102,7 @@ module _ {t line text : List ℕ} {u : ℕ} {r : Request} (a : Admitted t line t
               sound = a .fit .sound;
               short = rw (← q) (named-last (begun (beginMeant to) (wordAt line n)) (h .new) .short);
               few = omega arith;
+              brief = line-short;
             };
         last = q;
       }

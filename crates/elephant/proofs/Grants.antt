@@ -15,9 +15,9 @@ use Rattle.paper.specs.Request.{Begin}
 use Rattle.paper.specs.Effect.{Planned, plan, halted, Making, making, crdPlan, wrsPlan, cpyPlan, dupPlan, chnPlan, dprPlan, delPlan, rdsPlan, lstPlan, lstBasePlan}
 use Rattle.paper.specs.Answer.{Outcome, Ran, refusedBy, done, cut, stores, ran, single, oneName, deleting}
 use Rattle.paper.specs.Store.{run}
+use Rattle.words.specs.Place.{wordAt}
 use Rattle.words.proofs.Words.{word-here}
 use Rattle.demands.proofs.Request.Steps.{holder-by, end-by}
-use Rattle.elephant.specs.Done.{wordAt}
 
 -- the word at the offset of a word of the line
 pub word-there : (line : List ℕ) (k : ℕ) (w : Word) → w ≡ word line k → wordAt line (w .start) ≡ w

@@ -15,6 +15,7 @@ pub mod Asking
 pub mod Entering
 pub mod Promises
 pub mod Requests
+pub mod Links
 pub mod Places
 pub mod Granted
 pub mod Refused

@@ -8,13 +8,15 @@ use Rattle.paper.specs.Record.{headingRecord}
 use Rattle.paper.specs.Declaration.{Part, orElse}
 use Rattle.paper.specs.Walk as W
 use Rattle.paper.specs.Walk.{start, toDirectory}
+use Rattle.paper.specs.Check.{atLink}
 use Rattle.paper.specs.Answer.{plain}
 use Rattle.paper.specs.Effect.{Making, making, filing, chainOf, crdPlan, wrsPlan}
+use Rattle.words.specs.Place.{wordAt}
 use Rattle.walk.specs.Shown.{meant, walkedShown}
 use Rattle.walk.specs.declared.state.State.{State}
 use Rattle.walk.specs.declared.chain.Walked.the-variants.{Reached, Stopped}
 use Rattle.answers.specs.Shown.{shown}
-use Rattle.elephant.specs.Done.{wordAt, Did}
+use Rattle.elephant.specs.Done.{Did}
 use Rattle.answers.specs.declared.Answer.{Answer}
 use Rattle.elephant.proofs.Ends.{holder-stops, holder-reaches}
 
@@ -29,7 +31,7 @@ sheetIn t line p level code text life d =
 
 module _ (t line : List ℕ) (u p k : ℕ) (level code : Part) where
   pub crd-stops : (n l : ℕ) → walkedShown (toDirectory t 1 (start u) (chainOf (wordAt line p))) ≡ Stopped n l
-      → Did t k (crdPlan t u (wordAt line p) level code) (shown (plain n 1 0 0)) t
+      → Did t k (crdPlan t u (wordAt line p) level code) (shown (plain n (atLink 1 l) 0 0)) t
   unfolding crdPlan
   crd-stops n l e = holder-stops t u 1 k (wordAt line p) _ n l e
 
@@ -39,7 +41,7 @@ module _ (t line : List ℕ) (u p k : ℕ) (level code : Part) where
   crd-reaches d r x e w = holder-reaches t u 1 k (wordAt line p) (λ s. making t (directoryIn t line p level code s) [] [] []) d r x e w
 
   pub wrs-stops : (text : List ℕ) (life n l : ℕ) → walkedShown (toDirectory t 1 (start u) (chainOf (wordAt line p))) ≡ Stopped n l
-      → Did t k (wrsPlan t u text life level code (wordAt line p)) (shown (plain n 2 0 0)) t
+      → Did t k (wrsPlan t u text life level code (wordAt line p)) (shown (plain n (atLink 2 l) 0 0)) t
   unfolding wrsPlan
   wrs-stops text life n l e = holder-stops t u 2 k (wordAt line p) _ n l e
 

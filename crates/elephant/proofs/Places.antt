@@ -1,35 +1,41 @@
--- What the reader refuses is the whole line or one of its first eight arguments: each check names its place, and a DEL's names are
--- tried only once they are counted.
+-- What the reader refuses is the whole line or one of its first eight arguments: each check names its argument, and a DEL's names are
+-- tried only once they are counted. Its link is one of that argument's chain, which has few in a line that is not too long.
 use mathlib.Core.Bool.{Bool, true, false, not, cond}
 use mathlib.Core.List.{List, [], _∷_, _++_}
-use mathlib.Core.Path.{_≡_, refl}
+use mathlib.Core.Path.{_≡_, refl, subst}
 use Prim.Native.Nat.{ℕ, _+_, _-_, _≤_}
 use native.Mathlib.Omega.{arith}
 use lib.ListN.{length, take, drop, length-take}
 use lib.Dec.{leb}
 use borrow.Author.Tests.{leb-true, not-false}
-use Rattle.paper.specs.Name.{lonePoint}
-use Rattle.paper.specs.Line.{Word, words, word, legalLine}
-use Rattle.paper.specs.Check.{Check, Verdict, passed, refused, verdict}
+use Rattle.paper.specs.Name.{all, chain, lonePoint}
+use Rattle.paper.specs.Line.{Word, words, word, inLine, legalLine}
+use Rattle.paper.specs.Check.{whole, Refusal, refusalAt, Check, Verdict, passed, refused, verdict}
 use Rattle.paper.specs.Declaration.{Part, wrsLifetime, dprCode}
 use Rattle.paper.specs.Declaration as part
-use Rattle.paper.specs.Request.{Request, del, Read, request, unread, after, needed, readAs, counted, miscounted, malformed, illegal, each, between, misnamed, declaredAt, readCrd, readWrs, readRds, readLst, readCpy, readDup, readChn, readDpr, readDel, isFunction, readFunction, read}
-use Rattle.laws.proofs.Tests.{and-right, either, clash}
+use Rattle.paper.specs.Request.{Request, del, Read, request, unread, after, needed, readAs, counted, miscounted, malformed, illegal, each, between, misnamed, declaredAt, readCrd, readWrs, readRds, readLst, readCpy, readDup, readChn, readDpr, readDel, isFunction, readFunction, read, asked}
+use Rattle.laws.proofs.Tests.{and-left, and-right, either, clash}
 use Rattle.laws.proofs.Lists.{Every, every-append}
+use Rattle.demands.proofs.Request.Chains.{namesAt}
+use Rattle.demands.proofs.Request.Spoken.{Said, said}
+use Rattle.demands.proofs.Answered.Links.{linked-fair}
+use Rattle.words.specs.declared.begin.Begin.the-variants.{Own}
+use Rattle.words.proofs.Words.{word-names}
 use Rattle.reader.specs.Asked.{shownRead, shownRefusal}
 use Rattle.reader.specs.declared.request.Refusal as given
 use Rattle.reader.specs.declared.request.Read.the-variants as answers
+use Rattle.elephant.proofs.Links.{chain-few}
 
 abbrev NearCheck : Check → Type 0
-NearCheck c = c .refusal .place ≤ 8
+NearCheck c = c .refusal .place .argument ≤ 8
 
 abbrev NearVerdict : Verdict → Type 0
 NearVerdict passed = Unit {0}
-NearVerdict (refused f) = f .place ≤ 8
+NearVerdict (refused f) = f .place .argument ≤ 8
 
 abbrev Near : Read → Type 0
 Near (request r) = Unit {0}
-Near (unread f) = f .place ≤ 8
+Near (unread f) = f .place .argument ≤ 8
 
 verdict-near : (cs : List Check) → Every NearCheck cs → NearVerdict (verdict cs)
 unfolding verdict
@@ -43,12 +49,12 @@ read-near x (refused f) h n = h
 near-as : (r : Request) (cs : List Check) → Every NearCheck cs → Near (readAs r (verdict cs))
 near-as r cs h = read-near (request r) (verdict cs) (verdict-near cs h) tt
 
-near-needed : (place : ℕ) (p : Part) (r : ℕ → Request) → place ≤ 8 → Near (needed place p r)
-near-needed place (part.given n) r l = tt
-near-needed place part.notGiven r l = l
+near-needed : (argument : ℕ) (p : Part) (r : ℕ → Request) → argument ≤ 8 → Near (needed argument p r)
+near-needed argument (part.given n) r l = tt
+near-needed argument part.notGiven r l = l
 
 -- a check for each of some words
-each-near : (f : ℕ → Word → Check) → ((p : ℕ) (w : Word) → f p w .refusal .place ≡ p) → (p : ℕ) (ws : List Word) → p + length ws ≤ 9
+each-near : (f : ℕ → Word → Check) → ((p : ℕ) (w : Word) → f p w .refusal .place .argument ≡ p) → (p : ℕ) (ws : List Word) → p + length ws ≤ 9
     → Every NearCheck (each f p ws)
 unfolding each
 each-near f h p [] l = tt
@@ -119,7 +125,7 @@ module _ (line : List ℕ) where
     where
       go : (b : Bool) → not (counted 1 8 line) ≡ b
           → Near (readAs (del (drop 1 (words line)))
-          (cond b (refused (record { number = 6; place = 0; link = 0 })) (verdict (misnamed 1 (length (words line)) line))))
+          (cond b (refused (refusalAt 6 (whole 0))) (verdict (misnamed 1 (length (words line)) line))))
       go true e = omega arith
       go false e =
           let l = few-words (not-false (counted 1 8 line) e) in
@@ -150,3 +156,45 @@ module _ (line : List ℕ) where
       go : (x : Read) → Near x → answers.Refused f ≡ shownRead x → f .place ≤ 8
       go (request r) h z = clash (cc)
       go (unread g) h z = let y : f ≡ shownRefusal g = cc in rw y h
+
+-- "At most 256 bytes"
+legal-short : (line : List ℕ) → legalLine line ≡ true → length line ≤ 256
+unfolding legalLine
+legal-short line e = leb-true (length line) 256 (and-left (leb (length line) 256) (all inLine line) e)
+
+module _ (line : List ℕ) where
+  -- a line that was read as a request
+  pub read-short : (q : Request) → read line ≡ request q → length line ≤ 256
+  unfolding read
+  read-short q e = go (legalLine line) refl e
+    where
+      go : (b : Bool) → legalLine line ≡ b → cond b (readFunction line) (unread (refusalAt 4 (whole 0))) ≡ request q → length line ≤ 256
+      go true l z = legal-short line l
+      go false l z = clash (cc)
+
+  -- .. and as none
+  module _ (g : Refusal) (e : read line ≡ unread g) where
+    none-asked : asked line [] ≡ unread g
+    unfolding asked
+    none-asked = rw e
+
+    within : g .place .link ≤ length (chain (word line (g .place .argument) .names))
+    within = linked-fair line g (subst (Said (namesAt line)) none-asked (said line [])) .most
+
+    unread-near : g .place .link ≤ 65535
+    unfolding read
+    unread-near = go (legalLine line) refl e
+      where
+        go : (b : Bool) → legalLine line ≡ b → cond b (readFunction line) (unread (refusalAt 4 (whole 0))) ≡ unread g → g .place .link ≤ 65535
+        go true l z =
+            let k : ℕ = g .place .argument in
+            omega (arith, rw (word-names line k) at within, chain-few line (legal-short line l) (word line k .start) Own)
+        go false l z = let y : refusalAt 4 (whole 0) ≡ g = cc in rw (← y) (omega arith)
+
+  -- the link of the reader's answer
+  pub link-near : (f : given.Refusal) → answers.Refused f ≡ shownRead (read line) → f .link ≤ 65535
+  link-near f e = go (read line) refl e
+    where
+      go : (x : Read) → read line ≡ x → answers.Refused f ≡ shownRead x → f .link ≤ 65535
+      go (request r) q z = clash (cc)
+      go (unread g) q z = let y : f ≡ shownRefusal g = cc in rw y (unread-near g q)

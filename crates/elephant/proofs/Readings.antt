@@ -15,7 +15,7 @@ use Rattle.paper.specs.Table.{rec}
 use Rattle.paper.specs.Block.{fileText}
 use Rattle.paper.specs.Code.{noRead}
 use Rattle.paper.specs.Declaration.{Part, orElse}
-use Rattle.paper.specs.Check.{Check, check}
+use Rattle.paper.specs.Check.{Place, whole, refusalAt, Check, check}
 use Rattle.paper.specs.Walk.{file}
 use Rattle.paper.specs.Answer.{plain, granting}
 use Rattle.paper.specs.Effect.{readInhibited, showing, part, beyondEnd}
@@ -30,21 +30,21 @@ use Rattle.elephant.specs.Reading.{isRight, written, late, readingAt}
 use Rattle.elephant.specs.declared.reply.Sheet.{Sheet}
 use Rattle.elephant.proofs.Verdicts.{first-holds, first-passes, none-left, second-holds, wrote-refused, wrote-short, wrote-late, wrote-out, wrote-after}
 
-module _ (s : Sheet) (t reply : List ℕ) (f : State) where
-  pub reading-shut : noRead (f .code .0) ≡ true → Wrote t reply (readingAt s t reply (meant f)) (shown (plain 13 1 0 0)) reply
-  reading-shut a = wrote-refused t reply _ _ (first-holds (readInhibited 1 (meant f)) _ a)
+module _ (s : Sheet) (place : Place) (t reply : List ℕ) (f : State) where
+  pub reading-shut : noRead (f .code .0) ≡ true → Wrote t reply (readingAt s place t reply (meant f)) (shown (plain 13 place 0 0)) reply
+  reading-shut a = wrote-refused t reply _ _ (first-holds (readInhibited place (meant f)) _ a)
 
   module _ (a : noRead (f .code .0) ≡ false) (h : ℕ) (g : h ≡ file t (meant f)) where
-    pub reading-wrong : not (isRight s (rec t h)) ≡ true → Wrote t reply (readingAt s t reply (meant f)) (shown (plain 15 1 0 0)) reply
+    pub reading-wrong : not (isRight s (rec t h)) ≡ true → Wrote t reply (readingAt s place t reply (meant f)) (shown (plain 15 place 0 0)) reply
     reading-wrong b =
         wrote-refused t reply _ _
-        (second-holds (readInhibited 1 (meant f)) (check (not (isRight s (rec t (file t (meant f))))) 15 1) _ a (rw (← g) b))
+        (second-holds (readInhibited place (meant f)) (check (not (isRight s (rec t (file t (meant f))))) 15 place) _ a (rw (← g) b))
 
     pub reading-on : not (isRight s (rec t h)) ≡ false → (r : Answer) (w : List ℕ)
-        → Wrote t reply (showing [] (written s t h) reply (late s t h)) r w → Wrote t reply (readingAt s t reply (meant f)) r w
+        → Wrote t reply (showing [] (written s t h) reply (late s t h)) r w → Wrote t reply (readingAt s place t reply (meant f)) r w
     reading-on b r w y =
-        wrote-after t reply (written s t (file t (meant f))) (late s t (file t (meant f))) (readInhibited 1 (meant f))
-        (check (not (isRight s (rec t (file t (meant f))))) 15 1) a (rw (← g) b) r w (rw g at y)
+        wrote-after t reply (written s t (file t (meant f))) (late s t (file t (meant f))) (readInhibited place (meant f))
+        (check (not (isRight s (rec t (file t (meant f))))) 15 place) a (rw (← g) b) r w (rw g at y)
 
 -- as many bytes as there are, of i that are asked for
 take-most : (i m : ℕ) (l : List ℕ) → m ≡ min i (length l) → take m l ≡ take i l
@@ -62,19 +62,19 @@ module _ (t reply : List ℕ) (h n : ℕ) (f : Fit t) (s : simple (rec t h) ≡ 
   out = part (fileText t h) first count
 
   abbrev after : List Check
-  after = beyondEnd 2 first (fileText t h) ∷ []
+  after = beyondEnd (whole 2) first (fileText t h) ∷ []
 
   out-size : length out ≡ m
   unfolding part
   out-size = rw (length-take, length-drop, size) (sym e)
 
-  pub part-short : length reply < m → Wrote t reply (showing [] out reply after) (shown (plain 20 0 0 0)) reply
+  pub part-short : length reply < m → Wrote t reply (showing [] out reply after) (shown (plain 20 (whole 0) 0 0)) reply
   part-short l = wrote-short t reply out after (omega (arith, out-size))
 
-  pub part-beyond : m ≤ length reply → n < orElse first 0 → Wrote t reply (showing [] out reply after) (shown (plain 28 2 0 0)) reply
+  pub part-beyond : m ≤ length reply → n < orElse first 0 → Wrote t reply (showing [] out reply after) (shown (plain 28 (whole 2) 0 0)) reply
   part-beyond l b =
-      wrote-late t reply out after (record { number = 28; place = 2; link = 0 }) (omega (arith, out-size))
-      (first-holds (beyondEnd 2 first (fileText t h)) [] (lt-ltb (length (fileText t h)) (orElse first 0) (omega (arith, size))))
+      wrote-late t reply out after (refusalAt 28 (whole 2)) (omega (arith, out-size))
+      (first-holds (beyondEnd (whole 2) first (fileText t h)) [] (lt-ltb (length (fileText t h)) (orElse first 0) (omega (arith, size))))
 
   pub part-written : (w : List ℕ) → m ≤ length reply → orElse first 0 ≤ n → w ≡ sets reply 0 (take m (drop (orElse first 0) (fileText t h)))
       → Wrote t reply (showing [] out reply after) (shown (granting false m 0)) w
@@ -83,5 +83,6 @@ module _ (t reply : List ℕ) (h n : ℕ) (f : Fit t) (s : simple (rec t h) ≡ 
       let o : take m (drop (orElse first 0) (fileText t h)) ≡ out =
       take-most (orElse count (length (fileText t h))) m (drop (orElse first 0) (fileText t h)) (rw (length-drop, size) e) in
       let k : length out ≤ length reply = omega (arith, out-size) in
-      let v = first-passes (beyondEnd 2 first (fileText t h)) [] (le-ltb (length (fileText t h)) (orElse first 0) (omega (arith, size))) ∙ none-left in
+      let i = le-ltb (length (fileText t h)) (orElse first 0) (omega (arith, size)) in
+      let v = first-passes (beyondEnd (whole 2) first (fileText t h)) [] i ∙ none-left in
       rw (← out-size) (wrote-out t reply out after w k v (z ∙ ap (sets reply 0) o ∙ sets-front out reply k))

@@ -4,7 +4,7 @@ use mathlib.Core.Bool.{true, false}
 use mathlib.Core.List.{List}
 use mathlib.Core.Path.{_≡_, sym, _∙_}
 use Prim.Native.Nat.{ℕ}
-use Rattle.paper.specs.Check.{Refusal}
+use Rattle.paper.specs.Check.{atLink, whole, Refusal, refusalAt}
 use Rattle.paper.specs.Request.{read, textTooLong}
 use Rattle.paper.specs.Answer.{plain, requested, entrance}
 use Rattle.reader.specs.Asked.{shownRead}
@@ -23,25 +23,26 @@ use Rattle.elephant.proofs.Requests.{requested-out, requested-unread, r
 
 module _ (t line text reply : List ℕ) (u k n : ℕ) (e : n ≡ entranceNumber (entrance t u)) where
   -- 1, 2, 3
-  pub refused-out : (n ≡ 0 → ⊥) → (z : Answer) → z ≡ shown (plain n 0 0 0) → Promised (requested t line text reply u k) z t reply
+  pub refused-out : (n ≡ 0 → ⊥) → (z : Answer) → z ≡ shown (plain n (whole 0) 0 0) → Promised (requested t line text reply u k) z t reply
   refused-out h z a =
-      let f : Refusal = record { number = n; place = 0; link = 0 } in
+      let f : Refusal = refusalAt n (whole 0) in
       promised-refusing t reply _ f z (requested-out t line text reply u k f (not-entered t u n e h)) a
 
   module _ (i : n ≡ 0) where
     -- 4 to 9
-    pub refused-unread : (f : given.Refusal) → answers.Refused f ≡ shownRead (read line) → (z : Answer) → z ≡ shown (plain (f .number) (f .place) 0 0)
+    pub refused-unread : (f : given.Refusal) → answers.Refused f ≡ shownRead (read line) → (z : Answer)
+        → z ≡ shown (plain (f .number) (atLink (f .place) (f .link)) 0 0)
         → Promised (requested t line text reply u k) z t reply
     refused-unread f q z a =
-        promised-refusing t reply _ (record { number = f .number; place = f .place; link = f .link }) z
+        promised-refusing t reply _ (refusalAt (f .number) (atLink (f .place) (f .link))) z
         (requested-unread t line text reply u k (entered t u (sym i ∙ e) .passed) f q) a
 
     module _ (r : Request) (q : answers.Granted r ≡ shownRead (read line)) where
       -- 10
-      pub refused-long : textTooLong (requestMeant line r) text ≡ true → (z : Answer) → z ≡ shown (plain 10 0 0 0)
+      pub refused-long : textTooLong (requestMeant line r) text ≡ true → (z : Answer) → z ≡ shown (plain 10 (whole 0) 0 0)
           → Promised (requested t line text reply u k) z t reply
       refused-long b z a =
-          promised-refusing t reply _ (record { number = 10; place = 0; link = 0 }) z
+          promised-refusing t reply _ (refusalAt 10 (whole 0)) z
           (requested-long t line text reply u k (entered t u (sym i ∙ e) .passed) r q b) a
 
       -- none

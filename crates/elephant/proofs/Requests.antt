@@ -8,7 +8,7 @@ use native.Mathlib.Omega.{arith}
 use lib.Dec.{leb}
 use lib.ListN.{length, getD, drop}
 use borrow.Author.Tests.{leb-true}
-use Rattle.paper.specs.Check.{Refusal, passed, refused, check}
+use Rattle.paper.specs.Check.{atLink, whole, Refusal, refusalAt, passed, refused, check}
 use Rattle.paper.specs.Line.{Word, words, word}
 use Rattle.paper.specs.Request as paper
 use Rattle.paper.specs.Request.{crd, wrs, rds, cpy, dup, chn, del, dpr, lst, lstBase, request, unread, read, textTooLong, readAs, withText, asked}
@@ -41,33 +41,33 @@ module _ (t line text reply : List ℕ) (u k : ℕ) where
 
     -- 4 to 9
     pub requested-unread : (f : given.Refusal) → answers.Refused f ≡ shownRead (read line)
-        → requested t line text reply u k ≡ refusing t reply (record { number = f .number; place = f .place; link = f .link })
+        → requested t line text reply u k ≡ refusing t reply (refusalAt (f .number) (atLink (f .place) (f .link)))
     unfolding asked
     requested-unread f q = go (read line) refl q
       where
         go : (x : paper.Read) → read line ≡ x → answers.Refused f ≡ shownRead x
-            → requested t line text reply u k ≡ refusing t reply (record { number = f .number; place = f .place; link = f .link })
+            → requested t line text reply u k ≡ refusing t reply (refusalAt (f .number) (atLink (f .place) (f .link)))
         go (request r) p z = clash (cc)
         go (unread g) p z =
             let y : f ≡ shownRefusal g = cc in
-            acts (unread g) (rw p) ∙ ap (λ (x : given.Refusal). refusing t reply (record { number = x .number; place = x .place; link = x .link })) (sym y)
+            acts (unread g) (rw p) ∙ ap (λ (x : given.Refusal). refusing t reply (refusalAt (x .number) (atLink (x .place) (x .link)))) (sym y)
 
     module _ (r : Request) (q : answers.Granted r ≡ shownRead (read line)) where
       -- 10
       pub requested-long : textTooLong (requestMeant line r) text ≡ true
-          → requested t line text reply u k ≡ refusing t reply (record { number = 10; place = 0; link = 0 })
+          → requested t line text reply u k ≡ refusing t reply (refusalAt 10 (whole 0))
       unfolding asked
       requested-long b =
-          acts (unread (record { number = 10; place = 0; link = 0 }))
+          acts (unread (refusalAt 10 (whole 0)))
           (ap (withText text) (read-granted line r q)
-          ∙ ap (readAs (requestMeant line r)) (first-holds (check (textTooLong (requestMeant line r) text) 10 0) [] b))
+          ∙ ap (readAs (requestMeant line r)) (first-holds (check (textTooLong (requestMeant line r) text) 10 (whole 0)) [] b))
 
       -- what was asked
       pub asked-granted : textTooLong (requestMeant line r) text ≡ false → asked line text ≡ request (requestMeant line r)
       unfolding asked
       asked-granted b =
           ap (withText text) (read-granted line r q)
-          ∙ ap (readAs (requestMeant line r)) (first-passes (check (textTooLong (requestMeant line r) text) 10 0) [] b ∙ none-left)
+          ∙ ap (readAs (requestMeant line r)) (first-passes (check (textTooLong (requestMeant line r) text) 10 (whole 0)) [] b ∙ none-left)
 
       pub requested-granted : textTooLong (requestMeant line r) text ≡ false
           → requested t line text reply u k ≡ granted t text reply u k (requestMeant line r)

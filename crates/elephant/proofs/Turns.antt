@@ -8,43 +8,44 @@ use native.Mathlib.Numerals.{add-one}
 use lib.ListN.{length, drop, drop-of-length-le}
 use lib.Seq.{drop-cons}
 use borrow.Author.Tests.{le-leb, lt-leb}
-use Rattle.paper.specs.Check.{Verdict, passed, refused, verdict}
+use Rattle.paper.specs.Check.{whole, Verdict, passed, refused, verdict}
 use Rattle.paper.specs.Line.{Word, words, word}
 use Rattle.paper.specs.Effect.{Planned, plan, halted, delPlan}
 use Rattle.paper.specs.Answer as paper
 use Rattle.paper.specs.Answer.{Outcome, plain, stores, ran, oneName, deleting}
-use Rattle.words.specs.Place.{nextWord}
+use Rattle.words.specs.Place.{nextWord, wordAt}
 use Rattle.words.proofs.Words.{word-here, word-next}
 use Rattle.reader.proofs.Ties.{rest-word}
 use Rattle.laws.proofs.Tests.{clash}
 use Rattle.demands.proofs.Sound.Clauses.{Sound, sound-clauses, clauses-sound}
 use Rattle.demands.proofs.SoundKept.Kept.{Keeps, del-keeps}
-use Rattle.elephant.specs.Done.{wordAt, did, Fit}
-use Rattle.answers.specs.Shown.{shown}
+use Rattle.elephant.specs.Done.{did, Fit}
+use Rattle.answers.specs.Shown.{placeMeant, placeShown, shown}
+use Rattle.answers.specs.declared.Place.{Place}
 use Rattle.answers.specs.declared.Answer.{Answer}
 use Rattle.elephant.specs.Deleted.{deletedBy, deletedShown, deletedAnswer, Came, CameAll}
 use Rattle.elephant.specs.declared.delete.Deleted.{Deleted}
 use Rattle.elephant.specs.declared.delete.Deleted.the-variants.{Passed, Refused}
 
 module _ (t : List ℕ) (k n m : ℕ) (more : List ℕ → ℕ → ℕ → ℕ → Outcome) where
-  one-refused : (x : Planned) (a b : ℕ) → deletedShown x ≡ Refused a b
-      → oneName t [] k n m more (ran k x) ≡ record { answer = plain a b n m; table = did t k x .table; reply = [] }
-  one-refused (halted f) a b e = let y : f .number ≡ a = cc in let z : f .place ≡ b = cc in rw (y, z)
+  one-refused : (x : Planned) (a : ℕ) (b : Place) → deletedShown x ≡ Refused a b
+      → oneName t [] k n m more (ran k x) ≡ record { answer = plain a (placeMeant b) n m; table = did t k x .table; reply = [] }
+  one-refused (halted f) a b e = let y : f .number ≡ a = cc in let z : placeShown (f .place) ≡ b = cc in rw (y, ← z)
   one-refused (plan p) a b e = go (verdict (p .checks)) refl e
     where
       go : (v : Verdict) → verdict (p .checks) ≡ v → deletedBy (length (p .stores)) v ≡ Refused a b
-          → oneName t [] k n m more (stores k p v) ≡ record { answer = plain a b n m; table = did t k (plan p) .table; reply = [] }
+          → oneName t [] k n m more (stores k p v) ≡ record { answer = plain a (placeMeant b) n m; table = did t k (plan p) .table; reply = [] }
       go passed q e = clash (cc)
-      go (refused f) q e = let y : f .number ≡ a = cc in let z : f .place ≡ b = cc in rw (q, y, z)
+      go (refused f) q e = let y : f .number ≡ a = cc in let z : placeShown (f .place) ≡ b = cc in rw (q, y, ← z)
 
   -- too few stores are left
   one-cut : (x : Planned) (c : ℕ) → deletedShown x ≡ Passed c → k < c
-      → oneName t [] k n m more (ran k x) ≡ record { answer = plain 22 0 n (m + k); table = did t k x .table; reply = [] }
+      → oneName t [] k n m more (ran k x) ≡ record { answer = plain 22 (whole 0) n (m + k); table = did t k x .table; reply = [] }
   one-cut (halted f) c e l = clash (cc)
   one-cut (plan p) c e l = go (verdict (p .checks)) refl e
     where
       go : (v : Verdict) → verdict (p .checks) ≡ v → deletedBy (length (p .stores)) v ≡ Passed c
-          → oneName t [] k n m more (stores k p v) ≡ record { answer = plain 22 0 n (m + k); table = did t k (plan p) .table; reply = [] }
+          → oneName t [] k n m more (stores k p v) ≡ record { answer = plain 22 (whole 0) n (m + k); table = did t k (plan p) .table; reply = [] }
       go passed q e = let y : length (p .stores) ≡ c = cc in rw (q, lt-leb (length (p .stores)) k (omega arith))
       go (refused f) q e = clash (cc)
 
@@ -68,13 +69,13 @@ done-fit t k c (plan p) h e l = go (verdict (p .checks)) refl e
     go (refused f) q e = clash (cc)
 
 module _ (t : List ℕ) (u k n m : ℕ) (w : Word) (ws : List Word) where
-  pub turn-refused : (r : Deleted) (a b : ℕ) → r ≡ deletedShown (delPlan t u (n + 1) w) → r ≡ Refused a b
+  pub turn-refused : (r : Deleted) (a : ℕ) (b : Place) → r ≡ deletedShown (delPlan t u (n + 1) w) → r ≡ Refused a b
       → deleting t u [] k n m (w ∷ ws) ≡ record { answer = deletedAnswer r n m; table = did t k (delPlan t u (n + 1) w) .table; reply = [] }
   unfolding deleting
   turn-refused r a b p q = one-refused t k n m _ (delPlan t u (n + 1) w) a b (sym p ∙ q) ∙ rw q
 
   pub turn-cut : (c : ℕ) → Passed c ≡ deletedShown (delPlan t u (n + 1) w) → k < c
-      → deleting t u [] k n m (w ∷ ws) ≡ record { answer = plain 22 0 n (m + k); table = did t k (delPlan t u (n + 1) w) .table; reply = [] }
+      → deleting t u [] k n m (w ∷ ws) ≡ record { answer = plain 22 (whole 0) n (m + k); table = did t k (delPlan t u (n + 1) w) .table; reply = [] }
   unfolding deleting
   turn-cut c p l = one-cut t k n m _ (delPlan t u (n + 1) w) c (sym p) l
 
@@ -112,7 +113,7 @@ all-came t₀ line u stop a x v w e =
     record { answer = e ∙ sym (ap (λ (o : Outcome). shown (o .answer)) w); table = sym (ap (λ (o : Outcome). o .table) w) }
 
 pub deleting-end : (t₀ line : List ℕ) (u stop : ℕ) (t : List ℕ) (p names left : ℕ) → Deleting t₀ line u stop t p names left
-    → length (drop 1 (words line)) ≤ names → (x : Answer) → x ≡ shown (plain 0 0 names (stop - left))
+    → length (drop 1 (words line)) ≤ names → (x : Answer) → x ≡ shown (plain 0 (whole 0) names (stop - left))
     → CameAll t₀ u stop (drop 1 (words line)) x t
 unfolding deleting
 deleting-end t₀ line u stop t p names left w l x e =
@@ -130,7 +131,7 @@ module _ (t₀ line : List ℕ) (u stop : ℕ) (t : List ℕ) (p names left : �
       ≡ deleting t u [] left names (stop - left) (wordAt line p ∷ drop (names + 1) (drop 1 (words line)))
   now = sym (w .whole) ∙ rw next
 
-  pub deleting-refused : (a b : ℕ) → r ≡ Refused a b → (x : Answer) → x ≡ shown (deletedAnswer r names (stop - left))
+  pub deleting-refused : (a : ℕ) (b : Place) → r ≡ Refused a b → (x : Answer) → x ≡ shown (deletedAnswer r names (stop - left))
       → CameAll t₀ u stop (drop 1 (words line)) x v
   deleting-refused a b y x e =
       all-came t₀ line u stop _ x v
@@ -140,7 +141,7 @@ module _ (t₀ line : List ℕ) (u stop : ℕ) (t : List ℕ) (p names left : �
     shows : Passed c ≡ deletedShown (delPlan t u (names + 1) (wordAt line p))
     shows = sym x ∙ z .answer
 
-    pub deleting-cut : left < c → (y : Answer) → y ≡ shown (plain 22 0 names stop) → CameAll t₀ u stop (drop 1 (words line)) y v
+    pub deleting-cut : left < c → (y : Answer) → y ≡ shown (plain 22 (whole 0) names stop) → CameAll t₀ u stop (drop 1 (words line)) y v
     deleting-cut m y e =
         let q : stop - left + left ≡ stop = omega (arith, w .some) in
         all-came t₀ line u stop _ y v (now ∙ turn-cut t u left names (stop - left) (wordAt line p) _ c shows m ∙ rw (z .table, q)) e

@@ -9,12 +9,12 @@ use lib.ListN.{length, take, drop}
 use lib.Seq.{take-all}
 use borrow.Author.Tests.{leb-true, lt-ltb, le-ltb}
 use Rattle.laws.proofs.Tests.{clash}
-use Rattle.paper.specs.Check.{Refusal, Check, check, Verdict, passed, refused, verdict}
+use Rattle.paper.specs.Check.{Place, whole, Refusal, Check, check, Verdict, passed, refused, verdict}
 use Rattle.paper.specs.Store.{run}
 use Rattle.paper.specs.Effect.{Plan, plan, tooShort, showing}
 use Rattle.paper.specs.Answer.{Outcome, plain, granting, stores, done, cut, ran, single, refusing}
 use Rattle.effects.specs.Stage.{Made}
-use Rattle.answers.specs.Shown.{shown, stored}
+use Rattle.answers.specs.Shown.{placeShown, shown, stored}
 use Rattle.answers.specs.declared.Answer.{Answer}
 use Rattle.elephant.specs.Done.{Did, Wrote}
 use Rattle.elephant.specs.Deleted.{deletedBy, Came}
@@ -56,7 +56,7 @@ front-passes (c ∷ cs) ds e = go (c .when) e (front-passes cs ds)
     go false e r = r e
 
 -- a last check that does not hold, after three
-pub last-passes : (cs : List Check) (a b c : Check) (number place : ℕ)
+pub last-passes : (cs : List Check) (a b c : Check) (number : ℕ) (place : Place)
     → verdict (cs ++ a ∷ b ∷ c ∷ check false number place ∷ []) ≡ verdict (cs ++ a ∷ b ∷ c ∷ [])
 unfolding verdict
 last-passes [] a b c number place = refl
@@ -88,7 +88,7 @@ module _ (t reply : List ℕ) (k : ℕ) (p : Plan) where
   single-answer e q = rw e (go (leb (length (p .stores)) k))
     where
       go : (b : Bool) → single t reply k (cond b (done p) (cut p)) .answer
-          ≡ cond b (granting (p .displaced) 0 (length (p .stores))) (plain 22 0 0 k)
+          ≡ cond b (granting (p .displaced) 0 (length (p .stores))) (plain 22 (whole 0) 0 k)
       go true = rw q
       go false = refl
 
@@ -108,7 +108,7 @@ did-stored t u k l p e q w =
 -- ---- one name of a DEL
 
 pub came-refused : (t : List ℕ) (k : ℕ) (p : Plan) (g : Refusal) → verdict (p .checks) ≡ refused g
-    → Came t k (plan p) (Refused (g .number) (g .place)) t
+    → Came t k (plan p) (Refused (g .number) (placeShown (g .place))) t
 came-refused t k p g e =
     record {
       answer = sym (ap (deletedBy (length (p .stores))) e);
@@ -132,7 +132,7 @@ module _ (t reply : List ℕ) where
   -- with the checks after 20
   module _ (out : List ℕ) (late : List Check) where
     -- it does not fit
-    pub wrote-short : length reply < length out → Wrote t reply (showing [] out reply late) (shown (plain 20 0 0 0)) reply
+    pub wrote-short : length reply < length out → Wrote t reply (showing [] out reply late) (shown (plain 20 (whole 0) 0 0)) reply
     wrote-short l = wrote-refused _ _ (first-holds (tooShort out reply) late (lt-ltb _ _ l))
 
     -- it fits, and a check after 20 holds

@@ -8,7 +8,7 @@ use native.Mathlib.Omega.{arith}
 use lib.Dec.{leb}
 use lib.ListN.{getD, length}
 use Rattle.paper.specs.Table.{room}
-use Rattle.paper.specs.Check.{Check, check, Verdict, passed, verdict, refused}
+use Rattle.paper.specs.Check.{whole, Check, check, Verdict, passed, verdict, refused}
 use Rattle.paper.specs.Store.{Store}
 use Rattle.paper.specs.Code.{noWrite}
 use Rattle.paper.specs.Answer.{Outcome, plain, single, stores, done, cut}
@@ -58,12 +58,12 @@ module _ (t : List ℕ) (k : ℕ) (m : Making) where
   unfolding making ending
   open-ends to r u e w =
       did-same t u k (making t m [] (linkTaken t to m) []) (ending t to m false) r
-      (did-alike t k _ _ _ _ (first-passes _ _ e ∙ sym (last-passes (linkTaken t to m) _ _ _ 25 3))) w
+      (did-alike t k _ _ _ _ (first-passes _ _ e ∙ sym (last-passes (linkTaken t to m) _ _ _ 25 (whole 3)))) w
 
 -- 13, 14 and 15 of CPY, in that order, with 25 after all
 module _ (t : List ℕ) (k : ℕ) (m : Making) (c e : Check) (low : Bool) where
   abbrev last : List Check
-  last = check low 25 3 ∷ []
+  last = check low 25 (whole 3) ∷ []
 
   pub copy-first : c .when ≡ true → Did t k (making t m (c ∷ []) (e ∷ []) last) (shown (plain (c .refusal .number) (c .refusal .place) 0 0)) t
   unfolding making

@@ -5,12 +5,10 @@ use mathlib.Core.Path.{_≡_}
 use Prim.Native.Nat.{ℕ, _<_}
 use Rattle.paper.specs.Record.{byte}
 use Rattle.paper.specs.Table.{sized, rooms, rec}
-use Rattle.paper.specs.Line.{Word}
 use Rattle.paper.specs.Sound.{sound}
 use Rattle.paper.specs.Walk.{State, file}
 use Rattle.paper.specs.Effect.{Planned}
 use Rattle.paper.specs.Answer.{Outcome, ran, single}
-use Rattle.words.specs.Place.{namesFrom}
 use Rattle.answers.specs.Shown.{shown}
 use Rattle.answers.specs.declared.Answer.{Answer}
 
@@ -25,10 +23,6 @@ pub record Filed (t : List ℕ) (f : State) : Type 0 where
   pub entry : f .entry < rooms t
   pub heading : file t f < rooms t
   pub kind : byte (rec t (file t f)) 0 ≡ 1
-
--- the word that starts at p
-abbrev pub wordAt : List ℕ → ℕ → Word
-wordAt line p = record { start = p; names = namesFrom line p }
 
 -- a plan done on a table with a stop number; what is written to a reply is said apart
 abbrev pub did : List ℕ → ℕ → Planned → Outcome

@@ -7,7 +7,7 @@ use lib.ListN.{getD, length}
 use Rattle.paper.specs.Table.{sized, rec}
 use Rattle.paper.specs.Declaration.{Part, orElse}
 use Rattle.paper.specs.Line.{Word}
-use Rattle.paper.specs.Check.{Check, check}
+use Rattle.paper.specs.Check.{Place, whole, Check, check}
 use Rattle.paper.specs.Request as asked
 use Rattle.paper.specs.Entry.{Holder}
 use Rattle.paper.specs.Block.{blocks, fileText}
@@ -16,6 +16,7 @@ use Rattle.paper.specs.Store.{Store, puts}
 use Rattle.paper.specs.Effect.{Making, Planned, plan, borne, isFound, placing, fullUp, displacing, stillPeopled, noRoom, newFile, entryIn, chainOf, filing, copyHeading, making, linking, linkTaken, tooLow}
 use Rattle.paper.specs.Walk as W
 use Rattle.paper.specs.Walk.{lastName}
+use Rattle.words.specs.Place.{wordAt}
 use Rattle.words.specs.declared.begin.Begin.{Begin}
 use Rattle.words.specs.declared.begin.Begin.the-variants.{Own, Take, Give}
 use Rattle.effects.specs.Listed.{freeRooms}
@@ -24,7 +25,6 @@ use Rattle.walk.specs.Shown.{meant, chainAt}
 use Rattle.walk.specs.declared.state.State.{State}
 use Rattle.placing.specs.Placing.{entryChecks}
 use Rattle.placing.specs.declared.Meets.{Meets}
-use Rattle.elephant.specs.Done.{wordAt}
 use Rattle.elephant.specs.declared.filing.File.{File}
 
 -- how many stores a new file has
@@ -45,7 +45,7 @@ abbrev pub storesBy : ℕ → Meets → ℕ
 storesBy first m = first + cond (m .lost) (m .count .0 + 2) 1
 
 -- a new entry of the directory d
-abbrev pub makingOf : List ℕ → ℕ → State → List ℕ → ℕ → ℕ → File → List ℕ → Making
+abbrev pub makingOf : List ℕ → Place → State → List ℕ → ℕ → ℕ → File → List ℕ → Making
 makingOf t place d name code named f text =
     record {
       place = place;
@@ -62,14 +62,14 @@ takenBy (Take user) displaced = false
 takenBy (Give user) displaced = displaced
 
 -- 16 to 19, by what is met, and 25
-abbrev pub allChecks : List ℕ → Begin → ℕ → Holder → Meets → ℕ → Bool → List Check
-allChecks t to place d m n low = check (takenBy to (m .displaced)) 16 place ∷ entryChecks t place d m n ++ check low 25 3 ∷ []
+abbrev pub allChecks : List ℕ → Begin → Place → Holder → Meets → ℕ → Bool → List Check
+allChecks t to place d m n low = check (takenBy to (m .displaced)) 16 place ∷ entryChecks t place d m n ++ check low 25 (whole 3) ∷ []
 
 -- a new entry's plan after the checks 13, 14 and 15; 25 for a copy whose level is too low
 unfoldable pub ending : List ℕ → asked.Begin → Making → Bool → Planned
 ending t to m low =
     plan (record {
-      checks = linkTaken t to m ++ fullUp t m ∷ stillPeopled (m .place) (displacing t (borne t m) (m .entry)) ∷ noRoom t m ∷ check low 25 3 ∷ [];
+      checks = linkTaken t to m ++ fullUp t m ∷ stillPeopled (m .place) (displacing t (borne t m) (m .entry)) ∷ noRoom t m ∷ check low 25 (whole 3) ∷ [];
       stores = placing t m (borne t m);
       displaced = isFound (borne t m);
       reply = [];
@@ -84,12 +84,13 @@ pub record Ready (t r name text : List ℕ) (named : ℕ) : Type 0 where
   pub few : length text ≤ 24000
   pub small : named < 65536
 
--- what a new name at p stands on: the table, the name's length and the text's
+-- what a new name at p stands on: the table, the name's length and the text's; and the line's, in which its links are counted
 pub record Named (t line : List ℕ) (p : ℕ) (text : List ℕ) : Type 0 where
   pub size : sized t ≡ true
   pub sound : sound t ≡ true
   pub short : length (lastName (chainOf (wordAt line p))) ≤ 10
   pub few : length text ≤ 24000
+  pub brief : length line ≤ 256
 
 -- .. and a new name that begins so: its last name is the one that is written
 pub record Linked (t line : List ℕ) (to : Begin) (p : ℕ) : Type 0 where
@@ -107,4 +108,4 @@ copied t w d h life lev code =
 
 -- .. and whether its level is below the source's
 abbrev pub isLow : Part → List ℕ → Bool
-isLow lev source = tooLow 3 lev source .when
+isLow lev source = tooLow (whole 3) lev source .when

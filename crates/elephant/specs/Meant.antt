@@ -5,11 +5,11 @@ use lib.ListN.{drop}
 use Rattle.paper.specs.Line.{words}
 use Rattle.paper.specs.Request as asked
 use Rattle.paper.specs.Request.{crd, wrs, rds, cpy, dup, chn, del, dpr, lst, lstBase}
+use Rattle.words.specs.Place.{wordAt}
 use Rattle.words.specs.Shown.{beginMeant, meantPart}
 use Rattle.declarations.specs.Given.{lifetimePart, levelPart, digitPart}
 use Rattle.reader.specs.declared.request.Request.{Request}
 use Rattle.reader.specs.declared.request.Request.the-variants.{Crd, Wrs, Rds, Cpy, Dup, Chn, Del, Dpr, Lst, LstBase}
-use Rattle.elephant.specs.Done.{wordAt}
 
 abbrev pub requestMeant : List ℕ → Request → asked.Request
 requestMeant line (Crd name level digit) = crd (wordAt line name) (levelPart level) (digitPart digit)

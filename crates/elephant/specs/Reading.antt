@@ -6,10 +6,10 @@ use Rattle.paper.specs.Record.{directory, simple}
 use Rattle.paper.specs.Table.{rec}
 use Rattle.paper.specs.Line.{Word}
 use Rattle.paper.specs.Block.{fileText}
-use Rattle.paper.specs.Check.{Check, check}
+use Rattle.paper.specs.Check.{Place, whole, Check, check}
 use Rattle.paper.specs.Listing.{directoryLines}
 use Rattle.paper.specs.Walk.{State, file}
-use Rattle.paper.specs.Effect.{Planned, readInhibited, toEnd, showing, part, beyondEnd}
+use Rattle.paper.specs.Effect.{Planned, readInhibited, endOf, toEnd, showing, part, beyondEnd}
 use Rattle.words.specs.Shown.{meantPart}
 use Rattle.elephant.specs.declared.reply.Sheet.{Sheet}
 use Rattle.elephant.specs.declared.reply.Sheet.the-variants.{Text, Lines}
@@ -26,13 +26,13 @@ written Lines t h = directoryLines t h
 
 -- the checks after 20: "28 first beyond the end"
 abbrev pub late : Sheet → List ℕ → ℕ → List Check
-late (Text first count) t h = beyondEnd 2 (meantPart first) (fileText t h) ∷ []
+late (Text first count) t h = beyondEnd (whole 2) (meantPart first) (fileText t h) ∷ []
 late Lines t h = []
 
--- at the end of the walk: `rdsPlan` and `lstPlan`
-abbrev pub readingAt : Sheet → List ℕ → List ℕ → State → Planned
-readingAt s t reply f =
-    showing (readInhibited 1 f ∷ check (not (isRight s (rec t (file t f)))) 15 1 ∷ []) (written s t (file t f)) reply (late s t (file t f))
+-- at the end of the walk, which is this place: `rdsPlan` and `lstPlan`
+abbrev pub readingAt : Sheet → Place → List ℕ → List ℕ → State → Planned
+readingAt s place t reply f =
+    showing (readInhibited place f ∷ check (not (isRight s (rec t (file t f)))) 15 place ∷ []) (written s t (file t f)) reply (late s t (file t f))
 
 abbrev pub reading : Sheet → List ℕ → ℕ → List ℕ → Word → Planned
-reading s t u reply name = toEnd t u 1 name (λ _ f. readingAt s t reply f)
+reading s t u reply name = toEnd t u 1 name (λ _ f. readingAt s (endOf 1 name) t reply f)

@@ -1,7 +1,10 @@
 // CPY: a new file with the text of an old one.
 use crate::making::file;
+use crate::place::end_of;
+use crate::place::refused_at;
 use crate::reply::copy_text;
 use answers::Answer;
+use answers::Place;
 use declarations::part::Digit;
 use declarations::part::Level;
 use declarations::part::Lifetime;
@@ -21,15 +24,18 @@ use words::begin::Begin;
 ghost use mathlib.Core.Bool.{true};
 ghost use mathlib.Core.List.{[], _∷_};
 ghost use mathlib.Core.Path.{_≡_};
+ghost use Rattle.paper.specs.Check.{whole};
 ghost use Rattle.paper.specs.Effect.{making, readInhibited, notSimple, tooLow, cpyPlan, listOf, begun};
 ghost use Rattle.paper.specs.Record.{simple};
 ghost use Rattle.paper.specs.Request.{own};
 ghost use Rattle.paper.specs.Table.{rec};
 ghost use Rattle.paper.specs.Walk.{file};
 ghost use Rattle.declarations.specs.Given.{lifetimePart, levelPart, digitPart};
+ghost use Rattle.words.specs.Place.{wordAt};
 ghost use Rattle.words.specs.Shown.{beginMeant};
 ghost use Rattle.walk.specs.Shown.{meant};
-ghost use Rattle.elephant.specs.Done.{wordAt, Did};
+ghost use Rattle.answers.specs.Shown.{placeMeant};
+ghost use Rattle.elephant.specs.Done.{Did};
 ghost use Rattle.elephant.specs.Filing.{Named, copied, isLow, ending};
 
 // The text of a simple file filed under the new name in d, after 13, 14 and 15.
@@ -78,12 +84,13 @@ fn copy(
     )
 }
 
-// 13, 14 and 15 of a copy of the file f to d, and the copy.
+// 13, 14 and 15 of a copy of the file f, whose name is at this place, to d, and the copy.
 fn cpy_in(
     table: &mut [u8],
     line: &[u8],
     new: usize,
     d: State,
+    place: Place,
     f: State,
     lifetime: Lifetime,
     level: Level,
@@ -95,20 +102,20 @@ fn cpy_in(
         (making (now (table .entry))
         (copied (now (table .entry)) (wordAt (now (line .entry)) new) (meant d) (file (now (table .entry)) (meant f))
         (lifetimePart lifetime) (levelPart level) (digitPart digit))
-        (readInhibited 1 (meant f) ∷ []) (notSimple 1 (now (table .entry)) (meant f) ∷ [])
-        (tooLow 3 (levelPart level) (rec (now (table .entry)) (file (now (table .entry)) (meant f))) ∷ [])) r (now (table .exit)) ⌝ }
+        (readInhibited (placeMeant place) (meant f) ∷ []) (notSimple (placeMeant place) (now (table .entry)) (meant f) ∷ [])
+        (tooLow (whole 3) (levelPart level) (rec (now (table .entry)) (file (now (table .entry)) (meant f))) ∷ [])) r (now (table .exit)) ⌝ }
 {
     let read = f.code;
     if read.inhibits_read() {
-        return Answer::refused(13, 1);
+        return Answer::refused(13, place);
     }
     let written = d.code;
     if written.inhibits_write() {
-        return Answer::refused(14, 2);
+        return Answer::refused(14, end_of(line, new, Begin::Own, 2));
     }
     let source = heading_named(table, f.entry);
     if !is_simple(table, source) {
-        return Answer::refused(15, 1);
+        return Answer::refused(15, place);
     }
     copy(table, line, new, d, source, lifetime, level, digit, stop)
 }
@@ -137,8 +144,11 @@ pub(crate) fn cpy(
         Both::Off {
             number,
             place,
-            link: _,
-        } => Answer::refused(number, place),
-        Both::At(f, d) => cpy_in(table, line, new, d, f, lifetime, level, digit, stop),
+            link,
+        } => refused_at(number, place, link),
+        Both::At(f, d) => {
+            let place = end_of(line, old, from, 1);
+            cpy_in(table, line, new, d, place, f, lifetime, level, digit, stop)
+        }
     }
 }

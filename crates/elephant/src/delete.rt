@@ -1,5 +1,8 @@
 // DEL: name by name, an entry cleared and then its file, if no other entry names it.
+use crate::place::at_link;
+use crate::place::end_of;
 use answers::Answer;
+use answers::Place;
 use effects::beside::is_named_beside;
 use effects::rooms::text_rooms;
 use effects::stage::clear_file;
@@ -17,22 +20,23 @@ use words::begin::Begin;
 use words::line::next_word;
 ghost use mathlib.Core.List.{_∷_};
 ghost use mathlib.Core.Path.{_≡_};
-ghost use Prim.Native.Nat.{_<_};
+ghost use Prim.Native.Nat.{_≤_, _<_};
 ghost use lib.ListN.{length, drop};
 ghost use Rattle.paper.specs.Effect.{freed, delAt, delPlan};
 ghost use Rattle.paper.specs.Line.{words, word};
 ghost use Rattle.paper.specs.Record.{byte};
 ghost use Rattle.paper.specs.Store.{clear};
 ghost use Rattle.paper.specs.Table.{rooms, rec};
-ghost use Rattle.answers.specs.Shown.{shown};
+ghost use Rattle.answers.specs.Shown.{placeMeant, shown};
+ghost use Rattle.words.specs.Place.{wordAt};
 ghost use Rattle.walk.specs.Shown.{meant};
-ghost use Rattle.elephant.specs.Done.{Fit, Filed, wordAt};
+ghost use Rattle.elephant.specs.Done.{Fit, Filed};
 ghost use Rattle.elephant.specs.Deleted.{deletedAnswer, Tried, Came, CameAll};
 
 // What one name came to: the stores that it needs, or its number and place.
 pub(crate) enum Deleted {
     Passed(usize),
-    Refused { number: u8, place: u32 },
+    Refused { number: u8, place: Place },
 }
 
 impl Deleted {
@@ -41,7 +45,7 @@ impl Deleted {
         ensures { λ r. ⌜ r ≡ shown (deletedAnswer self names stores) ⌝ }
     {
         match self {
-            Deleted::Passed(_) => Answer::plain(0, 0, names, stores),
+            Deleted::Passed(_) => Answer::placeless(0, names, stores),
             Deleted::Refused { number, place } => Answer::plain(
                 number as u32,
                 place,
@@ -66,9 +70,9 @@ fn clear_both(table: &mut [u8], entry: Room, heading: Room, left: usize) -> usiz
 }
 
 // The entry of f in d and, if no other entry names it, the file: 14 and 18, and as many of the stores as are left.
-fn delete_at(table: &mut [u8], d: State, f: State, place: u32, left: usize) -> Deleted
+fn delete_at(table: &mut [u8], d: State, f: State, place: Place, left: usize) -> Deleted
     requires { ⌜ Filed (now table) (meant f) ⌝ }
-    ensures { λ r. ⌜ Came (now (table .entry)) left (delAt (now (table .entry)) place (meant d) (meant f)) r (now (table .exit)) ⌝ }
+    ensures { λ r. ⌜ Came (now (table .entry)) left (delAt (now (table .entry)) (placeMeant place) (meant d) (meant f)) r (now (table .exit)) ⌝ }
 {
     let applied = d.code;
     if applied.inhibits_write() {
@@ -86,23 +90,26 @@ fn delete_at(table: &mut [u8], d: State, f: State, place: u32, left: usize) -> D
     Deleted::Passed(clear_both(table, entry, heading, left))
 }
 
-// One name of a DEL at this place, with so many stores left.
+// One name of a DEL, the argument of this number, with so many stores left.
 fn delete_one(
     table: &mut [u8],
     line: &[u8],
     p: usize,
     user: u32,
-    place: u32,
+    argument: u32,
     left: usize,
 ) -> Deleted
-    requires { ⌜ Fit (now table) ⌝ }
+    requires { ⌜ Fit (now table) × (length (now line) ≤ 256) ⌝ }
     ensures { λ r. ⌜ Came (now (table .entry)) left
-        (delPlan (now (table .entry)) user place (wordAt (now (line .entry)) p)) r (now (table .exit)) ⌝ }
+        (delPlan (now (table .entry)) user argument (wordAt (now (line .entry)) p)) r (now (table .exit)) ⌝ }
 {
     let end = to_end(table, line, p, Begin::Own, user);
     match end {
-        End::Off { number, link: _ } => Deleted::Refused { number, place },
-        End::At(d, f) => delete_at(table, d, f, place, left),
+        End::Off { number, link } => Deleted::Refused {
+            number,
+            place: at_link(argument, link),
+        },
+        End::At(d, f) => delete_at(table, d, f, end_of(line, p, Begin::Own, argument), left),
     }
 }
 
@@ -115,7 +122,8 @@ pub(crate) fn del(
     user: u32,
     stop: u32,
 ) -> Answer
-    requires { ⌜ Fit (now table) × (first ≡ word (now line) 1 .start) × (count ≡ length (drop 1 (words (now line)))) ⌝ }
+    requires { ⌜ Fit (now table) × (first ≡ word (now line) 1 .start) × (count ≡ length (drop 1 (words (now line))))
+        × (length (now line) ≤ 256) ⌝ }
     ensures { λ r. ⌜ CameAll (now (table .entry)) user stop (drop 1 (words (now (line .entry)))) r (now (table .exit)) ⌝ }
 {
     let mut p = first;
@@ -128,11 +136,11 @@ pub(crate) fn del(
             return deleted.refusal(names, made);
         };
         if left < n {
-            return Answer::plain(22, 0, names, stop);
+            return Answer::placeless(22, names, stop);
         }
         left -= n;
         names += 1;
         p = next_word(line, p);
     }
-    Answer::plain(0, 0, names, stop - left as u32)
+    Answer::placeless(0, names, stop - left as u32)
 }

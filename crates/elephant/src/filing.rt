@@ -1,5 +1,6 @@
 // A new entry, and before it a new file where it names one: end checks 16 to 19 and 25, the stores, the answer.
 use answers::Answer;
+use answers::Place;
 use effects::rooms::room_at;
 use effects::rooms::text_rooms;
 use effects::stage::put;
@@ -25,6 +26,7 @@ ghost use lib.ListN.{length};
 ghost use Rattle.paper.specs.Check.{verdict};
 ghost use Rattle.records.specs.Shown.{holderShown};
 ghost use Rattle.words.specs.Shown.{beginMeant};
+ghost use Rattle.answers.specs.Shown.{placeMeant};
 ghost use Rattle.effects.specs.Stage.{Made};
 ghost use Rattle.placing.specs.Placing.{refusalShown};
 ghost use Rattle.elephant.specs.Done.{Did};
@@ -95,11 +97,11 @@ fn refusal(
     holder: Holder,
     meets: Meets,
     needed: usize,
-    place: u32,
+    place: Place,
     low: bool,
 ) -> Refusal
     ensures { λ r. ⌜ r ≡ refusalShown (verdict
-        (allChecks (now (table .entry)) to place (holderShown holder) meets needed low)) ⌝ }
+        (allChecks (now (table .entry)) to (placeMeant place) (holderShown holder) meets needed low)) ⌝ }
 {
     if is_taken(to, meets.displaced) {
         return Refusal { number: 16, place };
@@ -111,7 +113,10 @@ fn refusal(
     if low {
         return Refusal {
             number: 25,
-            place: 3,
+            place: Place {
+                argument: 3,
+                link: 0,
+            },
         };
     }
     refused
@@ -136,7 +141,7 @@ pub(crate) fn make(
     name: &[u8],
     code: Code,
     named: Room,
-    place: u32,
+    place: Place,
     to: Begin,
     file: File,
     text: &[u8],
@@ -145,7 +150,7 @@ pub(crate) fn make(
     requires { ⌜ Ready (now table) (now rooms) (now name) (now text) (named .0) ⌝ }
     ensures { λ r. ⌜ Did (now (table .entry)) stop
         (ending (now (table .entry)) (beginMeant to)
-        (makingOf (now (table .entry)) place d (now (name .entry)) (code .0) (named .0) file (now (text .entry)))
+        (makingOf (now (table .entry)) (placeMeant place) d (now (name .entry)) (code .0) (named .0) file (now (text .entry)))
         (file .low)) r (now (table .exit)) ⌝ }
 {
     let holder = d.holder;

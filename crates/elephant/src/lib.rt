@@ -5,10 +5,12 @@ mod delete;
 mod entrance;
 mod filing;
 mod making;
+mod place;
 mod reply;
 
 use crate::entrance::entrance_number;
 use crate::entrance::grant;
+use crate::place::refused_at;
 use answers::Answer;
 use reader::request::Read;
 use reader::request::Request;
@@ -32,11 +34,11 @@ pub fn request(
 {
     let number = entrance_number(table, user);
     if number != 0 {
-        return Answer::refused(number, 0);
+        return Answer::refused_whole(number, 0);
     }
     let read = read_line(line);
     match read {
-        Read::Refused(refusal) => Answer::refused(refusal.number, refusal.place as u32),
+        Read::Refused(refusal) => refused_at(refusal.number, refusal.place as u32, refusal.link),
         Read::Granted(asked) => {
             let Request::Wrs {
                 lifetime: _,
@@ -48,7 +50,7 @@ pub fn request(
                 return grant(table, line, text, reply, user, stop, asked);
             };
             if Heading::MOST_LENGTH < text.len() {
-                return Answer::refused(10, 0);
+                return Answer::refused_whole(10, 0);
             }
             grant(table, line, text, reply, user, stop, asked)
         }
@@ -61,5 +63,5 @@ pub fn mend(table: &mut [u8], stop: u32) -> Answer
     ensures { λ r. ⌜ Promised (mending (now (table .entry)) stop) r (now (table .exit)) [] ⌝ }
 {
     let mended = mending::mend(table, stop);
-    Answer::plain(mended.number, 0, 0, mended.stores)
+    Answer::placeless(mended.number, 0, mended.stores)
 }

@@ -1,6 +1,8 @@
 // CRD and WRS: a new file and its entry. DUP: another entry of a file.
 use crate::filing::File;
 use crate::filing::make;
+use crate::place::end_of;
+use crate::place::refused_at;
 use answers::Answer;
 use declarations::part::Digit;
 use declarations::part::Level;
@@ -25,9 +27,10 @@ ghost use mathlib.Core.List.{[]};
 ghost use Rattle.paper.specs.Effect.{making, filing, crdPlan, wrsPlan, dupPlan, listOf, begun};
 ghost use Rattle.paper.specs.Request.{own};
 ghost use Rattle.declarations.specs.Given.{levelPart, digitPart};
+ghost use Rattle.words.specs.Place.{wordAt};
 ghost use Rattle.words.specs.Shown.{beginMeant};
 ghost use Rattle.walk.specs.Shown.{meant};
-ghost use Rattle.elephant.specs.Done.{wordAt, Did};
+ghost use Rattle.elephant.specs.Done.{Did};
 ghost use Rattle.elephant.specs.Filing.{Named, Linked, linkingIn, ending};
 
 // A new file under the last name of the chain at `name`, in d: 17 to 19, the stores and the answer.
@@ -36,7 +39,7 @@ pub(crate) fn file(
     line: &[u8],
     name: usize,
     d: State,
-    place: u32,
+    argument: u32,
     code: Code,
     heading: [u8; Room::SIZE],
     low: bool,
@@ -46,7 +49,7 @@ pub(crate) fn file(
     requires { ⌜ Named (now table) (now line) name (now text) ⌝ }
     ensures { λ r. ⌜ Did (now (table .entry)) stop
         (ending (now (table .entry)) own
-        (filing (now (table .entry)) place (wordAt (now (line .entry)) name) (meant d) (code .0) heading (now (text .entry))) low) r (now (table .exit)) ⌝ }
+        (filing (now (table .entry)) argument (wordAt (now (line .entry)) name) (meant d) (code .0) heading (now (text .entry))) low) r (now (table .exit)) ⌝ }
 {
     let mut rooms = [0u16; Entry::MOST_NEW];
     free_rooms(table, &mut rooms);
@@ -63,7 +66,7 @@ pub(crate) fn file(
         last_name(line, name),
         code,
         named,
-        place,
+        end_of(line, name, Begin::Own, argument),
         Begin::Own,
         file,
         text,
@@ -77,7 +80,7 @@ fn file_in(
     line: &[u8],
     name: usize,
     d: State,
-    place: u32,
+    argument: u32,
     code: Code,
     heading: [u8; Room::SIZE],
     text: &[u8],
@@ -86,19 +89,19 @@ fn file_in(
     requires { ⌜ Named (now table) (now line) name (now text) ⌝ }
     ensures { λ r. ⌜ Did (now (table .entry)) stop
         (making (now (table .entry))
-        (filing (now (table .entry)) place (wordAt (now (line .entry)) name) (meant d) (code .0) heading (now (text .entry))) [] [] [])
+        (filing (now (table .entry)) argument (wordAt (now (line .entry)) name) (meant d) (code .0) heading (now (text .entry))) [] [] [])
         r (now (table .exit)) ⌝ }
 {
     let applies = d.code;
     if applies.inhibits_write() {
-        return Answer::refused(14, place);
+        return Answer::refused(14, end_of(line, name, Begin::Own, argument));
     }
     file(
         table,
         line,
         name,
         d,
-        place,
+        argument,
         code,
         heading,
         false,
@@ -131,7 +134,7 @@ pub(crate) fn crd(
     }.laid();
     let walked = to_directory(table, line, name, Begin::Own, user);
     match walked {
-        Walked::Stopped { number, link: _ } => Answer::refused(number, 1),
+        Walked::Stopped { number, link } => refused_at(number, 1, link),
         Walked::Reached(d) => file_in(
             table,
             line,
@@ -173,7 +176,7 @@ pub(crate) fn wrs(
     }.laid();
     let walked = to_directory(table, line, name, Begin::Own, user);
     match walked {
-        Walked::Stopped { number, link: _ } => Answer::refused(number, 2),
+        Walked::Stopped { number, link } => refused_at(number, 2, link),
         Walked::Reached(d) => file_in(table, line, name, d, 2, code, heading, text, stop),
     }
 }
@@ -194,9 +197,10 @@ fn dup_in(
         (linkingIn (now (table .entry)) (beginMeant to) (begun (beginMeant to) (wordAt (now (line .entry)) new)) (digitPart digit) (meant f) (meant d))
         r (now (table .exit)) ⌝ }
 {
+    let place = end_of(line, new, to, 2);
     let applies = d.code;
     if applies.inhibits_write() {
-        return Answer::refused(14, 2);
+        return Answer::refused(14, place);
     }
     let code = Code(digit.or_else(0));
     let named = heading_named(table, f.entry);
@@ -210,7 +214,19 @@ fn dup_in(
     };
     let name = last_name(line, new);
     let text = part(line, 0, Bytes(0));
-    make(table, &rooms, d, name, both, named, 2, to, file, text, stop)
+    make(
+        table,
+        &rooms,
+        d,
+        name,
+        both,
+        named,
+        place,
+        to,
+        file,
+        text,
+        stop,
+    )
 }
 
 // "DUP: entry, its code the old entry's joined with the declared one."
@@ -236,8 +252,8 @@ pub(crate) fn dup(
         Both::Off {
             number,
             place,
-            link: _,
-        } => Answer::refused(number, place),
+            link,
+        } => refused_at(number, place, link),
         Both::At(f, d) => dup_in(table, line, to, new, d, f, digit, stop),
     }
 }

@@ -1,5 +1,8 @@
 // RDS and LST: what they write to the front of the reply.
+use crate::place::end_of;
+use crate::place::refused_at;
 use answers::Answer;
+use answers::Place;
 use effects::reading::read_text;
 use effects::rooms::text_rooms;
 use listing::Listed;
@@ -22,18 +25,21 @@ ghost use mathlib.Core.Bool.{true};
 ghost use mathlib.Core.List.{[], _∷_};
 ghost use mathlib.Core.Path.{_≡_};
 ghost use Prim.Native.Nat.{_+_, _-_, _≤_, min};
-ghost use lib.ListN.{take, drop};
+ghost use lib.ListN.{length, take, drop};
 ghost use lib.Seq.{sets};
 ghost use Rattle.paper.specs.Block.{fileText};
+ghost use Rattle.paper.specs.Check.{whole};
 ghost use Rattle.paper.specs.Declaration.{orElse};
 ghost use Rattle.paper.specs.Effect.{showing, writing, part, beyondEnd, lstBasePlan, listOf, begun};
 ghost use Rattle.paper.specs.Listing.{listed, lines};
 ghost use Rattle.paper.specs.Record.{simple, textLength};
 ghost use Rattle.paper.specs.Table.{rec};
 ghost use Rattle.listing.specs.Shown.{isListed};
+ghost use Rattle.words.specs.Place.{wordAt};
 ghost use Rattle.words.specs.Shown.{beginMeant, meantPart};
 ghost use Rattle.walk.specs.Shown.{meant};
-ghost use Rattle.elephant.specs.Done.{Fit, wordAt, Wrote};
+ghost use Rattle.answers.specs.Shown.{placeMeant};
+ghost use Rattle.elephant.specs.Done.{Fit, Wrote};
 ghost use Rattle.elephant.specs.Reading.{isRight, written, late, readingAt, reading};
 
 // What is read of a file: of the text of a simple one, the part from a first byte on, so many bytes; or the lines of a directory.
@@ -99,16 +105,16 @@ fn write_text(table: &[u8], heading: Room, first: Part, count: Part, reply: &mut
     requires { ⌜ Fit (now table) × (simple (rec (now table) (heading .0)) ≡ true) ⌝ }
     ensures { λ r. ⌜ Wrote (now (table .entry)) (now (reply .entry))
         (showing [] (part (fileText (now (table .entry)) (heading .0)) (meantPart first) (meantPart count)) (now (reply .entry))
-        (beyondEnd 2 (meantPart first) (fileText (now (table .entry)) (heading .0)) ∷ [])) r (now (reply .exit)) ⌝ }
+        (beyondEnd (whole 2) (meantPart first) (fileText (now (table .entry)) (heading .0)) ∷ [])) r (now (reply .exit)) ⌝ }
 {
     let n = text_length(table, heading).0;
     let a = first_byte(first);
     let m = part_length(n, a, count);
     if reply.len() < m {
-        return Answer::refused(20, 0);
+        return Answer::refused_whole(20, 0);
     }
     if n < a {
-        return Answer::refused(28, 2);
+        return Answer::refused_whole(28, 2);
     }
     copy_part(table, heading, Bytes(a), Bytes(m), reply);
     Answer::granted(false, m as u32, 0)
@@ -122,7 +128,7 @@ fn list(table: &[u8], which: Listed, reply: &mut [u8]) -> Answer
 {
     let n = listed_length(table, which).0;
     if reply.len() < n {
-        return Answer::refused(20, 0);
+        return Answer::refused_whole(20, 0);
     }
     write_lines(table, which, reply);
     Answer::granted(false, n as u32, 0)
@@ -151,19 +157,19 @@ fn write(table: &[u8], sheet: Sheet, heading: Room, reply: &mut [u8]) -> Answer
     }
 }
 
-// 13 and 15 of the file f, and what is read of it.
-fn read_at(table: &[u8], sheet: Sheet, f: State, reply: &mut [u8]) -> Answer
+// 13 and 15 of the file f, whose name is at this place, and what is read of it.
+fn read_at(table: &[u8], sheet: Sheet, place: Place, f: State, reply: &mut [u8]) -> Answer
     requires { ⌜ Fit (now table) ⌝ }
     ensures { λ r. ⌜ Wrote (now (table .entry)) (now (reply .entry))
-        (readingAt sheet (now (table .entry)) (now (reply .entry)) (meant f)) r (now (reply .exit)) ⌝ }
+        (readingAt sheet (placeMeant place) (now (table .entry)) (now (reply .entry)) (meant f)) r (now (reply .exit)) ⌝ }
 {
     let applied = f.code;
     if applied.inhibits_read() {
-        return Answer::refused(13, 1);
+        return Answer::refused(13, place);
     }
     let heading = heading_named(table, f.entry);
     if !is_right(table, sheet, heading) {
-        return Answer::refused(15, 1);
+        return Answer::refused(15, place);
     }
     write(table, sheet, heading, reply)
 }
@@ -178,15 +184,15 @@ pub(crate) fn read(
     name: usize,
     user: u32,
 ) -> Answer
-    requires { ⌜ Fit (now table) ⌝ }
+    requires { ⌜ Fit (now table) × (length (now line) ≤ 256) ⌝ }
     ensures { λ r. ⌜ Wrote (now (table .entry)) (now (reply .entry))
         (reading sheet (now (table .entry)) (listOf user (beginMeant from)) (now (reply .entry)) (begun (beginMeant from) (wordAt (now (line .entry)) name)))
         r (now (reply .exit)) ⌝ }
 {
     let end = to_end(table, line, name, from, user);
     match end {
-        End::Off { number, link: _ } => Answer::refused(number, 1),
-        End::At(_, f) => read_at(table, sheet, f, reply),
+        End::Off { number, link } => refused_at(number, 1, link),
+        End::At(_, f) => read_at(table, sheet, end_of(line, name, from, 1), f, reply),
     }
 }
 

@@ -47,22 +47,24 @@ spelled l d l₁ l₂ at n b k room few e f g p q =
       end = omega arith;
     }
 
-pub lined : (a : Answer) {l l₁ l₂ l₃ l₄ l₅ l₆ : List ℕ} {p₁ p₂ p₃ p₄ p₅ p₆ : ℕ} → Spelled l 0 (a .number) 32 p₁ l₁ → Spelled l₁ p₁ (a .place) 32 p₂ l₂
-    → Spelled l₂ p₂ (a .names) 32 p₃ l₃ → Spelled l₃ p₃ (a .displaced) 32 p₄ l₄ → Spelled l₄ p₄ (a .bytes) 32 p₅ l₅ → Spelled l₅ p₅ (a .stores) 10 p₆ l₆
-    → Line a (take p₆ l₆)
-lined a s₁ s₂ s₃ s₄ s₅ s₆ =
+pub lined : (a : Answer) {l l₁ l₂ l₃ l₄ l₅ l₆ l₇ : List ℕ} {p₁ p₂ p₃ p₄ p₅ p₆ p₇ : ℕ} → Spelled l 0 (a .number) 32 p₁ l₁ → Spelled l₁ p₁ (a .place) 32 p₂ l₂
+    → Spelled l₂ p₂ (a .link) 32 p₃ l₃ → Spelled l₃ p₃ (a .names) 32 p₄ l₄ → Spelled l₄ p₄ (a .displaced) 32 p₅ l₅ → Spelled l₅ p₅ (a .bytes) 32 p₆ l₆
+    → Spelled l₆ p₆ (a .stores) 10 p₇ l₇ → Line a (take p₇ l₇)
+lined a s₁ s₂ s₃ s₄ s₅ s₆ s₇ =
     record {
       number = s₁ .number;
       place = s₂ .number;
-      names = s₃ .number;
-      displaced = s₄ .number;
-      bytes = s₅ .number;
-      stores = s₆ .number;
+      link = s₃ .number;
+      names = s₄ .number;
+      displaced = s₅ .number;
+      bytes = s₆ .number;
+      stores = s₇ .number;
       number-is = s₁ .decimal;
       place-is = s₂ .decimal;
-      names-is = s₃ .decimal;
-      displaced-is = s₄ .decimal;
-      bytes-is = s₅ .decimal;
-      stores-is = s₆ .decimal;
-      text = rw (s₆ .text, s₅ .text, s₄ .text, s₃ .text, s₂ .text, s₁ .text);
+      link-is = s₃ .decimal;
+      names-is = s₄ .decimal;
+      displaced-is = s₅ .decimal;
+      bytes-is = s₆ .decimal;
+      stores-is = s₇ .decimal;
+      text = rw (s₇ .text, s₆ .text, s₅ .text, s₄ .text, s₃ .text, s₂ .text, s₁ .text);
     }

@@ -1,4 +1,4 @@
--- "each answer's six numbers in decimal on a line, a blank between"
+-- "each answer's .. numbers in decimal on a line, a blank between"
 use mathlib.Core.List.{List, [], _∷_, _++_}
 use mathlib.Core.Path.{_≡_}
 use Prim.Native.Nat.{ℕ, _+_, _≤_}
@@ -28,21 +28,23 @@ pub record Spelled (l : List ℕ) (at n b r : ℕ) (l' : List ℕ) : Type 0 wher
   pub text : take r l' ≡ put (take at l) number b
   pub end : r ≤ at + 11
 
--- the six numbers, a blank after each but the last, which a byte 10 follows
+-- the seven numbers, a blank after each but the last, which a byte 10 follows
 pub record Line (a : Answer) (s : List ℕ) : Type 0 where
   pub number : List ℕ
   pub place : List ℕ
+  pub link : List ℕ
   pub names : List ℕ
   pub displaced : List ℕ
   pub bytes : List ℕ
   pub stores : List ℕ
   pub number-is : Decimal (a .number) number
   pub place-is : Decimal (a .place) place
+  pub link-is : Decimal (a .link) link
   pub names-is : Decimal (a .names) names
   pub displaced-is : Decimal (a .displaced) displaced
   pub bytes-is : Decimal (a .bytes) bytes
   pub stores-is : Decimal (a .stores) stores
-  pub text : s ≡ put (put (put (put (put (put [] number 32) place 32) names 32) displaced 32) bytes 32) stores 10
+  pub text : s ≡ put (put (put (put (put (put (put [] number 32) place 32) link 32) names 32) displaced 32) bytes 32) stores 10
 
 -- what a request made of a box comes to: the table and the reply after it, its line in o, and how many bytes of both are to be written
 pub record Told (x : Box) (t r o : List ℕ) (w : Answered) : Type 0 where

@@ -1,5 +1,5 @@
 // The file box over standard input and output: a request on each line, the text of a WRS on the line after it; for each, the
-// answer's six numbers on a line, then the reply bytes.
+// answer's seven numbers on a line, then the reply bytes.
 use libc::STDIN_FILENO;
 
 mod first_word;

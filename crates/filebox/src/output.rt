@@ -20,13 +20,14 @@ fn spell(out: &mut [u8], at: usize, n: u32, after: u8) -> usize
     e + 1
 }
 
-// "each answer's six numbers in decimal on a line, a blank between, displaced as 0 or 1"
+// "each answer's .. numbers in decimal on a line, a blank between, displaced as 0 or 1": the place is two of the seven
 pub(crate) fn spell_answer(a: Answer, out: &mut [u8]) -> usize
-    requires { ⌜ length (now out) ≡ 66 ⌝ }
+    requires { ⌜ length (now out) ≡ 77 ⌝ }
     ensures { λ r. ⌜ Line a (take r (now (out .exit))) ⌝ }
 {
     let place = spell(out, 0, a.number, b' ');
-    let names = spell(out, place, a.place, b' ');
+    let link = spell(out, place, a.place, b' ');
+    let names = spell(out, link, a.link, b' ');
     let displaced = spell(out, names, a.names, b' ');
     let bytes = spell(out, displaced, a.displaced, b' ');
     let stores = spell(out, bytes, a.bytes, b' ');

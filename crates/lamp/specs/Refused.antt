@@ -30,4 +30,4 @@ firstSheet p n = numbered (firstBelow p n)
 -- a verdict's number and sheet
 abbrev pub admissionShown : Verdict → Admission
 admissionShown passed = admission.Passed
-admissionShown (refused f) = admission.Refused (f .number) (f .place)
+admissionShown (refused f) = admission.Refused (f .number) (f .place .argument)

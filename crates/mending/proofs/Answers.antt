@@ -11,6 +11,7 @@ use lib.ListN.{length, take}
 use lib.Seq.{take-all}
 use borrow.Author.Tests.{le-leb, lt-leb}
 use Rattle.paper.specs.Answer.{plain, mending, mendable}
+use Rattle.paper.specs.Check as place
 use Rattle.paper.specs.Check.{verdict}
 use Rattle.paper.specs.Mend.{mendStores, mended}
 use Rattle.paper.specs.Sound.{sound}
@@ -80,10 +81,10 @@ module _ (t gone : List ℕ) (k n : ℕ) (s : sized t ≡ true) (g : GoneBelow t
         (rw (s, sound-mended q, y, count-mended), table-mended ∙ rw (s, sound-mended q, y, take-all k (mendStores t) b))
 
 -- "Its answer has place, names and bytes 0, displaced no, and the stores made", and there is no reply
-pub mend-answer : (t : List ℕ) (k : ℕ) → mending t k .answer ≡ plain (mending t k .answer .number) 0 0 (mending t k .answer .stores)
+pub mend-answer : (t : List ℕ) (k : ℕ) → mending t k .answer ≡ plain (mending t k .answer .number) (place.whole 0) 0 (mending t k .answer .stores)
 mend-answer t k = go (mend-came t k)
   where
-    go : MendCame t k (mending t k) → mending t k .answer ≡ plain (mending t k .answer .number) 0 0 (mending t k .answer .stores)
+    go : MendCame t k (mending t k) → mending t k .answer ≡ plain (mending t k .answer .number) (place.whole 0) 0 (mending t k .answer .stores)
     go (unsized a e) = rw e
     go (unsound a b e) = rw e
     go (whole a b l e) = rw e

@@ -7,10 +7,11 @@ use lib.Dec.{eqb, ltb}
 use lib.ListN.{length}
 use Rattle.paper.specs.Record.{headingNamed, directory}
 use Rattle.paper.specs.Table.{rec, frees}
-use Rattle.paper.specs.Check.{Check, check, Verdict, passed, refused}
+use Rattle.paper.specs.Check.{Place, whole, Check, check, Verdict, passed, refused}
 use Rattle.paper.specs.Entry.{Holder, full, peopled}
 use Rattle.paper.specs.Block.{blocksOf}
 use Rattle.paper.specs.Store.{Store, puts}
+use Rattle.answers.specs.Shown.{placeShown}
 use Rattle.scans.specs.declared.Found.{Found}
 use Rattle.scans.specs.declared.Found.the-variants.{At, Nowhere}
 use Rattle.effects.specs.Beside.{namedBeside}
@@ -44,17 +45,17 @@ losingBy t m = m .lost && (directory (rec t (m .heading .0)) && peopled t (m .he
 
 -- "the end checks in number order": 17 "directory or base list full, nothing displaced", 18, and 19 "fewer free records than the request
 -- needs". The paper's `fullUp`, `stillPeopled` and `noRoom`, by what is met
-abbrev pub entryChecks : List ℕ → ℕ → Holder → Meets → ℕ → List Check
+abbrev pub entryChecks : List ℕ → Place → Holder → Meets → ℕ → List Check
 entryChecks t place d m needed =
     check (not (m .displaced) && full t d) 17 place
     ∷ check (losingBy t m) 18 place
-    ∷ check (ltb (length (frees t)) needed) 19 0
+    ∷ check (ltb (length (frees t)) needed) 19 (whole 0)
     ∷ []
 
 -- a verdict's number and place, 0 where it passes
 abbrev pub refusalShown : Verdict → Refusal
-refusalShown passed = record { number = 0; place = 0 }
-refusalShown (refused f) = record { number = f .number; place = f .place }
+refusalShown passed = record { number = 0; place = placeShown (whole 0) }
+refusalShown (refused f) = record { number = f .number; place = placeShown (f .place) }
 
 -- the entry, and "if its file is now named by no entry: its heading cleared, then its text by position", whose records are listed in r. The
 -- paper's `placing` after the new file's stores: the entry, then `settled`

@@ -1,4 +1,5 @@
 // A new entry at its end: what it meets, the number that refuses it, its store and the settling after it.
+use answers::Place;
 use effects::beside::is_named_beside;
 use effects::stage::clear_file;
 use effects::stage::put;
@@ -20,6 +21,7 @@ ghost use Rattle.paper.specs.Entry.{full, peopled};
 ghost use Rattle.paper.specs.Record.{directory};
 ghost use Rattle.paper.specs.Table.{rec};
 ghost use Rattle.records.specs.Shown.{holderShown};
+ghost use Rattle.answers.specs.Shown.{placeMeant};
 ghost use Rattle.effects.specs.Stage.{Made};
 ghost use Rattle.placing.specs.Placing.{lostBy, met, losingBy, entryChecks, refusalShown, entryStores};
 
@@ -33,10 +35,10 @@ pub struct Meets {
     pub count: Room,
 }
 
-// A number and its place, or 0 and 0.
+// A number and its place, or 0 and no place.
 pub struct Refusal {
     pub number: u8,
-    pub place: u32,
+    pub place: Place,
 }
 
 // Whether an entry's file is named by no entry once one that names another heading is laid in its place.
@@ -110,9 +112,9 @@ pub fn entry_refusal(
     holder: Holder,
     meets: Meets,
     needed: usize,
-    place: u32,
+    place: Place,
 ) -> Refusal
-    ensures { λ r. ⌜ r ≡ refusalShown (verdict (entryChecks (now (table .entry)) place (holderShown holder) meets needed)) ⌝ }
+    ensures { λ r. ⌜ r ≡ refusalShown (verdict (entryChecks (now (table .entry)) (placeMeant place) (holderShown holder) meets needed)) ⌝ }
 {
     if is_full_up(table, holder, meets.displaced) {
         return Refusal { number: 17, place };
@@ -123,12 +125,18 @@ pub fn entry_refusal(
     if count_free(table).0 < needed {
         return Refusal {
             number: 19,
-            place: 0,
+            place: Place {
+                argument: 0,
+                link: 0,
+            },
         };
     }
     Refusal {
         number: 0,
-        place: 0,
+        place: Place {
+            argument: 0,
+            link: 0,
+        },
     }
 }
 

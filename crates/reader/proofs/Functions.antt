@@ -11,7 +11,7 @@ use lib.Dec.{eqb, leb}
 use borrow.Author.Tests.{eqb-true, leb-true}
 use Rattle.paper.specs.Name.{same, alone, linkName}
 use Rattle.paper.specs.Line.{words, word}
-use Rattle.paper.specs.Check.{Check, refused, verdict}
+use Rattle.paper.specs.Check.{whole, refusalAt, Check, refused, verdict}
 use Rattle.paper.specs.Request.{unread, counted, miscounted, malformed, illegal, linkAlone, unlinked, misbased, isFunction, readCrd, readWrs, readRds, readLst, readCpy, readDup, readChn, readDpr, readDel, readFunction}
 use Rattle.words.specs.Place.{loneOf, namesFrom, wordAt}
 use Rattle.laws.proofs.Tests.{false-by, and-left, and-right, clash}
@@ -54,7 +54,7 @@ function-read line =
     go : (a b c d e f g h i : Bool)
         → cond a (readCrd line) (cond b (readWrs line) (cond c (readRds line) (cond d (readCpy line) (cond e (readDup line)
         (cond f (readChn line) (cond g (readDel line) (cond h (readDpr line) (cond i (readLst line)
-        (unread (record { number = 5; place = 0; link = 0 }))))))))))
+        (unread (refusalAt 5 (whole 0)))))))))))
         ≡ readBy (cond a function.Crd (cond b function.Wrs (cond c function.Rds (cond d function.Cpy (cond e function.Dup
         (cond f function.Chn (cond g function.Del (cond h function.Dpr (cond i function.Lst function.Nothing))))))))) line
     go true b c d e f g h i = refl

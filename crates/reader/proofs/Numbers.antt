@@ -9,7 +9,7 @@ use Rattle.paper.specs.Name.{same}
 use Rattle.paper.specs.Declaration.{given, notGiven}
 use Rattle.paper.specs.Octal as paper
 use Rattle.paper.specs.Octal.{number, noNumber, digits, octal, partOf, isNumber, isCount}
-use Rattle.paper.specs.Check.{Check, check, passed, refused, verdict}
+use Rattle.paper.specs.Check.{whole, refusalAt, Check, check, passed, refused, verdict}
 use Rattle.paper.specs.Request as asked
 use Rattle.paper.specs.Request.{readAs, badNumber}
 use Rattle.laws.proofs.Tests.{clash}
@@ -36,13 +36,13 @@ octal-lone (n ∷ m ∷ ns) = refl
 abbrev numbers : paper.Octal → paper.Octal → List Check
 numbers f c = badNumber 2 (isNumber f) ∷ badNumber 3 (isCount c) ∷ []
 
-bad-first : (f c : paper.Octal) → shownOctal f ≡ NoNumber → verdict (numbers f c) ≡ refused (record { number = 27; place = 2; link = 0 })
+bad-first : (f c : paper.Octal) → shownOctal f ≡ NoNumber → verdict (numbers f c) ≡ refused (refusalAt 27 (whole 2))
 unfolding verdict
 bad-first (number p) c e = clash (cc)
 bad-first noNumber c e = refl
 
 bad-count : (f c : paper.Octal) (p : Part) → shownOctal f ≡ Number p → countOf (shownOctal c) ≡ NoNumber
-    → verdict (numbers f c) ≡ refused (record { number = 27; place = 3; link = 0 })
+    → verdict (numbers f c) ≡ refused (refusalAt 27 (whole 3))
 unfolding verdict
 bad-count noNumber c p e h = clash (cc)
 bad-count (number x) noNumber p e h = refl
@@ -50,7 +50,7 @@ bad-count (number x) (number notGiven) p e h = clash (cc)
 bad-count (number x) (number (given n)) p e h = go (leb 1 n) h
   where
     go : (b : Bool) → cond b (Number (Given n)) NoNumber ≡ NoNumber
-        → verdict (check false 27 2 ∷ check (not b) 27 3 ∷ []) ≡ refused (record { number = 27; place = 3; link = 0 })
+        → verdict (check false 27 (whole 2) ∷ check (not b) 27 (whole 3) ∷ []) ≡ refused (refusalAt 27 (whole 3))
     go true k = clash (cc)
     go false k = refl
 
@@ -63,7 +63,7 @@ good (number x) (number notGiven) p q e h = (refl, (cc, cc))
 good (number x) (number (given n)) p q e h = go (leb 1 n) h
   where
     go : (b : Bool) → cond b (Number (Given n)) NoNumber ≡ Number q
-        → (verdict (check false 27 2 ∷ check (not b) 27 3 ∷ []) ≡ passed) × ((p ≡ shownPart x) × (q ≡ Given n))
+        → (verdict (check false 27 (whole 2) ∷ check (not b) 27 (whole 3) ∷ []) ≡ passed) × ((p ≡ shownPart x) × (q ≡ Given n))
     go true k = (refl, (cc, cc))
     go false k = clash (cc)
 

@@ -7,7 +7,7 @@ use lib.ListN.{length}
 use Rattle.paper.specs.Line.{Word}
 use Rattle.paper.specs.Name.{alone}
 use Rattle.paper.specs.Check as paper
-use Rattle.paper.specs.Check.{Check, passed, refused}
+use Rattle.paper.specs.Check.{whole, refusalAt, Check, passed, refused}
 use Rattle.paper.specs.Request.{malformed, illegal, illegalBut, isTake, isTakeWithin, isGive, miscounted, readCrd, readWrs, readRds, readLst, readCpy, readDup, readChn, readDpr, readDel, crd, wrs, rds, cpy, dup, chn, del, dpr, lst, lstBase, request, unread}
 use Rattle.paper.specs.Request as asked
 use Rattle.words.specs.Shown.{beginShown, shownPart}
@@ -46,7 +46,7 @@ shownRequest (lst b w) = Lst (beginShown b) (w .start)
 shownRequest lstBase = LstBase
 
 abbrev pub shownRefusal : paper.Refusal → Refusal
-shownRefusal f = record { number = f .number; place = f .place; link = f .link }
+shownRefusal f = record { number = f .number; place = f .place .argument; link = f .place .link }
 
 abbrev pub shownVerdict : paper.Verdict → Verdict
 shownVerdict passed = verdicts.Passed
@@ -109,4 +109,4 @@ readBy function.Chn = readChn
 readBy function.Del = readDel
 readBy function.Dpr = readDpr
 readBy function.Lst = readLst
-readBy function.Nothing = λ line. unread (record { number = 5; place = 0; link = 0 })
+readBy function.Nothing = λ line. unread (refusalAt 5 (whole 0))

@@ -1,5 +1,5 @@
-// Reads request lines from standard input and prints, a line for each, what the reader makes of it: the reply number and the
-// place; or 0, the function, and the numbers of the request in the order of its fields, a dash for a part that is not given,
+// Reads request lines from standard input and prints, a line for each, what the reader makes of it: the reply number, the
+// argument and the link; or 0, the function, and the numbers of the request in the order of its fields, a dash for a part that is not given,
 // T or G and a user before a name that starts at that user's `.T` or in that user's `.G`; for CRD and WRS also the first five
 // bytes of the heading that is laid for such a file.
 use declarations::part::Digit;
@@ -197,6 +197,7 @@ fn put_read(read: Read) {
         Read::Refused(refusal) => {
             io::print_decimal(STDOUT_FILENO, refusal.number as u64);
             put_place(refusal.place);
+            put_place(refusal.link);
         }
     }
     put(b"\n");

@@ -11,7 +11,7 @@ use words::name::is_pointed;
 ghost use mathlib.Core.List.{_∷_};
 ghost use mathlib.Core.Path.{_≡_};
 ghost use Prim.Native.Nat.{_≤_};
-ghost use lib.ListN.{drop};
+ghost use lib.ListN.{length, drop};
 ghost use Rattle.paper.specs.Name.{chain};
 ghost use Rattle.paper.specs.Walk.{follow, linked, reached, toDirectory, lastName, toLast};
 ghost use Rattle.words.specs.Place.{cut, namesFrom};
@@ -114,6 +114,17 @@ pub fn last_name(line: &[u8], p: usize) -> &[u8]
             return name(line, i);
         };
         i = q;
+    }
+}
+
+// The number of the last link of the chain at p, which begins as this.
+pub fn last_link(line: &[u8], p: usize, begin: Begin) -> usize
+    ensures { λ r. ⌜ r ≡ length (chainAt (now (line .entry)) p begin) ⌝ }
+{
+    match begin {
+        Begin::Own => count_links(line, p),
+        Begin::Take(_) => count_names(line, p),
+        Begin::Give(_) => count_names(line, p),
     }
 }
 

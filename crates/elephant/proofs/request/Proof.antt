@@ -1,11 +1,11 @@
 -- Each return is one law: 1 to 3, 4 to 9, 10, or what `grant` promises. A refusal's place fits, since no line that is counted has more
--- than eight arguments.
+-- than eight arguments, and its link, since no line that is not too long has more than 257 names.
 use mathlib.Core.Path.{sym, _∙_}
 use native.Mathlib.Omega.{arith}
 use borrow.Author.Needs.{needs}
 use borrow.Author.Tests.{lt-ltb, le-ltb}
 use Rattle.elephant.proofs.Asking.{no-text, its-text}
-use Rattle.elephant.proofs.Places.{place-near}
+use Rattle.elephant.proofs.Places.{place-near, link-near}
 use Rattle.elephant.proofs.Refused.{refused-out, refused-unread, refused-long, let-through}
 use Rattle.elephant.proofs.request.Statement.{statement}
 use Rattle.elephant.proofs.request.Tie as tie
@@ -13,8 +13,8 @@ use Rattle.elephant.proofs.request.Tie as tie
 entrance-number-requires : tie.Need-entrance-number-requires
 entrance-number-requires c κs = search needs
 
-refused-requires : tie.Need-refused-requires
-refused-requires c κs = search needs
+refused-whole-requires : tie.Need-refused-whole-requires
+refused-whole-requires c κs = search needs
 
 same-length : tie.Need-same-length
 same-length c = search needs
@@ -25,7 +25,7 @@ returns c =
     let s = start in
     let n = c .before .before .entrance-number in
     refused-out (s .args .table .now) (s .args .line .now) (s .args .text .now) (s .args .reply .now) (s .args .user) (s .args .stop) (n .result)
-    (n .ensures) (c .before .if1 .taken) _ (c .refused .ensures)
+    (n .ensures) (c .before .if1 .taken) _ (c .refused-whole .ensures)
 
 read-line-requires : tie.Need-read-line-requires
 read-line-requires c κs = search needs
@@ -33,16 +33,21 @@ read-line-requires c κs = search needs
 enum-known-read : tie.Need-enum-known-read
 enum-known-read c = search needs
 
-cast-refused : tie.Need-cast-refused
-cast-refused c =
+cast-refused-at : tie.Need-cast-refused-at
+cast-refused-at c =
     let at-read-line = c .before .before .before .before in
     let start = at-read-line .before .before .before .before .before .before .before .before in
     let s = start in
     let g = c .before .before .read .given in
     omega (arith, place-near (s .args .line .now) (g .0 .0) (sym (g .1) ∙ at-read-line .read-line .ensures))
 
-refused-requires-2 : tie.Need-refused-requires-2
-refused-requires-2 c κs = search needs
+refused-at-requires : tie.Need-refused-at-requires
+refused-at-requires c κs =
+    let at-read-line = c .before .before .before .before in
+    let start = at-read-line .before .before .before .before .before .before .before .before in
+    let s = start in
+    let g = c .before .before .read .given in
+    link-near (s .args .line .now) (g .0 .0) (sym (g .1) ∙ at-read-line .read-line .ensures)
 
 enum-known-read-2 : tie.Need-enum-known-read-2
 enum-known-read-2 c = search needs
@@ -74,8 +79,8 @@ returns-2 c =
     let at-grant = c .before .before .before .before in
     at-grant .grant .ensures
 
-refused-requires-3 : tie.Need-refused-requires-3
-refused-requires-3 c κs = search needs
+refused-whole-requires-2 : tie.Need-refused-whole-requires-2
+refused-whole-requires-2 c κs = search needs
 
 same-length-4 : tie.Need-same-length-4
 same-length-4 c = search needs
@@ -92,7 +97,7 @@ returns-3 c =
     let q = sym (g .1) ∙ at-read-line .read-line .ensures in
     let w = its-text (s .args .line .now) (s .args .text .now) (g .0 .0) _ _ _ _ (c .before .before .enum-told .given .1) in
     refused-long (s .args .table .now) (s .args .line .now) (s .args .text .now) (s .args .reply .now) (s .args .user) (s .args .stop) (n .result)
-    (n .ensures) (omega arith) (g .0 .0) q (w ∙ lt-ltb 24000 _ (c .before .if2 .taken)) _ (c .refused3 .ensures)
+    (n .ensures) (omega arith) (g .0 .0) q (w ∙ lt-ltb 24000 _ (c .before .if2 .taken)) _ (c .refused-whole2 .ensures)
 
 grant-requires-2 : tie.Need-grant-requires-2
 grant-requires-2 c κs =
@@ -121,7 +126,7 @@ returns-4 c =
     let g = c .before .before .before .read .given in
     let q = sym (g .1) ∙ at-read-line .read-line .ensures in
     refused-unread (s .args .table .now) (s .args .line .now) (s .args .text .now) (s .args .reply .now) (s .args .user) (s .args .stop) (n .result)
-    (n .ensures) (omega arith) (g .0 .0) q _ (c .refused2 .ensures)
+    (n .ensures) (omega arith) (g .0 .0) q _ (c .refused-at .ensures)
 
 same-length-6 : tie.Need-same-length-6
 same-length-6 c = search needs
@@ -139,20 +144,20 @@ request-spec =
     tie.close
     (tie.spec
     entrance-number-requires
-    refused-requires
+    refused-whole-requires
     same-length
     returns
     read-line-requires
     enum-known-read
-    cast-refused
-    refused-requires-2
+    cast-refused-at
+    refused-at-requires
     enum-known-read-2
     enum-told
     grant-requires
     same-length-2
     same-length-3
     returns-2
-    refused-requires-3
+    refused-whole-requires-2
     same-length-4
     returns-3
     grant-requires-2

@@ -1,4 +1,4 @@
--- The six numbers stand in the order of the paper's.
+-- The seven numbers stand in the order of the paper's, argument and link for the place.
 -- A flag is 1 or 0 as a number, as `yesNo` has it.
 use mathlib.Core.Bool.{Bool, true, false}
 use mathlib.Core.Path.{_≡_, refl}

@@ -1,4 +1,4 @@
--- The record that is made is the one that is shown: number, place, names and stores as given, displaced no, no bytes.
+-- The record that is made is the one that is shown: number, place, link, names and stores as given, displaced no, no bytes.
 -- Assumes nothing.
 use mathlib.Core.Path.{refl}
 use Rattle.answers.proofs.Answer.plain.Statement.{statement}

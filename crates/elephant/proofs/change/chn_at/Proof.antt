@@ -1,6 +1,7 @@
 -- Each return is one case of `chnAt`: 14, 16, or the store made.
 -- The entry is in the table, so that its record is whole, and the name is short.
 use mathlib.Core.Path.{sym, _∙_}
+use Rattle.answers.specs.Shown.{placeMeant}
 use Rattle.elephant.proofs.Changes.{chn-shut, chn-taken, chn-laid}
 use borrow.Author.Needs.{needs}
 use Rattle.elephant.proofs.change.chn_at.Statement.{statement}
@@ -17,7 +18,8 @@ returns c =
     let start = c .before .before .before .before .before .before in
     let a = start .args in
     rw (c .refused .ensures)
-    (chn-shut (a .table .now) (a .stop) (a .name .now) (a .d) (a .f) (rw (c .before .before .inhibits-write .ensures) at (c .before .if1 .taken)))
+    (chn-shut (a .table .now) (placeMeant (a .place)) (a .stop) (a .name .now) (a .d) (a .f)
+    (rw (c .before .before .inhibits-write .ensures) at (c .before .if1 .taken)))
 
 find-requires : tie.Need-find-requires
 find-requires c κs = search needs
@@ -28,8 +30,8 @@ enum-told c = search needs
 enum-told-2 : tie.Need-enum-told-2
 enum-told-2 c = search needs
 
-refused-requires-2 : tie.Need-refused-requires-2
-refused-requires-2 c κs = search needs
+refused-whole-requires : tie.Need-refused-whole-requires
+refused-whole-requires c κs = search needs
 
 same-length : tie.Need-same-length
 same-length c = search needs
@@ -42,8 +44,9 @@ returns-2 c =
     let a = start .args in
     let i = rw (at-inhibits-write .inhibits-write .ensures) at (at-if1 .if1 .left) in
     let g = c .before .enum-told2 .given in
-    rw (c .refused2 .ensures)
-    (chn-taken (a .table .now) (a .stop) (a .name .now) (a .d) (a .f) i (g .0 .0) (sym (c .before .before .before .find .ensures) ∙ g .1))
+    rw (c .refused-whole .ensures)
+    (chn-taken (a .table .now) (placeMeant (a .place)) (a .stop) (a .name .now) (a .d) (a .f) i (g .0 .0)
+    (sym (c .before .before .before .find .ensures) ∙ g .1))
 
 renamed-requires : tie.Need-renamed-requires
 renamed-requires c κs = search needs
@@ -70,8 +73,8 @@ returns-3 c =
     let z = sym (at-find .find .ensures) ∙ at-enum-told .enum-told .given .1 in
     let b = at-renamed .renamed in
     rw (c .stored .ensures)
-    (chn-laid (a .table .now) (a .stop) (a .name .now) (a .d) (a .f) i z (b .result) _ _ (start .pre .0 .entry) (start .pre .1) (b .ensures)
-    (c .before .before .before .put .ensures))
+    (chn-laid (a .table .now) (placeMeant (a .place)) (a .stop) (a .name .now) (a .d) (a .f) i z (b .result) _ _ (start .pre .0 .entry) (start .pre .1)
+    (b .ensures) (c .before .before .before .put .ensures))
 
 pub chn-at-spec : {M : Type 1} → statement M
 chn-at-spec =
@@ -83,7 +86,7 @@ chn-at-spec =
     find-requires
     enum-told
     enum-told-2
-    refused-requires-2
+    refused-whole-requires
     same-length
     returns-2
     renamed-requires

@@ -1,5 +1,6 @@
 -- The walk stopped, or came to the file, where DPR is `dpr_at`.
 -- On a fit table the file is there.
+use Rattle.elephant.proofs.Links.{end-near}
 use Rattle.elephant.proofs.Ends.{end-off, end-at, filed}
 use Rattle.paper.specs.Effect.{dprPlan}
 use Rattle.words.specs.declared.begin.Begin.the-variants.{Own}
@@ -13,19 +14,27 @@ to-end-requires c κs = search needs
 enum-known-end : tie.Need-enum-known-end
 enum-known-end c = search needs
 
-refused-requires : tie.Need-refused-requires
-refused-requires c κs = search needs
+refused-at-requires : tie.Need-refused-at-requires
+refused-at-requires c κs =
+    let at-to-end = c .before .before .before in
+    let start = at-to-end .before .before .before .before in
+    let a = start .args in
+    let g = c .before .end .given in
+    end-near (a .line .now) (start .pre .1) (a .table .now) (a .user) (a .name) Own _ (at-to-end .to-end .ensures) (g .0 .0) (g .0 .1 .0) (g .1)
 
 enum-known-end-2 : tie.Need-enum-known-end-2
 enum-known-end-2 c = search needs
 
+end-of-requires : tie.Need-end-of-requires
+end-of-requires c κs = search needs
+
 dpr-at-requires : tie.Need-dpr-at-requires
 dpr-at-requires c κs =
-    let at-to-end = c .before .before .before .before in
+    let at-to-end = c .before .before .before .before .before in
     let start = at-to-end .before .before .before .before in
     let a = start .args in
-    let g = c .before .before .end2 .given in
-    filed (a .table .now) (a .line .now) (a .user) (a .name) Own _ (at-to-end .to-end .ensures) (start .pre) (g .0 .0) (g .0 .1 .0) (g .1)
+    let g = c .before .before .before .end2 .given in
+    filed (a .table .now) (a .line .now) (a .user) (a .name) Own _ (at-to-end .to-end .ensures) (start .pre .0) (g .0 .0) (g .0 .1 .0) (g .1)
 
 same-length : tie.Need-same-length
 same-length c = search needs
@@ -37,7 +46,7 @@ returns c =
     let start = at-to-end .before .before .before .before in
     let a = start .args in
     let g = c .before .before .end .given in
-    rw (c .refused .ensures)
+    rw (c .refused-at .ensures)
     (end-off (a .table .now) (a .line .now) (a .user) (a .name) Own 1 _ _ (at-to-end .to-end .ensures) (g .0 .0) (g .0 .1 .0) (g .1) (a .stop))
 
 same-length-2 : tie.Need-same-length-2
@@ -46,13 +55,13 @@ same-length-2 c = search needs
 returns-2 : tie.Need-returns-2
 unfolding dprPlan
 returns-2 c =
-    let at-end2 = c .before .before .before .before .before in
+    let at-end2 = c .before .before .before .before .before .before in
     let at-to-end = at-end2 .before .before in
     let start = at-to-end .before .before .before .before in
     let a = start .args in
     let g = at-end2 .end2 .given in
     end-at (a .table .now) (a .line .now) (a .user) (a .name) Own 1 _ _ (at-to-end .to-end .ensures) (g .0 .0) (g .0 .1 .0) (g .1) (a .stop) _ _
-    (c .before .before .dpr-at .ensures)
+    (rw (c .before .before .before .end-of .ensures) at (c .before .before .dpr-at .ensures))
 
 pub dpr-spec : {M : Type 1} → statement M
 dpr-spec =
@@ -60,8 +69,9 @@ dpr-spec =
     (tie.spec
     to-end-requires
     enum-known-end
-    refused-requires
+    refused-at-requires
     enum-known-end-2
+    end-of-requires
     dpr-at-requires
     same-length
     returns

@@ -1,5 +1,6 @@
 -- Each return is one case of `dprAt`: 14, 21, or the store made.
 -- The heading is in the table, so that its record is whole.
+use Rattle.answers.specs.Shown.{placeMeant}
 use Rattle.elephant.proofs.Changes.{dpr-shut, dpr-lacks, dpr-laid}
 use borrow.Author.Needs.{needs}
 use Rattle.elephant.proofs.change.dpr_at.Statement.{statement}
@@ -16,7 +17,7 @@ returns c =
     let start = c .before .before .before .before .before in
     let a = start .args in
     rw (c .refused .ensures)
-    (dpr-shut (a .table .now) (a .stop) (a .code) (a .f) (rw (c .before .before .inhibits-write .ensures) at (c .before .if1 .taken)))
+    (dpr-shut (a .table .now) (placeMeant (a .place)) (a .stop) (a .code) (a .f) (rw (c .before .before .inhibits-write .ensures) at (c .before .if1 .taken)))
 
 heading-named-requires : tie.Need-heading-named-requires
 heading-named-requires c κs = search needs
@@ -27,8 +28,8 @@ heading-code-requires c κs = search needs
 lacks-requires : tie.Need-lacks-requires
 lacks-requires c κs = search needs
 
-refused-requires-2 : tie.Need-refused-requires-2
-refused-requires-2 c κs = search needs
+refused-whole-requires : tie.Need-refused-whole-requires
+refused-whole-requires c κs = search needs
 
 same-length : tie.Need-same-length
 same-length c = search needs
@@ -42,8 +43,8 @@ returns-2 c =
     let a = start .args in
     let i = rw (at-inhibits-write .inhibits-write .ensures) at (at-if1 .if1 .left) in
     let h = at-heading-named .heading-named in
-    rw (c .refused2 .ensures)
-    (dpr-lacks (a .table .now) (a .stop) (a .code) (a .f) i (h .result .0) (h .ensures .0)
+    rw (c .refused-whole .ensures)
+    (dpr-lacks (a .table .now) (placeMeant (a .place)) (a .stop) (a .code) (a .f) i (h .result .0) (h .ensures .0)
     (rw (c .before .before .lacks .ensures, c .before .before .before .heading-code .ensures) at (c .before .if2 .taken)))
 
 recoded-requires : tie.Need-recoded-requires
@@ -74,8 +75,8 @@ returns-3 c =
     let k = rw (at-lacks .lacks .ensures, at-heading-code .heading-code .ensures) at (at-if2 .if2 .left) in
     let b = at-recoded .recoded in
     rw (c .stored .ensures)
-    (dpr-laid (a .table .now) (a .stop) (a .code) (a .f) i (h .result .0) (h .ensures .0) k (b .result) _ _ (start .pre .heading) (b .ensures)
-    (c .before .before .before .put .ensures))
+    (dpr-laid (a .table .now) (placeMeant (a .place)) (a .stop) (a .code) (a .f) i (h .result .0) (h .ensures .0) k (b .result) _ _ (start .pre .heading)
+    (b .ensures) (c .before .before .before .put .ensures))
 
 pub dpr-at-spec : {M : Type 1} → statement M
 dpr-at-spec =
@@ -87,7 +88,7 @@ dpr-at-spec =
     heading-named-requires
     heading-code-requires
     lacks-requires
-    refused-requires-2
+    refused-whole-requires
     same-length
     returns-2
     recoded-requires

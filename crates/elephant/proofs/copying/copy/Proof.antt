@@ -60,6 +60,7 @@ file-requires c κs =
       size = p .0 .size;
       sound = p .0 .sound;
       short = p .0 .short;
+      brief = p .0 .brief;
       few = rw (c .part .ensures ∙ x)
           (text-few (a .table .now) (a .source .0) f (p .1));
     }

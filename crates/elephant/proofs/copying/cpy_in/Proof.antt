@@ -21,18 +21,21 @@ returns c =
 inhibits-write-requires : tie.Need-inhibits-write-requires
 inhibits-write-requires c κs = search needs
 
+end-of-requires : tie.Need-end-of-requires
+end-of-requires c κs = search needs
+
 refused-requires-2 : tie.Need-refused-requires-2
 refused-requires-2 c κs = search needs
 
 returns-2 : tie.Need-returns-2
 returns-2 c =
-    let at-if1 = c .before .before .before .before in
+    let at-if1 = c .before .before .before .before .before in
     let at-inhibits-read = at-if1 .before in
     let start = at-inhibits-read .before .before .before .before in
     let a = start .args in
-    rw (c .refused2 .ensures)
+    rw (c .refused2 .ensures, c .before .end-of .ensures)
     (copy-second (a .table .now) (a .stop) _ _ _ _ (rw (at-inhibits-read .inhibits-read .ensures) at (at-if1 .if1 .left))
-    (rw (c .before .before .inhibits-write .ensures) at (c .before .if2 .taken)))
+    (rw (c .before .before .before .inhibits-write .ensures) at (c .before .before .if2 .taken)))
 
 heading-named-requires : tie.Need-heading-named-requires
 heading-named-requires c κs = search needs
@@ -94,6 +97,7 @@ cpy-in-spec =
     refused-requires
     returns
     inhibits-write-requires
+    end-of-requires
     refused-requires-2
     returns-2
     heading-named-requires

@@ -22,7 +22,9 @@ add-delete-one : tie.Need-add-delete-one Inv-loop μ-loop
 add-delete-one c = omega arith
 
 delete-one-requires : tie.Need-delete-one-requires Inv-loop μ-loop
-delete-one-requires c κs = c .before .before .loop .inv .fit
+delete-one-requires c κs =
+    let l = c .before .before in
+    (l .loop .inv .fit, l .before .before .before .pre .3)
 
 cast-made : tie.Need-cast-made Inv-loop μ-loop
 cast-made c = omega (arith, c .before .before .before .before .before .loop .inv .some)
@@ -52,8 +54,8 @@ returns c =
     (l .loop .left) (l .loop .inv) (omega (arith, s .pre .2)) (d .delete-one .result) _ (d .delete-one .ensures) (g .0 .0) (g .0 .1 .0) (g .1)
     _ (c .refusal .ensures)
 
-plain-requires : tie.Need-plain-requires Inv-loop μ-loop
-plain-requires c κs = search needs
+placeless-requires : tie.Need-placeless-requires Inv-loop μ-loop
+placeless-requires c κs = search needs
 
 same-length-2 : tie.Need-same-length-2 Inv-loop μ-loop
 same-length-2 c =
@@ -68,7 +70,7 @@ returns-2 c =
     let s = l .before .before .before in
     deleting-cut (s .args .table .now) (s .args .line .now) (s .args .user) (s .args .stop) (l .loop .table) (l .loop .p) (l .loop .names)
     (l .loop .left) (l .loop .inv) (omega (arith, s .pre .2)) (d .delete-one .result) _ (d .delete-one .ensures) (g .0 .0) (g .1)
-    (omega arith) _ (c .plain .ensures)
+    (omega arith) _ (c .placeless .ensures)
 
 add-names : tie.Need-add-names Inv-loop μ-loop
 add-names c = omega arith
@@ -89,14 +91,14 @@ loop-again c =
     (l .loop .left) (l .loop .inv) (omega (arith, s .pre .2)) (d .delete-one .result) _ (d .delete-one .ensures) (g .0 .0) (g .1)
     (omega arith) (c .next-word .result) (c .next-word .ensures) (omega (arith, l .loop .inv .size))
 
-cast-plain : tie.Need-cast-plain Inv-loop μ-loop
-cast-plain c = omega (arith, c .before .loop .inv .some)
+cast-placeless : tie.Need-cast-placeless Inv-loop μ-loop
+cast-placeless c = omega (arith, c .before .loop .inv .some)
 
-sub-plain : tie.Need-sub-plain Inv-loop μ-loop
-sub-plain c = omega (arith, c .before .loop .inv .some)
+sub-placeless : tie.Need-sub-placeless Inv-loop μ-loop
+sub-placeless c = omega (arith, c .before .loop .inv .some)
 
-plain-requires-2 : tie.Need-plain-requires-2 Inv-loop μ-loop
-plain-requires-2 c κs = search needs
+placeless-requires-2 : tie.Need-placeless-requires-2 Inv-loop μ-loop
+placeless-requires-2 c κs = search needs
 
 same-length-3 : tie.Need-same-length-3 Inv-loop μ-loop
 same-length-3 c = omega (arith, c .before .before .loop .inv .size)
@@ -106,7 +108,7 @@ returns-3 c =
     let l = c .before .before in
     let s = l .before .before .before in
     deleting-end (s .args .table .now) (s .args .line .now) (s .args .user) (s .args .stop) (l .loop .table) (l .loop .p) (l .loop .names)
-    (l .loop .left) (l .loop .inv) (omega (arith, s .pre .2)) _ (c .plain2 .ensures)
+    (l .loop .left) (l .loop .inv) (omega (arith, s .pre .2)) _ (c .placeless2 .ensures)
 
 pub del-spec : {M : Type 1} → statement M
 del-spec =
@@ -124,15 +126,15 @@ del-spec =
     refusal-requires
     same-length
     returns
-    plain-requires
+    placeless-requires
     same-length-2
     returns-2
     add-names
     next-word-requires
     loop-less
     loop-again
-    cast-plain
-    sub-plain
-    plain-requires-2
+    cast-placeless
+    sub-placeless
+    placeless-requires-2
     same-length-3
     returns-3)

@@ -1,6 +1,7 @@
 -- Each return is one case of `delAt`: 14, another entry names the file, 18, or the file is cleared too.
 -- The entry and the heading that it names are in the table.
 use Rattle.paper.specs.Record.{blank}
+use Rattle.answers.specs.Shown.{placeMeant}
 use Rattle.elephant.proofs.Clearings.{del-shut, del-kept, del-peopled, del-freed}
 use borrow.Author.Needs.{needs}
 use Rattle.elephant.proofs.delete.delete_at.Statement.{statement}
@@ -13,7 +14,7 @@ returns : tie.Need-returns
 returns c =
     let start = c .before .before .before .before in
     let a = start .args in
-    del-shut (a .table .now) (a .left) (a .place) (a .d) (a .f) (rw (c .before .inhibits-write .ensures) at (c .if1 .taken))
+    del-shut (a .table .now) (placeMeant (a .place)) (a .left) (a .d) (a .f) (rw (c .before .inhibits-write .ensures) at (c .if1 .taken))
 
 heading-named-requires : tie.Need-heading-named-requires
 heading-named-requires c κs = search needs
@@ -40,7 +41,7 @@ returns-2 c =
     let i = rw (at-inhibits-write .inhibits-write .ensures) at (at-if1 .if1 .left) in
     let h = at-heading-named .heading-named in
     let b = rw (at-is-named-beside .is-named-beside .ensures) at (at-if2 .if2 .taken) in
-    del-kept (a .table .now) (a .left) (a .place) (a .d) (a .f) i (h .result .0) (h .ensures .0) (start .pre .entry) b _ _
+    del-kept (a .table .now) (placeMeant (a .place)) (a .left) (a .d) (a .f) i (h .result .0) (h .ensures .0) (start .pre .entry) b _ _
     (c .before .before .put .ensures)
 
 is-directory-peopled-requires : tie.Need-is-directory-peopled-requires
@@ -61,7 +62,7 @@ returns-3 c =
     let h = at-heading-named .heading-named in
     let b = rw (at-is-named-beside .is-named-beside .ensures) at (c .before .before .before .if2 .left) in
     let q = rw (c .before .is-directory-peopled .ensures) at (c .if3 .taken) in
-    del-peopled (a .table .now) (a .left) (a .place) (a .d) (a .f) i (h .result .0) (h .ensures .0) (start .pre .entry) b q
+    del-peopled (a .table .now) (placeMeant (a .place)) (a .left) (a .d) (a .f) i (h .result .0) (h .ensures .0) (start .pre .entry) b q
 
 clear-both-requires : tie.Need-clear-both-requires
 clear-both-requires c κs =
@@ -89,7 +90,7 @@ returns-4 c =
     let h = at-heading-named .heading-named in
     let b = rw (at-is-named-beside .is-named-beside .ensures) at (at-if2 .if2 .left) in
     let q = rw (at-is-directory-peopled .is-directory-peopled .ensures) at (at-if3 .if3 .left) in
-    del-freed (a .table .now) (a .left) (a .place) (a .d) (a .f) i (h .result .0) (h .ensures .0) (start .pre .entry) b q _ _
+    del-freed (a .table .now) (placeMeant (a .place)) (a .left) (a .d) (a .f) i (h .result .0) (h .ensures .0) (start .pre .entry) b q _ _
     (c .before .before .clear-both .ensures)
 
 pub delete-at-spec : {M : Type 1} → statement M

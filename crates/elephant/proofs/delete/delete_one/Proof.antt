@@ -1,5 +1,6 @@
 -- The walk stopped, or came to the file, where one name is `delete_at`.
 -- On a fit table the file is there.
+use Rattle.elephant.proofs.Links.{end-near}
 use Rattle.elephant.proofs.Ends.{name-off, name-at, filed}
 use Rattle.paper.specs.Effect.{delPlan}
 use Rattle.words.specs.declared.begin.Begin.the-variants.{Own}
@@ -13,16 +14,27 @@ to-end-requires c κs = search needs
 enum-known-end : tie.Need-enum-known-end
 enum-known-end c = search needs
 
+at-link-requires : tie.Need-at-link-requires
+at-link-requires c κs =
+    let at-to-end = c .before .before .before in
+    let start = at-to-end .before .before .before .before in
+    let a = start .args in
+    let g = c .before .end .given in
+    end-near (a .line .now) (start .pre .1) (a .table .now) (a .user) (a .p) Own _ (at-to-end .to-end .ensures) (g .0 .0) (g .0 .1 .0) (g .1)
+
 enum-known-end-2 : tie.Need-enum-known-end-2
 enum-known-end-2 c = search needs
 
+end-of-requires : tie.Need-end-of-requires
+end-of-requires c κs = search needs
+
 delete-at-requires : tie.Need-delete-at-requires
 delete-at-requires c κs =
-    let at-to-end = c .before .before .before .before in
+    let at-to-end = c .before .before .before .before .before in
     let start = at-to-end .before .before .before .before in
     let a = start .args in
-    let g = c .before .before .end2 .given in
-    filed (a .table .now) (a .line .now) (a .user) (a .p) Own _ (at-to-end .to-end .ensures) (start .pre) (g .0 .0) (g .0 .1 .0) (g .1)
+    let g = c .before .before .before .end2 .given in
+    filed (a .table .now) (a .line .now) (a .user) (a .p) Own _ (at-to-end .to-end .ensures) (start .pre .0) (g .0 .0) (g .0 .1 .0) (g .1)
 
 same-length : tie.Need-same-length
 same-length c = search needs
@@ -30,11 +42,12 @@ same-length c = search needs
 returns : tie.Need-returns
 unfolding delPlan
 returns c =
-    let start = c .before .before .before .before .before .before .before in
+    let start = c .before .before .before .before .before .before .before .before in
     let a = start .args in
-    let g = c .before .end .given in
-    name-off (a .table .now) (a .line .now) (a .user) (a .p) Own (a .place) _ _ (c .before .before .before .to-end .ensures) (g .0 .0) (g .0 .1 .0) (g .1)
-    (a .left)
+    let g = c .before .before .end .given in
+    rw (c .at-link .ensures)
+    (name-off (a .table .now) (a .line .now) (a .user) (a .p) Own (a .argument) _ _ (c .before .before .before .before .to-end .ensures)
+    (g .0 .0) (g .0 .1 .0) (g .1) (a .left))
 
 same-length-2 : tie.Need-same-length-2
 same-length-2 c = search needs
@@ -42,13 +55,13 @@ same-length-2 c = search needs
 returns-2 : tie.Need-returns-2
 unfolding delPlan
 returns-2 c =
-    let at-end2 = c .before .before .before .before .before in
+    let at-end2 = c .before .before .before .before .before .before in
     let at-to-end = at-end2 .before .before in
     let start = at-to-end .before .before .before .before in
     let a = start .args in
     let g = at-end2 .end2 .given in
-    name-at (a .table .now) (a .line .now) (a .user) (a .p) Own (a .place) _ _ (at-to-end .to-end .ensures) (g .0 .0) (g .0 .1 .0) (g .1) (a .left) _ _
-    (c .before .before .delete-at .ensures)
+    name-at (a .table .now) (a .line .now) (a .user) (a .p) Own (a .argument) _ _ (at-to-end .to-end .ensures) (g .0 .0) (g .0 .1 .0) (g .1) (a .left) _ _
+    (rw (c .before .before .before .end-of .ensures) at (c .before .before .delete-at .ensures))
 
 pub delete-one-spec : {M : Type 1} → statement M
 delete-one-spec =
@@ -56,7 +69,9 @@ delete-one-spec =
     (tie.spec
     to-end-requires
     enum-known-end
+    at-link-requires
     enum-known-end-2
+    end-of-requires
     delete-at-requires
     same-length
     returns

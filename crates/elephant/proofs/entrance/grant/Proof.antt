@@ -2,7 +2,7 @@
 -- The laws stand in `Granted`, one of each kind for a function.
 use native.Mathlib.Omega.{arith}
 use borrow.Author.Needs.{needs}
-use Rattle.elephant.proofs.Granted.{crd-ready, wrs-ready, cpy-ready, dup-ready, chn-ready, del-ready, crd-done, wrs-done, rds-done, cpy-done, dup-done, chn-done, del-done, dpr-done, lst-done, lst-base-done}
+use Rattle.elephant.proofs.Granted.{line-short, crd-ready, wrs-ready, cpy-ready, dup-ready, chn-ready, del-ready, crd-done, wrs-done, rds-done, cpy-done, dup-done, chn-done, del-done, dpr-done, lst-done, lst-base-done}
 use Rattle.elephant.proofs.entrance.grant.Statement.{statement}
 use Rattle.elephant.proofs.entrance.grant.Tie as tie
 
@@ -28,7 +28,9 @@ enum-known-asked-3 : tie.Need-enum-known-asked-3
 enum-known-asked-3 c = search needs
 
 read-requires : tie.Need-read-requires
-read-requires c κs = search needs
+read-requires c κs =
+    let s = c .before .before .before .before .before .before .before .before .before in
+    (s .pre .fit, line-short (s .pre))
 
 enum-known-asked-4 : tie.Need-enum-known-asked-4
 enum-known-asked-4 c = search needs
@@ -55,7 +57,7 @@ chn-requires : tie.Need-chn-requires
 chn-requires c κs =
     let s = c .before .before .before .before .before .before .before .before in
     let g = c .before .before .asked6 .given in
-    (s .pre .fit, chn-ready (s .pre) (g .0 .0) (g .0 .1 .0) (g .1))
+    (s .pre .fit, chn-ready (s .pre) (g .0 .0) (g .0 .1 .0) (g .1), line-short (s .pre))
 
 enum-known-asked-7 : tie.Need-enum-known-asked-7
 enum-known-asked-7 c = search needs
@@ -72,19 +74,23 @@ del-requires c κs =
     let s = c .before .before .before .before .before .before .before .before in
     let g = c .before .before .asked7 .given in
     let d = del-ready (s .pre) (g .0 .0) (g .0 .1 .0) (g .1) in
-    (s .pre .fit, d .0, d .1)
+    (s .pre .fit, d .0, d .1, line-short (s .pre))
 
 enum-known-asked-8 : tie.Need-enum-known-asked-8
 enum-known-asked-8 c = search needs
 
 dpr-requires : tie.Need-dpr-requires
-dpr-requires c κs = search needs
+dpr-requires c κs =
+    let s = c .before .before .before .before .before .before .before .before in
+    (s .pre .fit, line-short (s .pre))
 
 enum-known-asked-9 : tie.Need-enum-known-asked-9
 enum-known-asked-9 c = search needs
 
 read-requires-2 : tie.Need-read-requires-2
-read-requires-2 c κs = search needs
+read-requires-2 c κs =
+    let s = c .before .before .before .before .before .before .before .before .before in
+    (s .pre .fit, line-short (s .pre))
 
 enum-told : tie.Need-enum-told
 enum-told c = search needs

@@ -5,6 +5,7 @@ use lib.Seq.{take-all}
 use Rattle.effects.proofs.Stages.{made-both}
 use Rattle.elephant.proofs.Ending.{file-count, ends-refused, ends-stored}
 use Rattle.placing.proofs.Meeting.{met-few}
+use Rattle.answers.specs.Shown.{placeMeant}
 use borrow.Author.Needs.{needs}
 use Rattle.elephant.proofs.filing.make.Statement.{statement}
 use Rattle.elephant.proofs.filing.make.Tie as tie
@@ -49,8 +50,8 @@ returns c =
     let m = at-meet .meet in
     let r = c .before .before .before .refusal in
     rw (c .refused .ensures)
-    (ends-refused (a .table .now) (a .rooms .now) (a .name .now) (a .text .now) (a .named .0) (start .pre) (a .place) (a .to) (a .d) (a .code .0) (a .file)
-    (at-room-at .room-at .result .0) (rw (n .ensures) at (at-room-at .room-at .ensures)) (a .stop)
+    (ends-refused (a .table .now) (a .rooms .now) (a .name .now) (a .text .now) (a .named .0) (start .pre) (placeMeant (a .place)) (a .to) (a .d)
+    (a .code .0) (a .file) (at-room-at .room-at .result .0) (rw (n .ensures) at (at-room-at .room-at .ensures)) (a .stop)
     (m .result) (rw (at-find .find .ensures) at (m .ensures))
     (r .result) (rw (at-needed .needed .ensures, n .ensures) at (r .ensures))
     (c .before .if1 .taken))
@@ -108,7 +109,7 @@ returns-2 c =
     let e = at-laid .laid in
     let p = at-place-entry .place-entry in
     rw (c .stored .ensures, c .before .count-stores .ensures, n .ensures)
-    (ends-stored (a .table .now) (a .rooms .now) (a .name .now) (a .text .now) (a .named .0) w (a .place) (a .to) (a .d) (a .code .0) (a .file)
+    (ends-stored (a .table .now) (a .rooms .now) (a .name .now) (a .text .now) (a .named .0) w (placeMeant (a .place)) (a .to) (a .d) (a .code .0) (a .file)
     (at-room-at .room-at .result .0) (rw (n .ensures) at (at-room-at .room-at .ensures)) (a .stop)
     (m .result) (rw (at-find .find .ensures) at (m .ensures))
     (r .result) (rw (at-needed .needed .ensures, n .ensures) at (r .ensures))

@@ -4,6 +4,7 @@ use mathlib.Core.Path.{sym, _∙_}
 use Rattle.paper.specs.Check.{verdict}
 use Rattle.records.specs.Shown.{holderShown}
 use Rattle.elephant.proofs.Ending.{told-first, told-low, told-none}
+use Rattle.answers.specs.Shown.{placeMeant}
 use borrow.Author.Needs.{needs}
 use Rattle.elephant.proofs.filing.refusal.Statement.{statement}
 use Rattle.elephant.proofs.filing.refusal.Tie as tie
@@ -23,7 +24,7 @@ returns-2 c =
     let at-refusal = c .before .before in
     let at-taken = at-refusal .before .before in
     let a = at-taken .before .before .args in
-    told-first (a .table .now) (a .to) (a .place) (holderShown (a .holder)) (a .meets) (a .needed) (a .low) _ (at-refusal .entry-refusal .ensures)
+    told-first (a .table .now) (a .to) (placeMeant (a .place)) (holderShown (a .holder)) (a .meets) (a .needed) (a .low) _ (at-refusal .entry-refusal .ensures)
     (sym (at-taken .is-taken .ensures) ∙ at-refusal .before .if1 .left) (c .if2 .taken)
 
 returns-3 : tie.Need-returns-3
@@ -31,7 +32,7 @@ returns-3 c =
     let at-refusal = c .before .before .before in
     let at-taken = at-refusal .before .before in
     let a = at-taken .before .before .args in
-    told-low (a .table .now) (a .to) (a .place) (holderShown (a .holder)) (a .meets) (a .needed) (a .low) _ (at-refusal .entry-refusal .ensures)
+    told-low (a .table .now) (a .to) (placeMeant (a .place)) (holderShown (a .holder)) (a .meets) (a .needed) (a .low) _ (at-refusal .entry-refusal .ensures)
     (sym (at-taken .is-taken .ensures) ∙ at-refusal .before .if1 .left) (c .before .if2 .left) (c .if3 .taken)
 
 returns-4 : tie.Need-returns-4
@@ -39,7 +40,7 @@ returns-4 c =
     let at-refusal = c .before .before .before in
     let at-taken = at-refusal .before .before in
     let a = at-taken .before .before .args in
-    told-none (a .table .now) (a .to) (a .place) (holderShown (a .holder)) (a .meets) (a .needed) (a .low) _ (at-refusal .entry-refusal .ensures)
+    told-none (a .table .now) (a .to) (placeMeant (a .place)) (holderShown (a .holder)) (a .meets) (a .needed) (a .low) _ (at-refusal .entry-refusal .ensures)
     (sym (at-taken .is-taken .ensures) ∙ at-refusal .before .if1 .left) (c .before .if2 .left) (c .if3 .left)
 
 pub refusal-spec : {M : Type 1} → statement M

@@ -2,6 +2,8 @@
 -- The declared parts have the numbers that the plan gives them.
 use mathlib.Core.Path.{sym, _∙_}
 use native.Mathlib.Omega.{arith}
+use Rattle.words.specs.declared.begin.Begin.the-variants.{Own}
+use Rattle.elephant.proofs.Links.{walk-near}
 use Rattle.elephant.proofs.Makes.{crd-stops, crd-reaches}
 use borrow.Author.Needs.{needs}
 use Rattle.elephant.proofs.making.crd.Statement.{statement}
@@ -22,8 +24,14 @@ to-directory-requires c κs = search needs
 enum-known-walked : tie.Need-enum-known-walked
 enum-known-walked c = search needs
 
-refused-requires : tie.Need-refused-requires
-refused-requires c κs = search needs
+refused-at-requires : tie.Need-refused-at-requires
+refused-at-requires c κs =
+    let at-to-directory = c .before .before .before in
+    let start = at-to-directory .before .before .before .before .before .before .before in
+    let a = start .args in
+    let g = c .before .walked .given in
+    walk-near (a .line .now) (start .pre .brief) (a .table .now) (a .user) (a .name) Own _ (at-to-directory .to-directory .ensures)
+    (g .0 .0) (g .0 .1 .0) (g .1)
 
 enum-known-walked-2 : tie.Need-enum-known-walked-2
 enum-known-walked-2 c = search needs
@@ -35,7 +43,7 @@ file-in-requires : tie.Need-file-in-requires
 file-in-requires c κs =
     let at-to-directory = c .before .before .before .before .before in
     let p = at-to-directory .before .before .before .before .before .before .before .pre in
-    record { size = p .size; sound = p .sound; short = p .short; few = rw (c .part .ensures) (omega arith) }
+    record { size = p .size; sound = p .sound; short = p .short; few = rw (c .part .ensures) (omega arith); brief = p .brief }
 
 same-length : tie.Need-same-length
 same-length c = search needs
@@ -46,7 +54,7 @@ returns c =
     let start = at-to-directory .before .before .before .before .before .before .before in
     let a = start .args in
     let g = c .before .before .walked .given in
-    rw (c .refused .ensures)
+    rw (c .refused-at .ensures)
     (crd-stops (a .table .now) (a .line .now) (a .user) (a .name) (a .stop) _ _ (g .0 .0) (g .0 .1 .0)
     (sym (at-to-directory .to-directory .ensures) ∙ g .1))
 
@@ -77,7 +85,7 @@ crd-spec =
     laid-requires
     to-directory-requires
     enum-known-walked
-    refused-requires
+    refused-at-requires
     enum-known-walked-2
     part-requires
     file-in-requires

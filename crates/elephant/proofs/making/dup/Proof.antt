@@ -1,6 +1,7 @@
 -- The walks of both names choose: one stopped, or at the file and in the directory.
 -- What follows there is the plan's making.
 use Rattle.paper.specs.Effect.{dupPlan}
+use Rattle.elephant.proofs.Links.{both-near}
 use Rattle.elephant.proofs.Ends.{both-stops, both-reaches}
 use borrow.Author.Needs.{needs}
 use Rattle.elephant.proofs.making.dup.Statement.{statement}
@@ -12,8 +13,14 @@ to-both-requires c κs = search needs
 enum-known-both : tie.Need-enum-known-both
 enum-known-both c = search needs
 
-refused-requires : tie.Need-refused-requires
-refused-requires c κs = search needs
+refused-at-requires : tie.Need-refused-at-requires
+refused-at-requires c κs =
+    let at-to-both = c .before .before .before in
+    let start = at-to-both .before .before .before .before in
+    let a = start .args in
+    let g = c .before .both .given in
+    both-near (a .line .now) (start .pre .named .brief) (a .table .now) (a .user) (a .old) (a .from) (a .new) (a .to) _
+    (at-to-both .to-both .ensures) (g .0 .0) (g .0 .1 .0) (g .0 .1 .1 .0) (g .1)
 
 enum-known-both-2 : tie.Need-enum-known-both-2
 enum-known-both-2 c = search needs
@@ -31,7 +38,7 @@ returns c =
     let start = at-to-both .before .before .before .before in
     let a = start .args in
     let g = c .before .before .both .given in
-    rw (c .refused .ensures)
+    rw (c .refused-at .ensures)
     (both-stops (a .table .now) (a .line .now) (a .user) (a .from) (a .old) (a .to) (a .new) _ _ (at-to-both .to-both .ensures)
     (a .stop) (g .0 .0) (g .0 .1 .0) (g .0 .1 .1 .0) (g .1))
 
@@ -55,7 +62,7 @@ dup-spec =
     (tie.spec
     to-both-requires
     enum-known-both
-    refused-requires
+    refused-at-requires
     enum-known-both-2
     dup-in-requires
     same-length

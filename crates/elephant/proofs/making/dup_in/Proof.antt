@@ -7,6 +7,9 @@ use borrow.Author.Needs.{needs}
 use Rattle.elephant.proofs.making.dup_in.Statement.{statement}
 use Rattle.elephant.proofs.making.dup_in.Tie as tie
 
+end-of-requires : tie.Need-end-of-requires
+end-of-requires c κs = search needs
+
 inhibits-write-requires : tie.Need-inhibits-write-requires
 inhibits-write-requires c κs = search needs
 
@@ -15,9 +18,10 @@ refused-requires c κs = search needs
 
 returns : tie.Need-returns
 returns c =
-    let start = c .before .before .before .before .before .before in
+    let start = c .before .before .before .before .before .before .before in
     let a = start .args in
-    rw (c .refused .ensures) (shut-refused (a .table .now) (a .stop) _ _ (rw (c .before .before .inhibits-write .ensures) at (c .before .if1 .taken)))
+    rw (c .refused .ensures, c .before .before .before .before .end-of .ensures)
+    (shut-refused (a .table .now) (a .stop) _ _ (rw (c .before .before .inhibits-write .ensures) at (c .before .if1 .taken)))
 
 or-else-requires : tie.Need-or-else-requires
 or-else-requires c κs = search needs
@@ -44,7 +48,7 @@ make-requires : tie.Need-make-requires
 make-requires c κs =
     let at-free-rooms = c .before .before .before .before in
     let at-heading-named = at-free-rooms .before .before .before .before .before .before in
-    let start = at-heading-named .before .before .before .before .before .before .before .before in
+    let start = at-heading-named .before .before .before .before .before .before .before .before .before in
     let p = start .pre .named in
     let h = at-heading-named .heading-named in
     record {
@@ -68,10 +72,12 @@ returns-2 c =
     let at-or-else = at-heading-named .before .before in
     let at-if1 = at-or-else .before in
     let at-inhibits-write = at-if1 .before in
-    let start = at-inhibits-write .before .before .before .before in
+    let at-end-of = at-inhibits-write .before .before in
+    let start = at-end-of .before .before .before in
     let a = start .args in
     open-ends (a .table .now) (a .stop) _ _ _ _ (rw (at-inhibits-write .inhibits-write .ensures) at (at-if1 .if1 .left))
     (rw (
+      at-end-of .end-of .ensures,
       at-last-name .last-name .ensures
           ∙ sym (start .pre .last),
       at-joined .joined .ensures,
@@ -85,6 +91,7 @@ pub dup-in-spec : {M : Type 1} → statement M
 dup-in-spec =
     tie.close
     (tie.spec
+    end-of-requires
     inhibits-write-requires
     refused-requires
     returns

@@ -21,9 +21,12 @@ room-at-requires c κs = search needs
 last-name-requires : tie.Need-last-name-requires
 last-name-requires c κs = search needs
 
+end-of-requires : tie.Need-end-of-requires
+end-of-requires c κs = search needs
+
 make-requires : tie.Need-make-requires
 make-requires c κs =
-    let at-free-rooms = c .before .before .before .before .before in
+    let at-free-rooms = c .before .before .before .before .before .before in
     let start = at-free-rooms .before .before .before .before .before .before in
     let p = start .pre in
     let f = at-free-rooms .free-rooms in
@@ -31,9 +34,9 @@ make-requires c κs =
       size = p .size;
       sound = p .sound;
       free = f .ensures;
-      short = rw (c .last-name .ensures) (p .short);
+      short = rw (c .before .last-name .ensures) (p .short);
       few = p .few;
-      small = rw (c .before .before .before .room-at .ensures, f .ensures) (free-small (start .args .table .now));
+      small = rw (c .before .before .before .before .room-at .ensures, f .ensures) (free-small (start .args .table .now));
     }
 
 same-length : tie.Need-same-length
@@ -41,12 +44,13 @@ same-length c = search needs
 
 returns : tie.Need-returns
 returns c =
-    let at-room-at = c .before .before .before .before .before .before in
+    let at-room-at = c .before .before .before .before .before .before .before in
     let at-free-rooms = at-room-at .before .before in
     let start = at-free-rooms .before .before .before .before .before .before in
     let p = start .pre in
     rw (
-      c .before .before .before .last-name .ensures,
+      c .before .before .before .end-of .ensures,
+      c .before .before .before .before .last-name .ensures,
       at-room-at .room-at .ensures,
       at-free-rooms .free-rooms .ensures,
       free-room
@@ -62,6 +66,7 @@ file-spec =
     slice-aggregate-room-at
     room-at-requires
     last-name-requires
+    end-of-requires
     make-requires
     same-length
     returns)

@@ -10,14 +10,18 @@ use Rattle.elephant.proofs.making.file_in.Tie as tie
 inhibits-write-requires : tie.Need-inhibits-write-requires
 inhibits-write-requires c κs = search needs
 
+end-of-requires : tie.Need-end-of-requires
+end-of-requires c κs = search needs
+
 refused-requires : tie.Need-refused-requires
 refused-requires c κs = search needs
 
 returns : tie.Need-returns
 returns c =
-    let start = c .before .before .before .before .before .before .before in
-    rw (c .refused .ensures)
-    (shut-refused (start .args .table .now) (start .args .stop) _ [] (rw (c .before .before .inhibits-write .ensures) at (c .before .if1 .taken)))
+    let start = c .before .before .before .before .before .before .before .before in
+    rw (c .refused .ensures, c .before .end-of .ensures)
+    (shut-refused (start .args .table .now) (start .args .stop) _ []
+    (rw (c .before .before .before .inhibits-write .ensures) at (c .before .before .if1 .taken)))
 
 file-requires : tie.Need-file-requires
 file-requires c κs = search needs
@@ -36,4 +40,4 @@ returns-2 c =
 pub file-in-spec : {M : Type 1} → statement M
 file-in-spec =
     tie.close
-    (tie.spec inhibits-write-requires refused-requires returns file-requires same-length returns-2)
+    (tie.spec inhibits-write-requires end-of-requires refused-requires returns file-requires same-length returns-2)

@@ -1,6 +1,8 @@
 -- The heading is laid out before the walk, and the walk chooses: stopped, or in the directory.
 -- The declared parts have the numbers that the plan gives them, and the length is the text's.
 use mathlib.Core.Path.{sym, _∙_}
+use Rattle.words.specs.declared.begin.Begin.the-variants.{Own}
+use Rattle.elephant.proofs.Links.{walk-near}
 use Rattle.elephant.proofs.Makes.{wrs-stops, wrs-reaches}
 use borrow.Author.Needs.{needs}
 use Rattle.elephant.proofs.making.wrs.Statement.{statement}
@@ -21,8 +23,14 @@ to-directory-requires c κs = search needs
 enum-known-walked : tie.Need-enum-known-walked
 enum-known-walked c = search needs
 
-refused-requires : tie.Need-refused-requires
-refused-requires c κs = search needs
+refused-at-requires : tie.Need-refused-at-requires
+refused-at-requires c κs =
+    let at-to-directory = c .before .before .before in
+    let start = at-to-directory .before .before .before .before .before .before .before .before in
+    let a = start .args in
+    let g = c .before .walked .given in
+    walk-near (a .line .now) (start .pre .brief) (a .table .now) (a .user) (a .name) Own _ (at-to-directory .to-directory .ensures)
+    (g .0 .0) (g .0 .1 .0) (g .1)
 
 enum-known-walked-2 : tie.Need-enum-known-walked-2
 enum-known-walked-2 c = search needs
@@ -39,7 +47,7 @@ returns c =
     let start = at-to-directory .before .before .before .before .before .before .before .before in
     let a = start .args in
     let g = c .before .before .walked .given in
-    rw (c .refused .ensures)
+    rw (c .refused-at .ensures)
     (wrs-stops (a .table .now) (a .line .now) (a .user) (a .name) (a .stop) _ _ (a .text .now) (a .lifetime) (g .0 .0) (g .0 .1 .0)
     (sym (at-to-directory .to-directory .ensures) ∙ g .1))
 
@@ -69,7 +77,7 @@ wrs-spec =
     laid-requires
     to-directory-requires
     enum-known-walked
-    refused-requires
+    refused-at-requires
     enum-known-walked-2
     file-in-requires
     same-length

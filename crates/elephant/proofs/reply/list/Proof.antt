@@ -18,15 +18,15 @@ use Rattle.elephant.proofs.reply.list.Tie as tie
 listed-length-requires : tie.Need-listed-length-requires
 listed-length-requires c κs = search needs
 
-refused-requires : tie.Need-refused-requires
-refused-requires c κs = search needs
+refused-whole-requires : tie.Need-refused-whole-requires
+refused-whole-requires c κs = search needs
 
 returns : tie.Need-returns
 returns c =
     let start = c .before .before .before .before .before in
     let a = start .args in
     let t = a .table .now in
-    rw (c .refused .ensures)
+    rw (c .refused-whole .ensures)
     (wrote-short t (a .reply .now) (lines t (listed t (isListed (a .which)))) [] (omega (arith, c .before .before .listed-length .ensures)))
 
 write-lines-requires : tie.Need-write-lines-requires
@@ -61,7 +61,7 @@ list-spec =
     tie.close
     (tie.spec
     listed-length-requires
-    refused-requires
+    refused-whole-requires
     returns
     write-lines-requires
     cast-granted

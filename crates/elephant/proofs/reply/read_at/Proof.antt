@@ -1,6 +1,7 @@
 -- Each return is one case of the reading: 13, 15, or what is written.
 -- Assumes nothing but the fit table that is written from.
 use borrow.Author.Tests.{not-false}
+use Rattle.answers.specs.Shown.{placeMeant}
 use Rattle.elephant.proofs.Readings.{reading-shut, reading-wrong, reading-on}
 use borrow.Author.Needs.{needs}
 use Rattle.elephant.proofs.reply.read_at.Statement.{statement}
@@ -17,7 +18,8 @@ returns c =
     let start = c .before .before .before .before .before .before in
     let a = start .args in
     rw (c .refused .ensures)
-    (reading-shut (a .sheet) (a .table .now) (a .reply .now) (a .f) (rw (c .before .before .inhibits-read .ensures) at (c .before .if1 .taken)))
+    (reading-shut (a .sheet) (placeMeant (a .place)) (a .table .now) (a .reply .now) (a .f)
+    (rw (c .before .before .inhibits-read .ensures) at (c .before .if1 .taken)))
 
 heading-named-requires : tie.Need-heading-named-requires
 heading-named-requires c κs = search needs
@@ -37,7 +39,7 @@ returns-2 c =
     let i = rw (at-inhibits-read .inhibits-read .ensures) at (at-if1 .if1 .left) in
     let h = c .before .before .before .heading-named in
     let b = rw (c .before .before .is-right .ensures) at (c .before .if2 .taken) in
-    rw (c .refused2 .ensures) (reading-wrong (a .sheet) (a .table .now) (a .reply .now) (a .f) i (h .result .0) (h .ensures .0) b)
+    rw (c .refused2 .ensures) (reading-wrong (a .sheet) (placeMeant (a .place)) (a .table .now) (a .reply .now) (a .f) i (h .result .0) (h .ensures .0) b)
 
 write-requires : tie.Need-write-requires
 write-requires c κs =
@@ -60,7 +62,8 @@ returns-3 c =
     let i = rw (at-inhibits-read .inhibits-read .ensures) at (at-if1 .if1 .left) in
     let h = at-heading-named .heading-named in
     let b = rw (at-is-right .is-right .ensures) at (at-if2 .if2 .left) in
-    reading-on (a .sheet) (a .table .now) (a .reply .now) (a .f) i (h .result .0) (h .ensures .0) b _ _ (c .before .before .write .ensures)
+    reading-on (a .sheet) (placeMeant (a .place)) (a .table .now) (a .reply .now) (a .f) i (h .result .0) (h .ensures .0) b _ _
+    (c .before .before .write .ensures)
 
 pub read-at-spec : {M : Type 1} → statement M
 read-at-spec =

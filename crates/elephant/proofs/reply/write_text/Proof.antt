@@ -16,8 +16,8 @@ first-byte-requires c κs = search needs
 part-length-requires : tie.Need-part-length-requires
 part-length-requires c κs = search needs
 
-refused-requires : tie.Need-refused-requires
-refused-requires c κs = search needs
+refused-whole-requires : tie.Need-refused-whole-requires
+refused-whole-requires c κs = search needs
 
 returns : tie.Need-returns
 returns c =
@@ -30,12 +30,12 @@ returns c =
     let n = at-text-length .text-length in
     let m = at-part-length .part-length in
     let e = rw (at-first-byte .first-byte .ensures) at (m .ensures) in
-    rw (c .refused .ensures)
+    rw (c .refused-whole .ensures)
     (part-short (a .table .now) (a .reply .now) (a .heading .0) (n .result .0) (p .0) (p .1) (n .ensures .0)
     (meantPart (a .first)) (meantPart (a .count)) (m .result) e (omega arith))
 
-refused-requires-2 : tie.Need-refused-requires-2
-refused-requires-2 c κs = search needs
+refused-whole-requires-2 : tie.Need-refused-whole-requires-2
+refused-whole-requires-2 c κs = search needs
 
 returns-2 : tie.Need-returns-2
 returns-2 c =
@@ -48,7 +48,7 @@ returns-2 c =
     let n = at-text-length .text-length in
     let m = at-part-length .part-length in
     let e = rw (at-first-byte .first-byte .ensures) at (m .ensures) in
-    rw (c .refused2 .ensures)
+    rw (c .refused-whole2 .ensures)
     (part-beyond (a .table .now) (a .reply .now) (a .heading .0) (n .result .0) (p .0) (p .1) (n .ensures .0)
     (meantPart (a .first)) (meantPart (a .count)) (m .result) e (omega arith) (omega (arith, at-first-byte .first-byte .ensures)))
 
@@ -101,9 +101,9 @@ write-text-spec =
     text-length-requires
     first-byte-requires
     part-length-requires
-    refused-requires
+    refused-whole-requires
     returns
-    refused-requires-2
+    refused-whole-requires-2
     returns-2
     copy-part-requires
     cast-granted

@@ -1,5 +1,5 @@
 -- Each number is put after those before it,
--- and six numbers of ten digits fit.
+-- and seven numbers of ten digits fit.
 use Rattle.filebox.proofs.Spelling.{lined}
 use borrow.Author.Needs.{needs}
 use Rattle.filebox.proofs.output.spell_answer.Statement.{statement}
@@ -23,12 +23,16 @@ spell-requires-5 c κs = search needs
 spell-requires-6 : tie.Need-spell-requires-6
 spell-requires-6 c κs = search needs
 
+spell-requires-7 : tie.Need-spell-requires-7
+spell-requires-7 c κs = search needs
+
 same-length : tie.Need-same-length
 same-length c = search needs
 
 returns : tie.Need-returns
 returns c =
-    let at-spell6 = c .before .before in
+    let at-spell7 = c .before .before in
+    let at-spell6 = at-spell7 .before .before .before .before in
     let at-spell5 = at-spell6 .before .before .before .before in
     let at-spell4 = at-spell5 .before .before .before .before in
     let at-spell3 = at-spell4 .before .before .before .before in
@@ -36,6 +40,7 @@ returns c =
     let at-spell = at-spell2 .before .before .before .before in
     lined (at-spell .before .before .before .args .a) (at-spell .spell .ensures) (at-spell2 .spell2 .ensures)
     (at-spell3 .spell3 .ensures) (at-spell4 .spell4 .ensures) (at-spell5 .spell5 .ensures) (at-spell6 .spell6 .ensures)
+    (at-spell7 .spell7 .ensures)
 
 pub spell-answer-spec : {M : Type 1} → statement M
 spell-answer-spec =
@@ -47,5 +52,6 @@ spell-answer-spec =
     spell-requires-4
     spell-requires-5
     spell-requires-6
+    spell-requires-7
     same-length
     returns)
