@@ -68,6 +68,9 @@ enum filebox_number {
 struct filebox_answer {
     uint32_t number;    /* one of the numbers above */
     uint32_t place;     /* the argument that was refused, from 1; 0 for the numbers 0..6, 10, 19, 20 and 22 */
+    uint32_t link;      /* which link of that argument's chain, from 1, a supplied .W counted as link 1: for 7 and 8 the first wrong name,
+                           on the way down (11, 12, 13) the link refused, at its end (13 to 18) the last; 0 where place is 0, for a lone
+                           dash, a chain that is only too long, and an argument that is no chain (a declaration, CHN's link, RDS's numbers) */
     uint32_t names;     /* names done: all of whose stores were made; 1 for a granted RDS or LST */
     uint32_t displaced; /* 1 if an entry already bearing the new name was overwritten */
     uint32_t bytes;     /* bytes written to the front of reply; the rest of it is as lent */
@@ -106,7 +109,7 @@ struct filebox_answer filebox_request(uint8_t *table, size_t table_length, const
  * A sound table is left as it is.
  *
  * Done (0): the table is sound. Refused (1, 2): it is as lent. Stopped (22): the first stop stores stand, and a mend cut anywhere and run
- * again ends as an uncut one. place, names, displaced and bytes are 0.
+ * again ends as an uncut one. place, link, names, displaced and bytes are 0.
  */
 struct filebox_answer filebox_mend(uint8_t *table, size_t table_length, uint32_t stop);
 

@@ -145,7 +145,7 @@ impl Client {
             .filter_map(|word| word.parse().ok())
             .collect();
         match numbers[..] {
-            [0, _, _, _, bytes, _] => {
+            [0, _, _, _, _, bytes, _] => {
                 io::copy(&mut self.answers.by_ref().take(bytes), &mut io::sink()).map(drop)
             }
             _ => Err(io::Error::other(format!("{sent}: {line}"))),

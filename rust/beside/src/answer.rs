@@ -3,7 +3,7 @@
 use crate::effects::{outcome, Asked, Outcome};
 use crate::mend::{clear, records_to_clear};
 use crate::records::RECORD_BYTES;
-use crate::request::{read, refusal, Refusal};
+use crate::request::{read, refusal, Place, Refusal};
 use crate::sound::{is_sound, sound, HIGHEST_USER};
 use crate::table::{length_fits, Table};
 
@@ -14,13 +14,16 @@ pub const NUMBERS: [u32; 26] = [
 /// As many counts as have one for each number.
 pub const COUNTS: usize = NUMBERS[NUMBERS.len() - 1] as usize + 1;
 
-/// "An answer has: number; place ...; names done; displaced or not; bytes written; stores made."
+/// "An answer has: number; place ...; names done; displaced or not; bytes written; stores made." "The place becomes
+/// argument and link".
 #[derive(Debug, Clone, Copy, PartialEq, Eq)]
 pub struct Answer {
     /// The reply number, one of `NUMBERS`.
     pub number: u32,
     /// "argument from 1", or 0.
-    pub place: u32,
+    pub argument: u32,
+    /// "the link counted from 1 with the supplied `.W` as link 1", or 0.
+    pub link: u32,
     /// "names all of whose stores were made"; 1 for a granted RDS or LST.
     pub names: u32,
     /// 1 if an entry was displaced, else 0.
@@ -36,7 +39,8 @@ impl Answer {
     fn refused(refusal: Refusal) -> Answer {
         Answer {
             number: refusal.number,
-            place: refusal.place,
+            argument: refusal.place.argument,
+            link: refusal.place.link,
             names: 0,
             displaced: 0,
             bytes: 0,
@@ -44,11 +48,12 @@ impl Answer {
         }
     }
 
-    /// The six numbers: number, place, names, displaced, bytes, stores.
-    pub fn numbers(self) -> [u32; 6] {
+    /// The seven numbers: number, argument, link, names, displaced, bytes, stores.
+    pub fn numbers(self) -> [u32; 7] {
         [
             self.number,
-            self.place,
+            self.argument,
+            self.link,
             self.names,
             self.displaced,
             self.bytes,
@@ -83,11 +88,13 @@ fn judge(
     user: u32,
 ) -> Result<Outcome, Refusal> {
     if !length_fits(bytes) {
-        return Err(refusal(1, 0));
+        return Err(refusal(1, Place::NONE));
     }
-    let table = Table::read(bytes).filter(is_sound).ok_or(refusal(2, 0))?;
+    let table = Table::read(bytes)
+        .filter(is_sound)
+        .ok_or(refusal(2, Place::NONE))?;
     if user > HIGHEST_USER {
-        return Err(refusal(3, 0));
+        return Err(refusal(3, Place::NONE));
     }
     let request = read(line, text.len())?;
     let asked = Asked {
@@ -120,7 +127,7 @@ fn carry_out(outcome: &Outcome, table: &mut [u8], reply: &mut [u8], stop: u32) -
         ..Answer::refused(refusal)
     };
     if made < needed {
-        return counted(refusal(22, 0));
+        return counted(refusal(22, Place::NONE));
     }
     if let Some(refusal) = outcome.refusal {
         return counted(refusal);
@@ -129,7 +136,7 @@ fn carry_out(outcome: &Outcome, table: &mut [u8], reply: &mut [u8], stop: u32) -
     Answer {
         displaced: outcome.displaced.into(),
         bytes: outcome.reply.len() as u32,
-        ..counted(refusal(0, 0))
+        ..counted(refusal(0, Place::NONE))
     }
 }
 
@@ -137,19 +144,19 @@ fn carry_out(outcome: &Outcome, table: &mut [u8], reply: &mut [u8], stop: u32) -
 #[must_use = "the answer may be a refusal"]
 pub fn mend(table: &mut [u8], stop: u32) -> Answer {
     if !length_fits(table) {
-        return Answer::refused(refusal(1, 0));
+        return Answer::refused(refusal(1, Place::NONE));
     }
     let numbers = records_to_clear(table);
     let mut result = table.to_vec();
     clear(&mut result, &numbers);
     if !sound(&result) {
-        return Answer::refused(refusal(2, 0));
+        return Answer::refused(refusal(2, Place::NONE));
     }
     let made = first(numbers.len(), stop);
     clear(table, &numbers[..made]);
     let number = if made < numbers.len() { 22 } else { 0 };
     Answer {
         stores: made as u32,
-        ..Answer::refused(refusal(number, 0))
+        ..Answer::refused(refusal(number, Place::NONE))
     }
 }

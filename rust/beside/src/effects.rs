@@ -6,9 +6,9 @@ use crate::listing::listing;
 use crate::names::Chain;
 use crate::octal::Portion;
 use crate::records::{Heading, Level, Lifetime, Record, Text, Type, BLOCK};
-use crate::request::{refusal, Listed, Refusal, Request};
+use crate::request::{refusal, Listed, Place, Refusal, Request};
 use crate::table::{blocks, List, Store, Table};
-use crate::walk::{to_directory, to_file, File};
+use crate::walk::{to_directory, to_file, File, Strayed};
 
 /// What `.nnnnnn` stands for: in a new name "that user's `.G`", in an old one "that user's `.T`".
 const GIVE: &[u8] = b".G";
@@ -91,24 +91,29 @@ impl Outcome {
     }
 }
 
+/// "in a walk the link refused".
+fn on_the_way(argument: usize) -> impl Fn(Strayed) -> Refusal {
+    move |Strayed { number, link }| refusal(number, Place::link(argument, link))
+}
+
 impl Asked<'_> {
-    /// Walk an old name to its file.
-    fn old_name(&self, place: usize, chain: &Chain) -> Result<File, Refusal> {
+    /// Walk an old name to its file; with the place of the end checks that are about it.
+    fn old_name(&self, argument: usize, chain: &Chain) -> Result<(File, Place), Refusal> {
         let (user, chain) = chain.begun(self.user, TAKE);
-        to_file(self.table, user, &chain).map_err(|number| refusal(number, place))
+        let file = to_file(self.table, user, &chain).map_err(on_the_way(argument))?;
+        Ok((file, Place::end(argument, &chain)))
     }
 
     /// Walk a new name, "only to its directory".
-    fn new_name<'n>(&self, place: usize, chain: &Chain<'n>) -> Result<NewName<'n>, Refusal> {
+    fn new_name<'n>(&self, argument: usize, chain: &Chain<'n>) -> Result<NewName<'n>, Refusal> {
         let (user, chain) = chain.begun(self.user, GIVE);
-        let directory =
-            to_directory(self.table, user, &chain).map_err(|number| refusal(number, place))?;
+        let directory = to_directory(self.table, user, &chain).map_err(on_the_way(argument))?;
         let borne = self.table.find(directory.list, chain.last);
         Ok(NewName {
             directory,
             name: chain.last,
             displaced: borne.map(|(number, entry)| (number, entry.heading)),
-            place,
+            place: Place::end(argument, &chain),
         })
     }
 
@@ -151,11 +156,11 @@ impl Asked<'_> {
         lifetime: Option<Lifetime>,
         guard: Guard,
     ) -> Result<Outcome, Refusal> {
-        let old = self.old_name(1, old)?;
+        let (old, end) = self.old_name(1, old)?;
         let new = self.new_name(2, new)?;
-        check(old.may_be_read(), 13, 1)?;
+        check(old.may_be_read(), 13, end)?;
         check(new.directory.may_be_written(), 14, new.place)?;
-        check(old.heading.file_type == Type::Simple, 15, 1)?;
+        check(old.heading.file_type == Type::Simple, 15, end)?;
         let heading = Heading {
             file_type: Type::Simple,
             level: guard.level.unwrap_or(old.heading.level),
@@ -165,7 +170,8 @@ impl Asked<'_> {
         };
         let content = self.table.content(old.entry.heading);
         let numbers = new.numbers(self.table, 1 + blocks(content.len()), None)?;
-        check(heading.level >= old.heading.level, 25, 3)?;
+        let declaration = Place::no_chain(3);
+        check(heading.level >= old.heading.level, 25, declaration)?;
         Ok(self.new_file(&new, numbers, heading, &content))
     }
 
@@ -195,7 +201,7 @@ impl Asked<'_> {
     /// link is taken".
     fn dup(&self, old: &Chain, new: &Chain, digit: Option<u8>) -> Result<Outcome, Refusal> {
         let gives = new.user().is_some();
-        let old = self.old_name(1, old)?.entry;
+        let old = self.old_name(1, old)?.0.entry;
         let new = self.new_name(2, new)?;
         check(new.directory.may_be_written(), 14, new.place)?;
         check(!gives || new.displaced.is_none(), 16, new.place)?;
@@ -219,10 +225,10 @@ impl Asked<'_> {
 
     /// "CHN: the entry with its new name."
     fn chn(&self, old: &Chain, link: &[u8]) -> Result<Outcome, Refusal> {
-        let old = self.old_name(1, old)?;
-        check(old.directory.may_be_written(), 14, 1)?;
+        let (old, end) = self.old_name(1, old)?;
+        check(old.directory.may_be_written(), 14, end)?;
         let borne = self.table.find(old.directory.list, link);
-        check(borne.is_none(), 16, 2)?;
+        check(borne.is_none(), 16, Place::no_chain(2))?;
         let mut entry = old.entry;
         entry.name = link.to_vec();
         Ok(Outcome::stored(vec![Store {
@@ -233,10 +239,10 @@ impl Asked<'_> {
 
     /// "DPR: the heading with its new code." 21: "new code lacks a bit of the heading's".
     fn dpr(&self, name: &Chain, digit: u8) -> Result<Outcome, Refusal> {
-        let file = self.old_name(1, name)?;
-        check(file.may_be_written(), 14, 1)?;
+        let (file, end) = self.old_name(1, name)?;
+        check(file.may_be_written(), 14, end)?;
         let mut heading = file.heading;
-        check(heading.code & !digit == 0, 21, 2)?;
+        check(heading.code & !digit == 0, 21, Place::no_chain(2))?;
         heading.code = digit;
         Ok(Outcome::stored(vec![Store {
             number: usize::from(file.entry.heading),
@@ -269,12 +275,12 @@ impl Asked<'_> {
     }
 
     /// "DEL: for each name in turn, the entry cleared."
-    fn del_name(&self, place: usize, name: &Chain) -> Result<Vec<Store>, Refusal> {
-        let file = self.old_name(place, name)?;
-        check(file.directory.may_be_written(), 14, place)?;
+    fn del_name(&self, argument: usize, name: &Chain) -> Result<Vec<Store>, Refusal> {
+        let (file, end) = self.old_name(argument, name)?;
+        check(file.directory.may_be_written(), 14, end)?;
         let heading = file.entry.heading;
         let stranded = strands_entries(self.table, file.entry_number, heading);
-        check(!stranded, 18, place)?;
+        check(!stranded, 18, end)?;
         let mut stores = vec![cleared(file.entry_number)];
         settle(self.table, &mut stores, heading);
         Ok(stores)
@@ -283,13 +289,13 @@ impl Asked<'_> {
     /// "RDS writes the text to the front of the reply buffer", or the part that is asked for. 20 goes by what would be
     /// written; 28: "first beyond the end".
     fn rds(&self, name: &Chain, portion: Portion) -> Result<Outcome, Refusal> {
-        let file = self.old_name(1, name)?;
-        check(file.may_be_read(), 13, 1)?;
-        check(file.heading.file_type == Type::Simple, 15, 1)?;
+        let (file, end) = self.old_name(1, name)?;
+        check(file.may_be_read(), 13, end)?;
+        check(file.heading.file_type == Type::Simple, 15, end)?;
         let content = self.table.content(file.entry.heading);
         let part = portion.of(&content);
         let outcome = self.reply(part.unwrap_or_default().to_vec())?;
-        check(part.is_some(), 28, 2)?;
+        check(part.is_some(), 28, Place::no_chain(2))?;
         Ok(outcome)
     }
 
@@ -299,9 +305,9 @@ impl Asked<'_> {
             Listed::BaseList => return self.reply(self.base_listing()),
             Listed::Directory(chain) => chain,
         };
-        let file = self.old_name(1, chain)?;
-        check(file.may_be_read(), 13, 1)?;
-        check(file.heading.file_type == Type::Directory, 15, 1)?;
+        let (file, end) = self.old_name(1, chain)?;
+        check(file.may_be_read(), 13, end)?;
+        check(file.heading.file_type == Type::Directory, 15, end)?;
         let list = List::Directory(file.entry.heading);
         let entries = self.table.entries_in(list).map(|(_, entry)| entry);
         self.reply(listing(self.table, entries.collect()))
@@ -316,7 +322,7 @@ impl Asked<'_> {
 
     /// 20: "reply buffer too short".
     fn reply(&self, bytes: Vec<u8>) -> Result<Outcome, Refusal> {
-        check(bytes.len() <= self.room, 20, 0)?;
+        check(bytes.len() <= self.room, 20, Place::NONE)?;
         Ok(Outcome::replied(bytes))
     }
 }

@@ -1,7 +1,7 @@
 //! What befalls an entry: a new one, one overwritten in place, one cleared; and the file that it named.
 
 use crate::records::{Entry, Record, Type, BASE_FILE};
-use crate::request::{refusal, Refusal};
+use crate::request::{refusal, Place, Refusal};
 use crate::table::{List, Store, Table};
 use crate::walk::Directory;
 
@@ -17,12 +17,12 @@ pub struct NewName<'a> {
     pub name: &'a [u8],
     /// The number of the entry that bears the name, and of the heading that this entry names.
     pub displaced: Option<(usize, u16)>,
-    /// Which argument it is.
-    pub place: usize,
+    /// The place of what befalls its directory or the displaced file: its last link.
+    pub place: Place,
 }
 
 /// Refuse with this number and place, unless the test holds.
-pub fn check(test: bool, number: u32, place: usize) -> Result<(), Refusal> {
+pub fn check(test: bool, number: u32, place: Place) -> Result<(), Refusal> {
     match test {
         true => Ok(()),
         false => Err(refusal(number, place)),
@@ -100,14 +100,14 @@ impl NewName<'_> {
         match self.displaced {
             None => {
                 check(!is_full(table, self.directory.list), 17, self.place)?;
-                check(numbers.len() > records, 19, 0)?;
+                check(numbers.len() > records, 19, Place::NONE)?;
                 numbers.truncate(records + 1);
             }
             Some((entry_number, heading)) => {
                 let lost = old_file != Some(heading);
                 let stranded = lost && strands_entries(table, entry_number, heading);
                 check(!stranded, 18, self.place)?;
-                check(numbers.len() >= records, 19, 0)?;
+                check(numbers.len() >= records, 19, Place::NONE)?;
                 numbers.truncate(records);
                 numbers.push(entry_number);
             }

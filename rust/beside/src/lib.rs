@@ -30,5 +30,5 @@ pub use names::{is_base_name, is_link_name, user_number, Chain};
 pub use octal::Portion;
 pub use program::{run, takes_text};
 pub use records::{Level, Lifetime, Type};
-pub use request::{read, Listed, Refusal, Request};
+pub use request::{read, Listed, Place, Refusal, Request};
 pub use sound::sound;

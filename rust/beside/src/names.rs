@@ -90,8 +90,19 @@ impl<'a> Chain<'a> {
         self.before.is_empty()
     }
 
+    /// How many names it has, the supplied `.W` counted: the number of its last link.
+    pub fn length(&self) -> usize {
+        self.before.len() + 1
+    }
+
+    /// The link of the first name that is no link name, "counted from 1 with the supplied `.W` as link 1".
+    pub fn wrong_link(&self) -> Option<usize> {
+        let wrong = self.names().position(|name| !is_link_name(name));
+        wrong.map(|at| at + 1)
+    }
+
     /// Not number 7: a chain of at most 16 link names, the supplied `.W` counted.
     pub fn is_well_formed(&self) -> bool {
-        self.before.len() < MOST_NAMES && self.names().all(is_link_name)
+        self.length() <= MOST_NAMES && self.wrong_link().is_none()
     }
 }

@@ -31,20 +31,11 @@ fn next_line(input: &mut impl BufRead) -> io::Result<Option<Vec<u8>>> {
     Ok(Some(line))
 }
 
-/// "It prints each answer's six numbers in decimal on a line, a blank between, displaced as 0 or 1".
+/// "It prints each answer's ... numbers in decimal on a line, a blank between, displaced as 0 or 1": seven of them, since
+/// the place is argument and link.
 fn print(output: &mut impl Write, answer: Answer) -> io::Result<()> {
-    let Answer {
-        number,
-        place,
-        names,
-        displaced,
-        bytes,
-        stores,
-    } = answer;
-    writeln!(
-        output,
-        "{number} {place} {names} {displaced} {bytes} {stores}"
-    )
+    let shown = answer.numbers().map(|number| number.to_string());
+    writeln!(output, "{}", shown.join(" "))
 }
 
 /// "takes request lines from standard input, keeps a table of at most 1,024 records, all free at the start, acts

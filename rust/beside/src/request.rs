@@ -1,4 +1,4 @@
-//! Reading a request line: the request, or numbers 4 to 10 and 27 with their place.
+//! Reading a request line: the request, or numbers 4 to 10 and 27 with their place; and what a place is.
 
 use crate::declarations::{Declared, Guard};
 use crate::line::{line_fits, words, Word};
@@ -9,13 +9,48 @@ use crate::records::Lifetime;
 /// "WRS text above 24,000 bytes".
 pub const LONGEST_TEXT: usize = 24_000;
 
+/// "The place becomes argument and link".
+#[derive(Debug, Clone, Copy, PartialEq, Eq)]
+pub struct Place {
+    /// "argument from 1", or 0.
+    pub argument: u32,
+    /// "the link counted from 1 with the supplied `.W` as link 1", or 0.
+    pub link: u32,
+}
+
+impl Place {
+    /// Place 0: no argument in particular.
+    pub const NONE: Place = Place {
+        argument: 0,
+        link: 0,
+    };
+
+    /// This link of an argument, or 0 for none of them.
+    pub fn link(argument: usize, link: usize) -> Place {
+        Place {
+            argument: argument as u32,
+            link: link as u32,
+        }
+    }
+
+    /// "0 for ... any argument that is no chain": a declaration, a number of RDS, or CHN's link.
+    pub fn no_chain(argument: usize) -> Place {
+        Place::link(argument, 0)
+    }
+
+    /// "in an end check the chain's last link".
+    pub fn end(argument: usize, chain: &Chain) -> Place {
+        Place::link(argument, chain.length())
+    }
+}
+
 /// A number other than 0, with its place.
 #[derive(Debug, Clone, Copy, PartialEq, Eq)]
 pub struct Refusal {
     /// The reply number.
     pub number: u32,
-    /// "argument from 1", or 0.
-    pub place: u32,
+    /// The argument and link that were refused.
+    pub place: Place,
 }
 
 /// What LST is to list.
@@ -135,13 +170,16 @@ fn form(function: Function) -> (usize, &'static [Part]) {
     }
 }
 
-/// Not number 7. "An argument of one dash is ... a malformed name."
-fn is_well_formed(part: Part, word: &Word) -> bool {
+/// Number 7, and the link that it befalls. "An argument of one dash is ... a malformed name." The link is "the first
+/// wrong name ...; 0 for a lone dash, a chain only too long, any argument that is no chain". A dash is a link name as any
+/// other, so a lone one has no wrong name.
+fn malformed(part: Part, word: &Word) -> Option<usize> {
     let dash = word.whole() == Some(b"-");
+    let chain = Chain::of(word);
     match part {
-        Part::Link => !dash && word.whole().is_some_and(is_link_name),
-        Part::Declaration | Part::First | Part::Count => true,
-        _ => !dash && Chain::of(word).is_well_formed(),
+        Part::Link => (dash || !word.whole().is_some_and(is_link_name)).then_some(0),
+        Part::Declaration | Part::First | Part::Count => None,
+        _ => (dash || !chain.is_well_formed()).then(|| chain.wrong_link().unwrap_or(0)),
     }
 }
 
@@ -164,39 +202,41 @@ fn begins_well(part: Part, chain: &Chain) -> bool {
     }
 }
 
-/// Not number 8: "illegal base name (also CHN's link for a base file)".
-fn has_legal_base(function: Function, arguments: &[Word], part: Part, word: &Word) -> bool {
+/// Number 8, "illegal base name (also CHN's link for a base file)", and the link that it befalls: a chain's first name.
+fn illegal(function: Function, arguments: &[Word], part: Part, word: &Word) -> Option<usize> {
     let lone_point = word.whole() == Some(b".");
     let old_is_base_file = || Chain::of(&arguments[0]).is_base_file();
     match part {
-        Part::Link => !old_is_base_file() || is_base_name(word.last),
-        Part::Declaration | Part::First | Part::Count => true,
-        _ if function == Function::Lst && lone_point => true,
-        _ => begins_well(part, &Chain::of(word)),
+        Part::Link => (old_is_base_file() && !is_base_name(word.last)).then_some(0),
+        Part::Declaration | Part::First | Part::Count => None,
+        _ if function == Function::Lst && lone_point => None,
+        _ => (!begins_well(part, &Chain::of(word))).then_some(1),
     }
 }
 
-/// Not number 27: "bad number". "A count of 0 is refused".
-fn is_number(part: Part, word: &Word) -> bool {
-    match part {
+/// Number 27: "bad number". "A count of 0 is refused". A number is no chain.
+fn bad_number(part: Part, word: &Word) -> Option<usize> {
+    let good = match part {
         Part::First => number(word).is_ok(),
         Part::Count => number(word).is_ok_and(|given| given != Some(0)),
         _ => true,
-    }
+    };
+    (!good).then_some(0)
 }
 
-/// Refuse the first argument that the test fails.
+/// Refuse the first argument of which the test gives a link.
 fn all_arguments(
     number: u32,
     parts: &[Part],
     arguments: &[Word],
-    test: impl Fn(Part, &Word) -> bool,
+    test: impl Fn(Part, &Word) -> Option<usize>,
 ) -> Result<(), Refusal> {
-    let fails = |(part, word): (&Part, &Word)| !test(*part, word);
-    match parts.iter().zip(arguments).position(fails) {
-        None => Ok(()),
-        Some(at) => Err(refusal(number, at + 1)),
+    for (at, (part, word)) in parts.iter().zip(arguments).enumerate() {
+        if let Some(link) = test(*part, word) {
+            return Err(refusal(number, Place::link(at + 1, link)));
+        }
     }
+    Ok(())
 }
 
 /// The request of a line whose names are legal; nothing when the declaration is malformed or unfit.
@@ -270,43 +310,41 @@ fn listed<'a>(word: &Word<'a>) -> Listed<'a> {
     }
 }
 
-/// A refusal of the argument at this place, or of none in particular (0).
-pub fn refusal(number: u32, place: usize) -> Refusal {
-    Refusal {
-        number,
-        place: place as u32,
-    }
+/// A refusal with this number, at this place.
+pub fn refusal(number: u32, place: Place) -> Refusal {
+    Refusal { number, place }
 }
 
 /// Read a line: "Numbers 1 to 10 are tried in that order over the whole line, arguments from left to right
 /// within each." Numbers 1 to 3 are not the line's. "27 bad number, straight after 9".
 pub fn read(line: &[u8], text_length: usize) -> Result<Request<'_>, Refusal> {
     if !line_fits(line) {
-        return Err(refusal(4, 0));
+        return Err(refusal(4, Place::NONE));
     }
     let words = words(line);
     let Some((first, arguments)) = words.split_first() else {
-        return Err(refusal(5, 0));
+        return Err(refusal(5, Place::NONE));
     };
-    let function = function(first).ok_or(refusal(5, 0))?;
+    let function = function(first).ok_or(refusal(5, Place::NONE))?;
     let (least, parts) = form(function);
     if arguments.len() < least || arguments.len() > parts.len() {
-        return Err(refusal(6, 0));
+        return Err(refusal(6, Place::NONE));
     }
-    all_arguments(7, parts, arguments, is_well_formed)?;
+    all_arguments(7, parts, arguments, malformed)?;
     all_arguments(8, parts, arguments, |part, word| {
-        has_legal_base(function, arguments, part, word)
+        illegal(function, arguments, part, word)
     })?;
-    let request = make(function, arguments).ok_or(refusal(9, place_of_declaration(parts)))?;
-    all_arguments(27, parts, arguments, is_number)?;
+    let unfit = refusal(9, Place::no_chain(declaration(parts)));
+    let request = make(function, arguments).ok_or(unfit)?;
+    all_arguments(27, parts, arguments, bad_number)?;
     if function == Function::Wrs && text_length > LONGEST_TEXT {
-        return Err(refusal(10, 0));
+        return Err(refusal(10, Place::NONE));
     }
     Ok(request)
 }
 
-/// Where a function has its declaration.
-fn place_of_declaration(parts: &[Part]) -> usize {
+/// Which argument of a function is its declaration.
+fn declaration(parts: &[Part]) -> usize {
     let at = parts.iter().position(|part| *part == Part::Declaration);
     at.map_or(0, |at| at + 1)
 }

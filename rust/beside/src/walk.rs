@@ -8,6 +8,13 @@ use crate::table::{List, Table};
 const READ: u8 = 2;
 const WRITE: u8 = 1;
 
+/// Where a walk was refused: the number, 11, 12 or 13, and the link.
+#[derive(Debug, Clone, Copy)]
+pub struct Strayed {
+    pub number: u32,
+    pub link: usize,
+}
+
 /// A directory that was walked to, or the base list, with the code that applies to it.
 #[derive(Debug, Clone, Copy)]
 pub struct Directory {
@@ -52,12 +59,12 @@ impl File {
     }
 }
 
-/// Follow one name. "What applies to a file is the union of its heading's code and the code of the one entry
+/// Follow one name, nothing where it is not there. "What applies to a file is the union of its heading's code and the code of the one entry
 /// last followed; codes of earlier entries do not add up." In a sound table an entry names a heading.
-fn follow(table: &Table, directory: Directory, name: &[u8]) -> Result<File, u32> {
-    let (entry_number, entry) = table.find(directory.list, name).ok_or(11u32)?;
-    let heading = table.heading(entry.heading).ok_or(11u32)?;
-    Ok(File {
+fn follow(table: &Table, directory: Directory, name: &[u8]) -> Option<File> {
+    let (entry_number, entry) = table.find(directory.list, name)?;
+    let heading = table.heading(entry.heading)?;
+    Some(File {
         directory,
         entry_number,
         entry: entry.clone(),
@@ -67,16 +74,17 @@ fn follow(table: &Table, directory: Directory, name: &[u8]) -> Result<File, u32>
 }
 
 /// The directory that holds, or would hold, the last name of a chain. "A name before the last must be a
-/// directory not read-inhibited."
-pub fn to_directory(table: &Table, user: u32, chain: &Chain) -> Result<Directory, u32> {
+/// directory not read-inhibited." What is refused is refused at the link of that name.
+pub fn to_directory(table: &Table, user: u32, chain: &Chain) -> Result<Directory, Strayed> {
     let mut directory = Directory::base(user);
-    for name in &chain.before {
-        let file = follow(table, directory, name)?;
+    for (link, name) in (1..).zip(&chain.before) {
+        let strayed = |number| Strayed { number, link };
+        let file = follow(table, directory, name).ok_or(strayed(11))?;
         if file.heading.file_type != Type::Directory {
-            return Err(12);
+            return Err(strayed(12));
         }
         if !file.may_be_read() {
-            return Err(13);
+            return Err(strayed(13));
         }
         directory = Directory {
             list: List::Directory(file.entry.heading),
@@ -87,7 +95,10 @@ pub fn to_directory(table: &Table, user: u32, chain: &Chain) -> Result<Directory
 }
 
 /// The file at the end of a chain.
-pub fn to_file(table: &Table, user: u32, chain: &Chain) -> Result<File, u32> {
+pub fn to_file(table: &Table, user: u32, chain: &Chain) -> Result<File, Strayed> {
     let directory = to_directory(table, user, chain)?;
-    follow(table, directory, chain.last)
+    follow(table, directory, chain.last).ok_or(Strayed {
+        number: 11,
+        link: chain.length(),
+    })
 }

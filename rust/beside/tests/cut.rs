@@ -220,7 +220,7 @@ fn cut_once(
     let seen = bench.ask(line, text);
     let later = &stations[1..];
     let done = later.iter().filter(|station| station.0 <= stop).count();
-    let expected = answer([22, 0, done as u32, 0, 0, stop]);
+    let expected = answer([22, 0, 0, done as u32, 0, 0, stop]);
     assert_eq!(seen.answer, expected, "{line}");
     assert!(seen.untouched());
     let mended = mend_everywhere(&seen.table, met);
@@ -237,15 +237,15 @@ fn cut_once(
 fn mend_everywhere(table: &[u8], met: &mut Met) -> Vec<u8> {
     let mut mended = table.to_vec();
     let seen = mend(&mut mended, u32::MAX);
-    assert_eq!(seen, answer([0, 0, 0, 0, 0, seen.stores]));
+    assert_eq!(seen, answer([0, 0, 0, 0, 0, 0, seen.stores]));
     assert!(sound(&mended));
     met.mends_with_stores += usize::from(seen.stores > 0);
     for stop in 0..=seen.stores {
         let mut cut = table.to_vec();
         let number = if stop < seen.stores { 22 } else { 0 };
-        assert_eq!(mend(&mut cut, stop), answer([number, 0, 0, 0, 0, stop]));
+        assert_eq!(mend(&mut cut, stop), answer([number, 0, 0, 0, 0, 0, stop]));
         let left = seen.stores - stop;
-        assert_eq!(mend(&mut cut, u32::MAX), answer([0, 0, 0, 0, 0, left]));
+        assert_eq!(mend(&mut cut, u32::MAX), answer([0, 0, 0, 0, 0, 0, left]));
         assert_eq!(cut, mended);
         met.mends_cut += usize::from(stop < seen.stores);
     }
@@ -279,11 +279,13 @@ fn read_back(bench: &Bench, line: &str, text: &[u8], met: &mut Met) {
     let words: Vec<&str> = line.split_whitespace().collect();
     let seen = bench.ask(format!("RDS {}", words[2]), b"");
     if words[1].contains(['2', '3', '6', '7']) {
-        assert_eq!(seen.answer, answer([13, 1, 0, 0, 0, 0]), "{line}");
+        let supplied = u32::from(!words[2].starts_with('.'));
+        let links = supplied + words[2].split(':').count() as u32;
+        assert_eq!(seen.answer, answer([13, 1, links, 0, 0, 0, 0]), "{line}");
         return;
     }
     let bytes = text.len() as u32;
-    assert_eq!(seen.answer, answer([0, 0, 1, 0, bytes, 0]), "{line}");
+    assert_eq!(seen.answer, answer([0, 0, 0, 1, 0, bytes, 0]), "{line}");
     assert_eq!(&seen.reply[..text.len()], text, "{line}");
     met.read_back += 1;
 }
@@ -324,7 +326,7 @@ fn step(bench: &mut Bench, dice: &mut Dice, met: &mut Met) {
     }
     if seen.answer.stores == 0 {
         assert_ne!(seen.answer.number, 0, "{line}");
-        bench.refuse(&line, &text, seen.answer.number, seen.answer.place);
+        bench.refuse(&line, &text, seen.answer.number, seen.answer.argument);
         return;
     }
     assert!(seen.answer.number == 0 || line.starts_with("DEL"), "{line}");

@@ -3,7 +3,7 @@
 mod common;
 use common::*;
 
-use beside::{read, words, Declared, DeclaredLifetime, Level, Refusal, Type};
+use beside::{read, words, Declared, DeclaredLifetime, Level, Place, Refusal, Type};
 
 fn zeros(table: &[u8]) -> bool {
     table.iter().all(|byte| *byte == 0)
@@ -39,7 +39,7 @@ fn p_text_of_0_24_and_25_bytes_takes_0_1_and_2_records() {
         let text = vec![b'T'; length];
         let seen = bench.grant("WRS M .R:A", &text);
         let stores = records as u32 + 2;
-        assert_eq!(seen.answer, answer([0, 0, 1, 0, 0, stores]));
+        assert_eq!(seen.answer, answer([0, 0, 0, 1, 0, 0, stores]));
         assert_eq!(count(&bench.table, 3), records, "{length} bytes");
         assert_eq!(bench.reply("RDS .R:A"), text);
     }
@@ -51,7 +51,7 @@ fn p_text_of_24000_bytes_takes_1000_records_and_24001_gets_10() {
     let text: Vec<u8> = (0..24_001u32).map(|at| (at % 251) as u8).collect();
     bench.refuse("WRS M .R:A", &text, 10, 0);
     let seen = bench.grant("WRS M .R:A", &text[..24_000]);
-    assert_eq!(seen.answer, answer([0, 0, 1, 0, 0, 1_002]));
+    assert_eq!(seen.answer, answer([0, 0, 0, 1, 0, 0, 1_002]));
     assert_eq!(count(&bench.table, 3), 1_000);
     assert_eq!(record(&bench.table, 2), heading(1, 0, 0, 1, 24_000));
     assert_eq!(bench.reply("RDS .R:A"), &text[..24_000]);
@@ -112,7 +112,7 @@ fn p_three_words_are_declarations_and_two_are_not() {
 fn p_crd_r_stores_these_two_records() {
     let mut bench = Bench::new(2);
     let seen = bench.grant("CRD .R", b"");
-    assert_eq!(seen.answer, answer([0, 0, 1, 0, 0, 2]));
+    assert_eq!(seen.answer, answer([0, 0, 0, 1, 0, 0, 2]));
     let mut expected = [0; 64];
     expected[..5].copy_from_slice(&[1, 0, 0, 0, 1]);
     expected[32..44].copy_from_slice(&[2, 0, 255, 255, 0, 0, 1, 0, 0, 2, 46, 82]);
@@ -122,11 +122,11 @@ fn p_crd_r_stores_these_two_records() {
 #[test]
 fn p_crd_r_cut_after_one_store_and_mended_gives_zeros() {
     let seen = Bench::new(2).stop(1).ask("CRD .R", b"");
-    assert_eq!(seen.answer, answer([22, 0, 0, 0, 0, 1]));
+    assert_eq!(seen.answer, answer([22, 0, 0, 0, 0, 0, 1]));
     let mut table = seen.table;
     assert_eq!(record(&table, 0), directory());
     assert_eq!(record(&table, 1), FREE);
-    assert_eq!(mend(&mut table, 65_535), answer([0, 0, 0, 0, 0, 1]));
+    assert_eq!(mend(&mut table, 65_535), answer([0, 0, 0, 0, 0, 0, 1]));
     assert!(zeros(&table));
 }
 
@@ -144,7 +144,7 @@ fn p_then_crd_r_a_gets_19() {
 fn p_then_del_r_gives_zeros() {
     let mut bench = Bench::grown(2, &["CRD .R"]);
     let seen = bench.grant("DEL .R", b"");
-    assert_eq!(seen.answer, answer([0, 0, 1, 0, 0, 2]));
+    assert_eq!(seen.answer, answer([0, 0, 0, 1, 0, 0, 2]));
     assert!(zeros(&bench.table));
 }
 
@@ -153,7 +153,7 @@ fn del_of_the_same_name_twice_does_one() {
     let bench = Bench::grown(16, &["CRD .R", "WRS M .R:A"]);
     let seen = bench.ask("DEL .R:A .R:A", b"");
     // The entry, the heading and two text records.
-    assert_eq!(seen.answer, answer([11, 2, 1, 0, 0, 4]));
+    assert_eq!(seen.answer, answer([11, 2, 2, 1, 0, 0, 4]));
     assert_eq!(seen.table, Bench::grown(16, &["CRD .R"]).table);
     assert!(seen.untouched());
 }
@@ -163,7 +163,7 @@ fn a_copy_displaces_its_own_source() {
     let mut bench = Bench::grown(16, &["CRD .R", "WRS L.P4 .R:A"]);
     let seen = bench.grant("CPY .R:A .R:A", b"");
     // Heading, two texts and the entry; then the old heading and its two texts.
-    assert_eq!(seen.answer, answer([0, 0, 1, 1, 0, 7]));
+    assert_eq!(seen.answer, answer([0, 0, 0, 1, 1, 0, 7]));
     let mut expected = vec![0; 16 * 32];
     let records = [
         (0, directory()),
@@ -184,10 +184,10 @@ fn a_dup_onto_itself_is_one_store() {
     let mut bench = Bench::grown(16, &["CRD .R", "WRS M.1 .R:A"]);
     let before = bench.table.clone();
     let seen = bench.grant("DUP .R:A .R:A", b"");
-    assert_eq!(seen.answer, answer([0, 0, 1, 1, 0, 1]));
+    assert_eq!(seen.answer, answer([0, 0, 0, 1, 1, 0, 1]));
     assert_eq!(bench.table, before);
     let seen = bench.grant("DUP .R:A .R:A .4", b"");
-    assert_eq!(seen.answer, answer([0, 0, 1, 1, 0, 1]));
+    assert_eq!(seen.answer, answer([0, 0, 0, 1, 1, 0, 1]));
     assert_eq!(record(&bench.table, 5), entry(5, 0, 2, 0, "A"));
 }
 
@@ -235,7 +235,10 @@ fn in_an_empty_table_lst_of_a_lone_point_gets_0() {
         room: 0,
         ..Bench::new(0)
     };
-    assert_eq!(bench.ask("LST .", b"").answer, answer([0, 0, 1, 0, 0, 0]));
+    assert_eq!(
+        bench.ask("LST .", b"").answer,
+        answer([0, 0, 0, 1, 0, 0, 0])
+    );
 }
 
 #[test]
@@ -262,9 +265,12 @@ fn an_empty_directory_lists_as_0_bytes() {
 #[test]
 fn the_reader_says_the_same_of_these_lines() {
     let number = |line: &str| read(line.as_bytes(), 0).map(|_| ());
-    let refused = |number, place| Err(Refusal { number, place });
-    assert_eq!(number("CRD .R::A"), refused(7, 1));
-    assert_eq!(number("CRD .R:ABCDEFGHIJK"), refused(7, 1));
+    let refused = |number, link| {
+        let place = Place { argument: 1, link };
+        Err(Refusal { number, place })
+    };
+    assert_eq!(number("CRD .R::A"), refused(7, 2));
+    assert_eq!(number("CRD .R:ABCDEFGHIJK"), refused(7, 2));
     assert_eq!(number("CRD .R:ABCDEFGHIJ"), Ok(()));
     assert_eq!(number("CRD .1"), refused(8, 1));
 }

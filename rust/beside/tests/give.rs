@@ -75,7 +75,7 @@ impl Floor {
     fn store(&mut self, user: u32, line: &str, records: &[(usize, [u8; 32])]) {
         let seen = self.ask(user, line, 65_535);
         let stores = records.len() as u32;
-        assert_eq!(seen.answer, answer([0, 0, 1, 0, 0, stores]), "{line}");
+        assert_eq!(seen.answer, answer([0, 0, 0, 1, 0, 0, stores]), "{line}");
         assert!(seen.untouched(), "{line}: reply changed");
         for (number, record) in records {
             self.table[number * 32..][..32].copy_from_slice(record);
@@ -93,10 +93,10 @@ impl Floor {
         seen
     }
 
-    /// The request must be refused with this number and place, and change no byte.
-    fn refuse(&self, user: u32, line: &str, number: u32, place: u32) {
+    /// The request must be refused with this number and argument, and change no byte; its link is told in `links`.
+    fn refuse(&self, user: u32, line: &str, number: u32, argument: u32) {
         let seen = self.ask(user, line, 65_535);
-        assert_eq!(seen.answer, answer([number, place, 0, 0, 0, 0]), "{line}");
+        seen.refused(number, argument, line);
         assert!(seen.table == self.table, "{line}: table changed");
         assert!(seen.untouched(), "{line}: reply changed");
     }
@@ -105,7 +105,7 @@ impl Floor {
     fn reply(&self, user: u32, line: &str, expected: &[u8]) {
         let seen = self.ask(user, line, 65_535);
         let bytes = expected.len() as u32;
-        assert_eq!(seen.answer, answer([0, 0, 1, 0, bytes, 0]), "{line}");
+        assert_eq!(seen.answer, answer([0, 0, 0, 1, 0, bytes, 0]), "{line}");
         assert!(seen.table == self.table, "{line}: table changed");
         let (front, rest) = seen.reply.split_at(expected.len());
         assert_eq!(front, expected, "{line}");
@@ -249,7 +249,7 @@ fn dup_takes_a_file() {
 fn a_take_displaces_at_the_takers_own_name_as_ever() {
     let mut floor = floor();
     let seen = floor.grant(DAY, "DUP .000777:KEYS .R:SHEET");
-    assert_eq!(seen.answer, answer([0, 0, 1, 1, 0, 3]));
+    assert_eq!(seen.answer, answer([0, 0, 0, 1, 1, 0, 3]));
     assert_eq!(record(&floor.table, 4), entry(0, 0, 9, 0, "SHEET"));
     assert_eq!(record(&floor.table, 2), FREE);
     assert_eq!(record(&floor.table, 3), FREE);
@@ -470,7 +470,7 @@ fn a_link_that_is_taken_stays() {
     floor.refuse(3, "DUP .000777:KEYS .000777:SHEET", 16, 2);
     // in one's own `.G` by its own name DUP displaces, as ever
     let seen = floor.grant(NIGHT, "DUP .T:KEYS .G:SHEET");
-    assert_eq!(seen.answer, answer([0, 0, 1, 1, 0, 1]));
+    assert_eq!(seen.answer, answer([0, 0, 0, 1, 1, 0, 1]));
     assert_eq!(record(&floor.table, NEXT), entry(0, 5, 9, 0, "SHEET"));
 }
 
@@ -553,7 +553,7 @@ fn a_take_is_read_by_the_joined_code_of_the_entry_last_followed() {
         inhibited.refuse(DAY, "CPY .000777:KEYS .R:K", 13, 1);
         // DUP asks nothing of the file named
         let seen = inhibited.ask(DAY, "DUP .000777:KEYS .R:K", 65_535);
-        assert_eq!(seen.answer, answer([0, 0, 1, 0, 0, 1]));
+        assert_eq!(seen.answer, answer([0, 0, 0, 1, 0, 0, 1]));
     }
 }
 
@@ -767,15 +767,15 @@ fn a_give_that_is_stopped_has_done_nothing() {
     let floor = floor();
     let line = "DUP .R:SHEET .000777:S .1";
     let stopped = floor.ask(DAY, line, 0);
-    assert_eq!(stopped.answer, answer([22, 0, 0, 0, 0, 0]));
+    assert_eq!(stopped.answer, answer([22, 0, 0, 0, 0, 0, 0]));
     assert!(stopped.table == floor.table);
     let made = floor.ask(DAY, line, 1);
-    assert_eq!(made.answer, answer([0, 0, 1, 0, 0, 1]));
+    assert_eq!(made.answer, answer([0, 0, 0, 1, 0, 0, 1]));
     assert_eq!(record(&made.table, NEXT), entry(1, 5, 2, 0, "S"));
     // a refusal stays what it is
     let taken = floor.with(&[(12, entry(0, 5, 2, 0, "S"))]);
     let refused = taken.ask(DAY, line, 0);
-    assert_eq!(refused.answer, answer([16, 2, 0, 0, 0, 0]));
+    assert_eq!(refused.answer, answer([16, 2, 2, 0, 0, 0, 0]));
 }
 
 #[test]
@@ -784,7 +784,7 @@ fn a_cut_copy_of_a_take_is_mended_to_before_or_after() {
     let line = "CPY .000777:KEYS .R:SHEET";
     let after = floor.ask(DAY, line, 65_535);
     // heading, text, entry; then what was displaced: heading, text
-    assert_eq!(after.answer, answer([0, 0, 1, 1, 0, 5]));
+    assert_eq!(after.answer, answer([0, 0, 0, 1, 1, 0, 5]));
     for stop in 0..5 {
         let mut cut = floor.ask(DAY, line, stop);
         assert_eq!(cut.answer.number, 22);
@@ -800,10 +800,10 @@ fn a_reply_buffer_that_is_too_short() {
     for (line, needed) in [("RDS .000777:KEYS", 5), ("LST .000777", 15)] {
         let mut short = vec![UNTOUCHED; needed - 1];
         let refused = request(&mut table, line.as_bytes(), b"", &mut short, DAY, 65_535);
-        assert_eq!(refused, answer([20, 0, 0, 0, 0, 0]));
+        assert_eq!(refused, answer([20, 0, 0, 0, 0, 0, 0]));
         let mut enough = vec![UNTOUCHED; needed];
         let granted = request(&mut table, line.as_bytes(), b"", &mut enough, DAY, 65_535);
-        assert_eq!(granted, answer([0, 0, 1, 0, needed as u32, 0]));
+        assert_eq!(granted, answer([0, 0, 0, 1, 0, needed as u32, 0]));
     }
 }
 
@@ -943,8 +943,8 @@ fn a_table_that_is_not_sound_is_refused_before_all_this() {
     ];
     for line in lines {
         let answered = request(&mut table, line.as_bytes(), b"", &mut [], DAY, 65_535);
-        assert_eq!(answered, answer([2, 0, 0, 0, 0, 0]), "{line}");
+        assert_eq!(answered, answer([2, 0, 0, 0, 0, 0, 0]), "{line}");
     }
     let answered = request(&mut [0; 33], b"LST .000777", b"", &mut [], DAY, 65_535);
-    assert_eq!(answered, answer([1, 0, 0, 0, 0, 0]));
+    assert_eq!(answered, answer([1, 0, 0, 0, 0, 0, 0]));
 }

@@ -18,7 +18,7 @@ fn letters(number: usize) -> String {
 fn number_00_done_crd() {
     let mut bench = filled();
     let seen = bench.grant("CRD .R:E .S6", b"");
-    assert_eq!(seen.answer, answer([0, 0, 1, 0, 0, 2]));
+    assert_eq!(seen.answer, answer([0, 0, 0, 1, 0, 0, 2]));
     assert_eq!(record(&bench.table, 12), heading(0, 3, 6, 1, 0));
     assert_eq!(record(&bench.table, 13), entry(6, 0, 12, 0, "E"));
 }
@@ -27,7 +27,7 @@ fn number_00_done_crd() {
 fn number_00_done_wrs() {
     let mut bench = Bench::grown(16, &["CRD .W"]);
     let seen = bench.grant("WRS L.A3 NOTE", TEXT);
-    assert_eq!(seen.answer, answer([0, 0, 1, 0, 0, 4]));
+    assert_eq!(seen.answer, answer([0, 0, 0, 1, 0, 0, 4]));
     assert_eq!(record(&bench.table, 2), heading(1, 2, 3, 2, 30));
     assert_eq!(record(&bench.table, 3), text(2, 0, &TEXT[..24]));
     assert_eq!(record(&bench.table, 4), text(2, 1, &TEXT[24..]));
@@ -39,7 +39,7 @@ fn number_00_done_wrs_displaced() {
     let mut bench = filled();
     // A is heading 2, texts 3 and 4, entry 5; the free records begin at 12.
     let seen = bench.grant("WRS M .R:A", b"NEW");
-    assert_eq!(seen.answer, answer([0, 0, 1, 1, 0, 6]));
+    assert_eq!(seen.answer, answer([0, 0, 0, 1, 1, 0, 6]));
     assert_eq!(record(&bench.table, 12), simple(3));
     assert_eq!(record(&bench.table, 13), text(12, 0, b"NEW"));
     assert_eq!(record(&bench.table, 5), entry(0, 0, 12, 0, "A"));
@@ -52,7 +52,7 @@ fn number_00_done_wrs_displaced() {
 fn number_00_done_rds() {
     let bench = filled();
     let seen = bench.ask("RDS .R:A", b"");
-    assert_eq!(seen.answer, answer([0, 0, 1, 0, 30, 0]));
+    assert_eq!(seen.answer, answer([0, 0, 0, 1, 0, 30, 0]));
     assert_eq!(seen.table, bench.table);
     assert_eq!(&seen.reply[..30], TEXT);
     assert!(seen.reply[30..].iter().all(|byte| *byte == UNTOUCHED));
@@ -63,7 +63,7 @@ fn number_00_done_cpy() {
     let mut bench = Bench::grown(16, &["CRD .R", "WRS L.P5 .R:A"]);
     // "CPY may have M or L, else takes the source's. Level: given, else ... the source's. Code: given, else 0."
     let seen = bench.grant("CPY .R:A .R:B", b"");
-    assert_eq!(seen.answer, answer([0, 0, 1, 0, 0, 4]));
+    assert_eq!(seen.answer, answer([0, 0, 0, 1, 0, 0, 4]));
     assert_eq!(record(&bench.table, 6), heading(1, 1, 0, 2, 30));
     assert_eq!(record(&bench.table, 9), entry(0, 0, 6, 0, "B"));
     bench.grant("CPY .R:A .R:C M.S1", b"");
@@ -77,7 +77,7 @@ fn number_00_done_dup() {
     bench.grant("DPR .R:A .6", b"");
     // The code is the old entry's (2) joined with the declared one (1); the heading's (6) is not in it.
     let seen = bench.grant("DUP .R:A .R:B .1", b"");
-    assert_eq!(seen.answer, answer([0, 0, 1, 0, 0, 1]));
+    assert_eq!(seen.answer, answer([0, 0, 0, 1, 0, 0, 1]));
     assert_eq!(record(&bench.table, 6), entry(3, 0, 2, 0, "B"));
 }
 
@@ -85,10 +85,10 @@ fn number_00_done_dup() {
 fn number_00_done_chn() {
     let mut bench = filled();
     let seen = bench.grant("CHN .R:A .LONGER.", b"");
-    assert_eq!(seen.answer, answer([0, 0, 1, 0, 0, 1]));
+    assert_eq!(seen.answer, answer([0, 0, 0, 1, 0, 0, 1]));
     assert_eq!(record(&bench.table, 5), entry(0, 0, 2, 0, ".LONGER."));
     let seen = bench.grant("CHN .R .G", b"");
-    assert_eq!(seen.answer, answer([0, 0, 1, 0, 0, 1]));
+    assert_eq!(seen.answer, answer([0, 0, 0, 1, 0, 0, 1]));
     assert_eq!(record(&bench.table, 1), base(0, ".G"));
 }
 
@@ -96,7 +96,7 @@ fn number_00_done_chn() {
 fn number_00_done_del() {
     let mut bench = filled();
     let seen = bench.grant("DEL .R:D:F .R:D .R:A .R", b"");
-    assert_eq!(seen.answer, answer([0, 0, 4, 0, 0, 12]));
+    assert_eq!(seen.answer, answer([0, 0, 0, 4, 0, 0, 12]));
     assert!(bench.table.iter().all(|byte| *byte == 0));
 }
 
@@ -104,7 +104,7 @@ fn number_00_done_del() {
 fn number_00_done_dpr() {
     let mut bench = filled();
     let seen = bench.grant("DPR .R:A .4", b"");
-    assert_eq!(seen.answer, answer([0, 0, 1, 0, 0, 1]));
+    assert_eq!(seen.answer, answer([0, 0, 0, 1, 0, 0, 1]));
     assert_eq!(record(&bench.table, 2), heading(1, 0, 4, 1, 30));
     assert_eq!(record(&bench.table, 5), entry(0, 0, 2, 0, "A"));
 }
@@ -122,7 +122,7 @@ fn number_01_table_length() {
         let bench = Bench::of(vec![0; length]);
         bench.refuse("CRD .R", b"", 1, 0);
         let mut table = vec![0; length];
-        assert_eq!(mend(&mut table, 9), answer([1, 0, 0, 0, 0, 0]));
+        assert_eq!(mend(&mut table, 9), answer([1, 0, 0, 0, 0, 0, 0]));
         assert!(!sound(&table));
     }
     for records in [0, 1, 2_048] {
@@ -135,7 +135,7 @@ fn number_02_table_not_sound() {
     let mut table = vec![0; 64];
     table[0] = 4;
     Bench::of(table.clone()).refuse("CRD .R", b"", 2, 0);
-    assert_eq!(mend(&mut table, 9), answer([2, 0, 0, 0, 0, 0]));
+    assert_eq!(mend(&mut table, 9), answer([2, 0, 0, 0, 0, 0, 0]));
     assert_eq!(table[0], 4);
 }
 
@@ -255,11 +255,11 @@ fn number_08_illegal_base_name() {
     }
     for link in ["ABC", ".1", ".A", "..", ".", ".AB1"] {
         let seen = bench.ask(format!("CHN .R:D {link}"), b"");
-        assert_eq!(seen.answer, answer([0, 0, 1, 0, 0, 1]), "{link}");
+        assert_eq!(seen.answer, answer([0, 0, 0, 1, 0, 0, 1]), "{link}");
     }
     for name in ["...", ".RR", ".R.", ".ABCDEFGHI", ".G", ".T", ".W"] {
         let seen = bench.ask(format!("CRD {name}"), b"");
-        assert_eq!(seen.answer, answer([0, 0, 1, 0, 0, 2]), "{name}");
+        assert_eq!(seen.answer, answer([0, 0, 0, 1, 0, 0, 2]), "{name}");
     }
 }
 
@@ -339,9 +339,9 @@ fn number_10_wrs_text_above_24000() {
     bench.refuse("WRS M .R:A", &text, 10, 0);
     // The text is WRS's alone, and whatever it is at other functions.
     let seen = bench.ask("CRD .R:A", &text);
-    assert_eq!(seen.answer, answer([0, 0, 1, 0, 0, 2]));
+    assert_eq!(seen.answer, answer([0, 0, 0, 1, 0, 0, 2]));
     let seen = bench.ask("WRS M .R:A", &text[..24_000]);
-    assert_eq!(seen.answer, answer([0, 0, 1, 0, 0, 1_002]));
+    assert_eq!(seen.answer, answer([0, 0, 0, 1, 0, 0, 1_002]));
 }
 
 #[test]
@@ -425,7 +425,7 @@ fn number_14_write_inhibited_directory() {
     bench.refuse("CHN .R:E:F G", b"", 14, 1);
     bench.refuse("DEL .R:E:F", b"", 14, 1);
     let seen = bench.ask("DEL .R:A .R:E:F", b"");
-    assert_eq!(seen.answer, answer([14, 2, 1, 0, 0, 4]));
+    assert_eq!(seen.answer, answer([14, 2, 3, 1, 0, 0, 4]));
     // By the heading.
     let mut bench = filled();
     bench.grant("DPR .R:D .1", b"");
@@ -463,7 +463,7 @@ fn number_16_new_name_borne_there() {
     bench.refuse("CHN .R .R", b"", 16, 2);
     // Borne elsewhere does not count.
     let seen = bench.ask("CHN .R:A F", b"");
-    assert_eq!(seen.answer, answer([0, 0, 1, 0, 0, 1]));
+    assert_eq!(seen.answer, answer([0, 0, 0, 1, 0, 0, 1]));
 }
 
 #[test]
@@ -478,7 +478,7 @@ fn number_17_directory_full() {
     bench.refuse("DUP .G .R:NEW", b"", 17, 2);
     // Displacing, renaming and deleting go on.
     let seen = bench.ask("CRD .R:AB", b"");
-    assert_eq!(seen.answer, answer([0, 0, 1, 1, 0, 2]));
+    assert_eq!(seen.answer, answer([0, 0, 0, 1, 1, 0, 2]));
     bench.grant("CHN .R:AA NEW", b"");
     bench.grant("DEL .R:NEW", b"");
     bench.grant("CRD .R:NEW", b"");
@@ -497,7 +497,7 @@ fn number_17_base_list_full() {
     bench.refuse("CPY .W .R", b"", 17, 2);
     bench.refuse("DUP .W .R", b"", 17, 2);
     let seen = bench.ask("DUP .W .AB .1", b"");
-    assert_eq!(seen.answer, answer([0, 0, 1, 1, 0, 1]));
+    assert_eq!(seen.answer, answer([0, 0, 0, 1, 1, 0, 1]));
     // Another user's list is another.
     bench.user = 2;
     bench.grant("CRD .R", b"");
@@ -514,20 +514,20 @@ fn number_18_directory_with_entries_would_lose_its_last() {
     bench.refuse("DUP .R:A .R:D", b"", 18, 2);
     bench.refuse("DUP .R .R:D", b"", 18, 2);
     let seen = bench.ask("DEL .R:A .R:D", b"");
-    assert_eq!(seen.answer, answer([18, 2, 1, 0, 0, 4]));
+    assert_eq!(seen.answer, answer([18, 2, 2, 1, 0, 0, 4]));
     // The same file loses nothing.
     let seen = bench.ask("DUP .R:D .R:D .4", b"");
-    assert_eq!(seen.answer, answer([0, 0, 1, 1, 0, 1]));
+    assert_eq!(seen.answer, answer([0, 0, 0, 1, 1, 0, 1]));
     // With another entry it is not the last.
     bench.grant("DUP .R:D .G", b"");
     let seen = bench.ask("DEL .R:D", b"");
-    assert_eq!(seen.answer, answer([0, 0, 1, 0, 0, 1]));
+    assert_eq!(seen.answer, answer([0, 0, 0, 1, 0, 0, 1]));
     let seen = bench.ask("DUP .R:A .R:D", b"");
-    assert_eq!(seen.answer, answer([0, 0, 1, 1, 0, 1]));
+    assert_eq!(seen.answer, answer([0, 0, 0, 1, 1, 0, 1]));
     // Without entries a directory goes.
     bench.grant("DEL .R:D:F .G", b"");
     let seen = bench.ask("CRD .R:D", b"");
-    assert_eq!(seen.answer, answer([0, 0, 1, 1, 0, 3]));
+    assert_eq!(seen.answer, answer([0, 0, 0, 1, 1, 0, 3]));
 }
 
 #[test]
@@ -546,7 +546,7 @@ fn number_19_fewer_free_records_than_needed() {
         let displaced = line.ends_with("R:A").into();
         assert_eq!(
             seen.answer,
-            answer([0, 0, 1, displaced, 0, stores]),
+            answer([0, 0, 0, 1, displaced, 0, stores]),
             "{line}"
         );
         assert!(sound(&seen.table));
@@ -593,7 +593,7 @@ fn number_21_new_code_lacks_a_bit() {
     }
     let before = bench.table.clone();
     let seen = bench.grant("DPR .R:A .6", b"");
-    assert_eq!(seen.answer, answer([0, 0, 1, 0, 0, 1]));
+    assert_eq!(seen.answer, answer([0, 0, 0, 1, 0, 0, 1]));
     assert_eq!(bench.table, before);
     bench.grant("DPR .R:A .7", b"");
     // The entry's code does not count: its execute bit need not be in the heading's new code.
@@ -616,13 +616,13 @@ fn number_22_stop_number_reached() {
     let mut expected = bench.table.clone();
     for (made, (number, record)) in stores.iter().enumerate() {
         let seen = bench.stop(made as u32).ask("WRS M .R:A", b"NEW");
-        assert_eq!(seen.answer, answer([22, 0, 0, 0, 0, made as u32]));
+        assert_eq!(seen.answer, answer([22, 0, 0, 0, 0, 0, made as u32]));
         assert_eq!(seen.table, expected);
         assert!(seen.untouched());
         expected[number * 32..number * 32 + 32].copy_from_slice(record);
     }
     let seen = bench.stop(6).ask("WRS M .R:A", b"NEW");
-    assert_eq!(seen.answer, answer([0, 0, 1, 1, 0, 6]));
+    assert_eq!(seen.answer, answer([0, 0, 0, 1, 1, 0, 6]));
     assert_eq!(seen.table, expected);
 }
 
@@ -632,21 +632,21 @@ fn number_22_in_a_del() {
     // A's four stores, then D:F's four, then D's two.
     for stop in 0..10 {
         let seen = bench.stop(stop).ask("DEL .R:A .R:D:F .R:D", b"");
-        assert_eq!(seen.answer, answer([22, 0, stop / 4, 0, 0, stop]));
+        assert_eq!(seen.answer, answer([22, 0, 0, stop / 4, 0, 0, stop]));
     }
     let seen = bench.stop(10).ask("DEL .R:A .R:D:F .R:D", b"");
-    assert_eq!(seen.answer, answer([0, 0, 3, 0, 0, 10]));
+    assert_eq!(seen.answer, answer([0, 0, 0, 3, 0, 0, 10]));
 }
 
 #[test]
 fn number_22_in_a_mend() {
     let mut table = [simple(3), text(0, 0, b"TEX"), text(7, 0, b"T")].concat();
-    assert_eq!(mend(&mut table, 0), answer([22, 0, 0, 0, 0, 0]));
-    assert_eq!(mend(&mut table, 1), answer([22, 0, 0, 0, 0, 1]));
+    assert_eq!(mend(&mut table, 0), answer([22, 0, 0, 0, 0, 0, 0]));
+    assert_eq!(mend(&mut table, 1), answer([22, 0, 0, 0, 0, 0, 1]));
     assert_eq!(table, [FREE, text(0, 0, b"TEX"), text(7, 0, b"T")].concat());
-    assert_eq!(mend(&mut table, 1), answer([22, 0, 0, 0, 0, 1]));
+    assert_eq!(mend(&mut table, 1), answer([22, 0, 0, 0, 0, 0, 1]));
     assert_eq!(table, [FREE, FREE, text(7, 0, b"T")].concat());
-    assert_eq!(mend(&mut table, 1), answer([0, 0, 0, 0, 0, 1]));
+    assert_eq!(mend(&mut table, 1), answer([0, 0, 0, 0, 0, 0, 1]));
     assert_eq!(table, [FREE; 3].concat());
 }
 

@@ -12,7 +12,7 @@ fn filed() -> Bench {
     bench
 }
 
-/// The portion that a line asks for, or the number and place that refuse it.
+/// The portion that a line asks for, or the number and argument that refuse it.
 fn portion(line: &str) -> Result<(Option<usize>, Option<usize>), (u32, u32)> {
     match read(line.as_bytes(), 0) {
         Ok(Request::Rds {
@@ -20,7 +20,7 @@ fn portion(line: &str) -> Result<(Option<usize>, Option<usize>), (u32, u32)> {
             ..
         }) => Ok((first, count)),
         Ok(request) => panic!("{line}: {request:?}"),
-        Err(Refusal { number, place }) => Err((number, place)),
+        Err(Refusal { number, place }) => Err((number, place.argument)),
     }
 }
 

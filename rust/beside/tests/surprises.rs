@@ -8,7 +8,7 @@ fn a_chain_may_run_through_the_entry_that_it_displaces() {
     let mut bench = Bench::grown(16, &["CRD .R", "DUP .R .R:A"]);
     // A is an entry of .R that names .R; A:A is that entry again.
     let seen = bench.grant("WRS M .R:A:A", b"WRITTEN");
-    assert_eq!(seen.answer, answer([0, 0, 1, 1, 0, 3]));
+    assert_eq!(seen.answer, answer([0, 0, 0, 1, 1, 0, 3]));
     // The same chain does not read it: A is no directory any more.
     bench.refuse("RDS .R:A:A", b"", 12, 1);
     assert_eq!(bench.reply("RDS .R:A"), b"WRITTEN");
@@ -18,7 +18,7 @@ fn a_chain_may_run_through_the_entry_that_it_displaces() {
 fn a_directory_with_entries_can_be_cut_off_and_keeps_its_room() {
     let mut bench = Bench::grown(3, &["CRD .R", "DUP .R .R:A"]);
     let seen = bench.grant("DEL .R", b"");
-    assert_eq!(seen.answer, answer([0, 0, 1, 0, 0, 1]));
+    assert_eq!(seen.answer, answer([0, 0, 0, 1, 0, 0, 1]));
     // The heading and the entry A, which names it, are still there, and no base file reaches them.
     let expected = [directory(), FREE, entry(0, 0, 0, 0, "A")].concat();
     assert_eq!(bench.table, expected);
@@ -26,7 +26,7 @@ fn a_directory_with_entries_can_be_cut_off_and_keeps_its_room() {
     bench.refuse("RDS .R:A", b"", 11, 1);
     bench.refuse("CRD .R", b"", 19, 0);
     let mut mended = bench.table.clone();
-    assert_eq!(mend(&mut mended, 65_535), answer([0, 0, 0, 0, 0, 0]));
+    assert_eq!(mend(&mut mended, 65_535), answer([0, 0, 0, 0, 0, 0, 0]));
     assert_eq!(mended, expected);
 }
 
@@ -34,7 +34,7 @@ fn a_directory_with_entries_can_be_cut_off_and_keeps_its_room() {
 fn a_directory_with_entries_can_be_displaced_when_a_loop_names_it() {
     let mut bench = Bench::grown(16, &["CRD .R", "CRD .R:D", "DUP .R:D .R:D:UP"]);
     let seen = bench.grant("WRS M .R:D", b"");
-    assert_eq!(seen.answer, answer([0, 0, 1, 1, 0, 2]));
+    assert_eq!(seen.answer, answer([0, 0, 0, 1, 1, 0, 2]));
     assert_eq!(bench.reply("RDS .R:D"), b"");
     // .R, the file D and their entries; the lost directory and its entry UP.
     assert_eq!(count(&bench.table, 1), 3);
@@ -66,7 +66,7 @@ fn a_dup_of_a_directory_onto_its_own_entry_within_a_loop() {
     bench.refuse("DUP .R .R:D", b"", 18, 2);
     // By another way to the same entry, D displaces itself and loses nothing.
     let seen = bench.grant("DUP .R:D .R:D:BACK:D .4", b"");
-    assert_eq!(seen.answer, answer([0, 0, 1, 1, 0, 1]));
+    assert_eq!(seen.answer, answer([0, 0, 0, 1, 1, 0, 1]));
 }
 
 #[test]
@@ -192,12 +192,12 @@ fn text_is_cleared_by_position_wherever_it_stands() {
     let mut expected = bench.table.clone();
     for (made, number) in [1, 3, 5, 2, 0].into_iter().enumerate() {
         let seen = bench.stop(made as u32).ask("DEL .R", b"");
-        assert_eq!(seen.answer, answer([22, 0, 0, 0, 0, made as u32]));
+        assert_eq!(seen.answer, answer([22, 0, 0, 0, 0, 0, made as u32]));
         assert_eq!(seen.table, expected);
         expected[number * 32..number * 32 + 32].fill(0);
     }
     let seen = bench.stop(5).ask("DEL .R", b"");
-    assert_eq!(seen.answer, answer([0, 0, 1, 0, 0, 5]));
+    assert_eq!(seen.answer, answer([0, 0, 0, 1, 0, 0, 5]));
     assert_eq!(seen.table, [FREE; 6].concat());
 }
 
@@ -251,5 +251,5 @@ fn slip_showing_the_headings_code_in_a_listing() {
 fn slip_refusing_del_because_the_file_is_write_inhibited() {
     let mut bench = Bench::grown(16, &["CRD .R", "WRS M.7 .R:A", "CRD .R:D .7"]);
     let seen = bench.grant("DEL .R:A .R:D", b"");
-    assert_eq!(seen.answer, answer([0, 0, 2, 0, 0, 6]));
+    assert_eq!(seen.answer, answer([0, 0, 0, 2, 0, 0, 6]));
 }

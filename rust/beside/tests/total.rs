@@ -3,7 +3,7 @@
 mod common;
 use common::*;
 
-use beside::{Answer, COUNTS, NUMBERS};
+use beside::{words, Answer, Chain, COUNTS, NUMBERS};
 
 const FUNCTIONS: [&str; 9] = [
     "CRD ", "WRS ", "RDS ", "CPY ", "DUP ", "CHN ", "DEL ", "DPR ", "LST ",
@@ -116,14 +116,24 @@ fn filled() -> Vec<u8> {
     bench.table
 }
 
+/// How many links the chain of this argument has, the supplied `.W` counted.
+fn links(line: &[u8], argument: u32) -> u32 {
+    let words = words(line);
+    let word = words.get(argument as usize);
+    word.map_or(0, |word| Chain::of(word).names().count() as u32)
+}
+
 /// What holds of every answer.
 fn fits(answer: Answer, stop: u32, line: &[u8], before: &[u8], after: &[u8]) {
     let shown = String::from_utf8_lossy(line).into_owned();
     let number = answer.number;
     assert!(NUMBERS.contains(&number), "{shown}");
     let placeless = matches!(number, 0..=6 | 10 | 19 | 20 | 22);
-    assert_eq!(answer.place == 0, placeless, "{shown}: {answer:?}");
-    assert!(answer.place <= 8 && answer.names <= 8 && answer.displaced <= 1);
+    assert_eq!(answer.argument == 0, placeless, "{shown}: {answer:?}");
+    assert!(answer.argument <= 8 && answer.names <= 8 && answer.displaced <= 1);
+    let linkless = placeless || matches!(number, 9 | 21 | 25 | 27 | 28);
+    assert!(answer.link == 0 || !linkless, "{shown}: {answer:?}");
+    assert!(answer.link <= links(line, answer.argument), "{shown}");
     assert!(answer.stores <= stop);
     if number != 0 {
         assert_eq!((answer.displaced, answer.bytes), (0, 0), "{shown}");
@@ -181,7 +191,7 @@ fn any_table_is_mended_or_not() {
         let mut after = before.clone();
         let answer = mend(&mut after, stop);
         fits(answer, stop, b"", &before, &after[..]);
-        assert_eq!((answer.place, answer.names), (0, 0));
+        assert_eq!((answer.argument, answer.link, answer.names), (0, 0, 0));
         met[answer.number as usize] += 1;
     }
     println!("answers by number: {met:?}");

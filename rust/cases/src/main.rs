@@ -27,12 +27,12 @@ fn list(bytes: &[u8]) -> String {
     shown + "[])"
 }
 
-fn six(a: beside::Answer, off: u32) -> String {
-    let stores = a.stores + off;
-    format!(
-        "(answer {} {} {} {} {} {stores})",
-        a.number, a.place, a.names, a.displaced, a.bytes
-    )
+/// The seven numbers, the last one off by so much.
+fn seven(answer: beside::Answer, off: u32) -> String {
+    let stores = answer.stores + off;
+    let numbers = beside::Answer { stores, ..answer }.numbers();
+    let shown = numbers.map(|number| number.to_string());
+    format!("(answer {})", shown.join(" "))
 }
 
 /// The cases of one table: it grows by the requests, is damaged and mended on the way, and is cut by small stop numbers.
@@ -51,7 +51,7 @@ impl Story {
         self.cases.push(format!(
             "mends {} {stop} {} {}",
             list(table),
-            six(answer, 0),
+            seven(answer, 0),
             list(&after)
         ));
     }
@@ -100,9 +100,9 @@ impl Story {
     /// One more case: what is lent, the answer, and what is left.
     fn asks(&mut self, lent: String, user: u32, stop: u32, answer: beside::Answer, left: String) {
         self.met[answer.number as usize] += 1;
-        let six = six(answer, self.off);
+        let seven = seven(answer, self.off);
         self.cases
-            .push(format!("asks {lent} {user} {stop} {six} {left}"));
+            .push(format!("asks {lent} {user} {stop} {seven} {left}"));
         self.off = 0;
     }
 }

@@ -1,7 +1,7 @@
 //! The lines of `crates/reading`, read by the second program: what it makes of each is what the proved reader's program
 //! must write (`crates/reading/stdout`, which the gate holds the program to).
 
-use beside::{Chain, Guard, Level, Lifetime, Listed, Request};
+use beside::{Chain, Guard, Level, Lifetime, Listed, Refusal, Request};
 use std::fs;
 
 /// Where a stretch of the line starts in it, if it is one.
@@ -52,9 +52,14 @@ fn begun(line: &[u8], shelf: char, chain: &Chain) -> String {
     format!("{}{}", begin.unwrap_or_default(), start(line, chain))
 }
 
+/// Number, argument and link.
+fn refused(Refusal { number, place }: Refusal) -> String {
+    format!("{number} {} {}", place.argument, place.link)
+}
+
 fn made_of(line: &[u8]) -> String {
     let request = match beside::read(line, 0) {
-        Err(refusal) => return format!("{} {}", refusal.number, refusal.place),
+        Err(refusal) => return refused(refusal),
         Ok(request) => request,
     };
     let at = |chain: &Chain| start(line, chain);

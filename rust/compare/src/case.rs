@@ -1,6 +1,7 @@
 //! A case: one call, made by the proved library and by the second program, and compared byte for byte.
 
-use crate::handed::{broken, Handed};
+use crate::handed::{self, Handed};
+use crate::links::{self, Links};
 use crate::met::Met;
 use crate::parted::Parted;
 
@@ -25,10 +26,10 @@ pub struct Case {
     pub stop: u32,
 }
 
-/// What a call answered and left: number, place, names, displaced, bytes, stores; each byte of the table and of the reply.
+/// What a call answered and left: number, argument, link, names, displaced, bytes, stores; each byte of the table and of the reply.
 #[derive(Debug, Clone, PartialEq, Eq)]
 pub struct Outcome {
-    pub answer: [u32; 6],
+    pub answer: [u32; 7],
     pub table: Vec<u8>,
     pub reply: Vec<u8>,
 }
@@ -39,15 +40,15 @@ impl Outcome {
     }
 
     pub fn names(&self) -> u32 {
-        self.answer[2]
+        self.answer[3]
     }
 
     pub fn bytes(&self) -> usize {
-        self.answer[4] as usize
+        self.answer[5] as usize
     }
 
     pub fn stores(&self) -> u32 {
-        self.answer[5]
+        self.answer[6]
     }
 }
 
@@ -79,7 +80,7 @@ impl Case {
     }
 
     /// The outcome of a call on a copy of the table and a fresh reply buffer.
-    fn outcome(&self, call: impl Fn(&mut [u8], &mut [u8]) -> [u32; 6]) -> Outcome {
+    fn outcome(&self, call: impl Fn(&mut [u8], &mut [u8]) -> [u32; 7]) -> Outcome {
         let mut table = self.table.clone();
         let room = self.asked.as_ref().map_or(0, |asked| asked.reply);
         let mut reply = vec![UNTOUCHED; room];
@@ -131,6 +132,8 @@ pub struct Difference {
 #[derive(Default)]
 pub struct Comparison {
     pub met: Met,
+    /// Which links were met.
+    pub links: Links,
     /// What gives and takes met.
     pub handed: Handed,
     /// What an RDS with numbers met.
@@ -156,9 +159,11 @@ impl Comparison {
             "the replies differ"
         } else {
             self.met.count(case, proved.number());
+            self.links.count(proved.answer);
             self.handed.count(case, proved.answer);
             self.parted.count(case, proved.answer);
-            return match broken(case, &proved) {
+            let broken = handed::broken(case, &proved).or(links::broken(case, &proved));
+            return match broken {
                 None => Ok(proved),
                 Some(wrong) => Err(must_not_be(case, wrong, &proved)),
             };

@@ -49,7 +49,7 @@ fn handed(line: &[u8]) -> Vec<(u32, usize)> {
 
 impl Handed {
     /// One more answer, if it is about an argument that begins with `.nnnnnn`, or about none in particular.
-    pub fn count(&mut self, case: &Case, [number, place, ..]: [u32; 6]) {
+    pub fn count(&mut self, case: &Case, [number, place, ..]: [u32; 7]) {
         let line = case.asked.as_ref().map_or(&[][..], |asked| &asked.line);
         for (at, row) in handed(line) {
             if place == 0 || place == at {
@@ -74,7 +74,7 @@ pub fn broken(case: &Case, outcome: &Outcome) -> Option<&'static str> {
     let Some(Asked { line, .. }) = &case.asked else {
         return None;
     };
-    let [number, place, _, displaced, _, stores] = outcome.answer;
+    let [number, place, _, _, displaced, _, stores] = outcome.answer;
     let gives = handed(line).contains(&(2, GIVE));
     let renames = function(&beside::words(line)) == Some(b"CHN");
     match number {
@@ -135,13 +135,13 @@ mod tests {
             broken(&Case::request(&[], asked(line)), &outcome).is_none()
         };
         let give = b"DUP .R:A .000777:A";
-        assert!(kept(give, [0, 0, 1, 0, 0, 1]));
-        assert!(!kept(give, [0, 0, 1, 1, 0, 1]));
-        assert!(!kept(give, [0, 0, 1, 0, 0, 2]));
-        assert!(!kept(give, [18, 2, 0, 0, 0, 0]));
-        assert!(kept(give, [16, 2, 0, 0, 0, 0]));
-        assert!(kept(b"DUP .R:A .R:B", [0, 0, 1, 1, 0, 1]));
-        assert!(!kept(b"DUP .R:A .R:B", [16, 2, 0, 0, 0, 0]));
-        assert!(kept(b" CHN .R:A B", [16, 2, 0, 0, 0, 0]));
+        assert!(kept(give, [0, 0, 0, 1, 0, 0, 1]));
+        assert!(!kept(give, [0, 0, 0, 1, 1, 0, 1]));
+        assert!(!kept(give, [0, 0, 0, 1, 0, 0, 2]));
+        assert!(!kept(give, [18, 2, 2, 0, 0, 0, 0]));
+        assert!(kept(give, [16, 2, 2, 0, 0, 0, 0]));
+        assert!(kept(b"DUP .R:A .R:B", [0, 0, 0, 1, 1, 0, 1]));
+        assert!(!kept(b"DUP .R:A .R:B", [16, 2, 2, 0, 0, 0, 0]));
+        assert!(kept(b" CHN .R:A B", [16, 2, 0, 0, 0, 0, 0]));
     }
 }

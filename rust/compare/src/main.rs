@@ -1,14 +1,15 @@
 //! The proved library against the second program, on random cases: `compare [COUNT [SEED]]`, COUNT requests on tables that
 //! grow by them. Answer, whole table and whole reply buffer are compared byte for byte, every storing request on a sound
 //! table is cut at its stop numbers and mended, every sheet read whole is read in pieces, and every table is mended. At the
-//! first difference it prints a case to paste into a test and ends with status 1; also when a reply number, or a branch of
-//! RDS's parts, was met fewer than a hundred times.
+//! first difference it prints a case to paste into a test and ends with status 1; also when a reply number was met fewer than
+//! a hundred times, with a link of a chain or without, where it has the one or the other, or a branch of RDS's parts.
 //!
 //! `compare jobs [COUNT [SEED]]`: the same with the lamp, COUNT jobs, each cut at its stop numbers and mended; ends with
 //! status 1 also when a light was met fewer than a hundred times.
 //!
 //! `compare gives [COUNT [SEED]]`: COUNT requests of three users who give, take, list and read each other's shelves, cut and
-//! mended as the first; ends with status 1 also when a number was met fewer than a hundred times by gives, or by takes.
+//! mended as the first; ends with status 1 also when a number was met fewer than a hundred times by gives, or by takes, or with a
+//! link.
 
 mod case;
 mod cut;
@@ -16,6 +17,7 @@ mod handed;
 mod job;
 mod jobs;
 mod lights;
+mod links;
 mod met;
 mod parted;
 mod pieces;
@@ -86,10 +88,10 @@ fn requests(count: u64, seed: u64) -> ExitCode {
     let mut comparison = Comparison::default();
     let ended = run(&mut comparison, count, seed);
     show(&comparison, seed, start);
-    let Comparison { met, parted, .. } = comparison;
-    let numbers = met.missed().into_iter().map(|number| number.to_string());
-    let missed: Vec<String> = numbers.chain(parted.missed()).collect();
-    verdict(ended, format!("{met}{parted}"), &missed)
+    let (met, links, parted) = (&comparison.met, &comparison.links, &comparison.parted);
+    let linked = links.missed(&links::IN_REQUESTS);
+    let missed = [met.missed(), linked, parted.missed()].concat();
+    verdict(ended, format!("{met}{links}\n{parted}"), &missed)
 }
 
 fn gives(count: u64, seed: u64) -> ExitCode {
@@ -97,7 +99,9 @@ fn gives(count: u64, seed: u64) -> ExitCode {
     let mut comparison = Comparison::default();
     let ended = run_gives(&mut comparison, count, seed);
     show(&comparison, seed, start);
-    verdict(ended, &comparison.handed, &comparison.handed.missed())
+    let (handed, links) = (&comparison.handed, &comparison.links);
+    let missed = [handed.missed(), links.missed(&links::IN_GIVES)].concat();
+    verdict(ended, format!("{handed}\n{links}"), &missed)
 }
 
 fn show(comparison: &Comparison, seed: u64, start: Instant) {

@@ -33,14 +33,12 @@ impl Met {
     }
 
     /// The numbers met too seldom, by all calls together or, of mending's own four, by mending.
-    pub fn missed(&self) -> Vec<usize> {
+    pub fn missed(&self) -> Vec<String> {
         let mending = |number| matches!(number, 0 | 1 | 2 | 22) && self.0[MEND][number] < ENOUGH;
         let missed = |number: &usize| self.total(*number) < ENOUGH || mending(*number);
-        NUMBERS
-            .map(|number| number as usize)
-            .into_iter()
-            .filter(missed)
-            .collect()
+        let numbers = NUMBERS.map(|number| number as usize);
+        let missed = numbers.into_iter().filter(missed);
+        missed.map(|number| number.to_string()).collect()
     }
 }
 

@@ -41,8 +41,8 @@ fn written(Portion { first, count }: Portion, bytes: usize) -> usize {
 }
 
 /// The branch of a line and its answer; none where it is no RDS with numbers, or some other number.
-fn branch(line: &[u8], [number, place, _, _, bytes, _]: [u32; 6]) -> Option<usize> {
-    match (number, place) {
+fn branch(line: &[u8], [number, argument, _, _, _, bytes, _]: [u32; 7]) -> Option<usize> {
+    match (number, argument) {
         (27, 2) => return Some(0),
         (27, 3) => return Some(1),
         (28, _) => return Some(2),
@@ -62,7 +62,7 @@ fn branch(line: &[u8], [number, place, _, _, bytes, _]: [u32; 6]) -> Option<usiz
 
 impl Parted {
     /// One more answer.
-    pub fn count(&mut self, case: &Case, answer: [u32; 6]) {
+    pub fn count(&mut self, case: &Case, answer: [u32; 7]) {
         let Some(Asked { line, .. }) = &case.asked else {
             return;
         };
@@ -93,7 +93,7 @@ mod tests {
     #[test]
     fn a_part_is_told_by_its_line_and_answer() {
         let met = |line: &[u8], number, place, bytes| {
-            let branch = branch(line, [number, place, 0, 0, bytes, 0]);
+            let branch = branch(line, [number, place, 0, 0, 0, bytes, 0]);
             branch.map(|branch| BRANCHES[branch])
         };
         assert_eq!(met(b"RDS .R 8", 27, 2, 0), Some("27 at place 2"));

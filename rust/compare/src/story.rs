@@ -18,6 +18,7 @@ pub struct Story<'a> {
     random: &'a mut Random,
     table: Vec<u8>,
     long_texts: bool,
+    long_chains: bool,
     cast: Cast,
 }
 
@@ -37,6 +38,7 @@ impl<'a> Story<'a> {
             random,
             table: start.table,
             long_texts: start.long_texts,
+            long_chains: start.long_chains,
             cast: Cast::Anything(others),
         }
     }
@@ -79,6 +81,9 @@ impl<'a> Story<'a> {
             _ => random.below(120),
         };
         let line = match &self.cast {
+            Cast::Anything(_) if self.long_chains && !random.once_in(4) => {
+                requests::long(random, &self.table, user)
+            }
             Cast::Anything(_) => requests::line(random, &self.table, user),
             Cast::Shelves(users) => shelves::line(random, &self.table, users, user),
         };
@@ -124,7 +129,7 @@ impl<'a> Story<'a> {
             cut_everywhere(self.comparison, self.random, &case, &uncut)?;
         }
         let mend = Case::mend(&uncut.table, self.stop());
-        if self.comparison.compare(&mend)?.answer != [0; 6] {
+        if self.comparison.compare(&mend)?.answer != [0; 7] {
             return Err(must_not_be(&case, "not sound after the request", &uncut));
         }
         self.table = uncut.table;

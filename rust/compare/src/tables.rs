@@ -61,6 +61,18 @@ pub fn long_file(records: usize) -> Vec<u8> {
     table
 }
 
+/// Directories one in the other, as deep as a chain goes, with a sheet at the end; from each a link leads back to the first.
+fn nest() -> Vec<u8> {
+    let mut table = vec![0; 64 * 32];
+    let chain = |names: usize| format!(".R{}", ":A".repeat(names - 1));
+    let directories = (1..16).map(|names| format!("CRD {}", chain(names)));
+    let back = (1..16).map(|names| format!("DUP .R {}:B", chain(names)));
+    grow(&mut table, directories, b"");
+    grow(&mut table, back, b"");
+    grow(&mut table, [format!("WRS M {}", chain(16))], b"5.0 V");
+    table
+}
+
 /// A table to begin with.
 pub struct Start {
     pub table: Vec<u8>,
@@ -68,12 +80,15 @@ pub struct Start {
     pub requests: u64,
     /// Are the texts of its requests mostly as long as they may be?
     pub long_texts: bool,
+    /// Have its requests mostly long chains?
+    pub long_chains: bool,
 }
 
 /// The tables that take long to grow.
 pub struct Starts {
     crowded: [Vec<u8>; 4],
     long: [Vec<u8>; 3],
+    nest: Vec<u8>,
 }
 
 impl Starts {
@@ -86,23 +101,27 @@ impl Starts {
                 crowded_base_list(99),
             ],
             long: [1_020, 2_030, 2_048].map(long_file),
+            nest: nest(),
         }
     }
 
     /// One of these, or records that are all free.
     pub fn start(&self, random: &mut Random) -> Start {
         let free = |records: usize| vec![0; records * 32];
-        let (table, requests, long_texts) = match random.below(64) {
-            0 => (self.long[random.below(3)].clone(), 6, true),
-            1..=32 => (self.crowded[random.below(4)].clone(), 12, false),
-            33..=46 => (free(random.below(13)), 40, false),
-            47 => (free(200 + random.below(1_849)), 20, false),
-            _ => (free(13 + random.below(50)), 160, false),
+        let kind = random.below(72);
+        let (table, requests) = match kind {
+            0 => (self.long[random.below(3)].clone(), 6),
+            1..=32 => (self.crowded[random.below(4)].clone(), 12),
+            33..=46 => (free(random.below(13)), 40),
+            47 => (free(200 + random.below(1_849)), 20),
+            48..=63 => (free(13 + random.below(50)), 160),
+            _ => (self.nest.clone(), 60),
         };
         Start {
             table,
             requests,
-            long_texts,
+            long_texts: kind == 0,
+            long_chains: kind > 63,
         }
     }
 }
@@ -149,6 +168,7 @@ pub fn shelves(random: &mut Random, users: [u32; 3]) -> Start {
         table,
         requests: if crowd > 0 { 16 } else { 64 },
         long_texts: false,
+        long_chains: false,
     }
 }
 
@@ -210,7 +230,8 @@ mod tests {
     fn every_start_is_sound_in_any_order() {
         let mut random = Random::new(1);
         let starts = Starts::new();
-        for table in starts.crowded.iter().chain(&starts.long) {
+        let all = [&starts.crowded[..], &starts.long, &[starts.nest]];
+        for table in all.concat().iter() {
             assert!(beside::sound(table));
             let other = shuffled(&mut random, table);
             assert!(beside::sound(&other) && other != *table);

@@ -5,13 +5,18 @@ use std::fmt;
 
 use crate::number::Number;
 
-/// "An answer has: number; place (argument from 1 ...); names done; displaced or not; bytes written; stores made."
+/// "An answer has: number; place (argument from 1 ...); names done; displaced or not; bytes written; stores made." "The
+/// place becomes argument and link".
 #[derive(Debug, Clone, Copy, PartialEq, Eq, Hash)]
 pub struct Answer {
     /// The reply number.
     pub number: Number,
     /// The argument that was refused, from 1; 0 where no argument was.
     pub place: u32,
+    /// The link of that argument's chain that was refused, from 1, the supplied `.W` counted: for 7 and 8 the first wrong name, on
+    /// the way the link refused, at its end the last one. 0 where no link is: for a lone dash, a chain that is only too long,
+    /// a declaration, CHN's link, RDS's numbers, and where no argument was refused.
+    pub link: u32,
     /// The names all of whose stores were made; 1 for a granted RDS or LST.
     pub names: u32,
     /// Was an entry that already bore the new name overwritten?
@@ -25,31 +30,33 @@ pub struct Answer {
 /// The answer as the library hands it over.
 #[repr(C)]
 #[derive(Clone, Copy)]
-pub(crate) struct SixNumbers {
+pub(crate) struct SevenNumbers {
     number: u32,
     place: u32,
+    link: u32,
     names: u32,
     displaced: u32,
     bytes: u32,
     stores: u32,
 }
 
-impl From<SixNumbers> for Answer {
+impl From<SevenNumbers> for Answer {
     /// The proved library answers with one of the numbers of `Number`, and displaced is 0 or 1. Another library would panic here.
-    fn from(six: SixNumbers) -> Answer {
-        let displaced = match six.displaced {
+    fn from(seven: SevenNumbers) -> Answer {
+        let displaced = match seven.displaced {
             0 => false,
             1 => true,
             other => panic!("displaced is 0 or 1, not {other}"),
         };
         Answer {
-            number: Number::try_from(six.number)
+            number: Number::try_from(seven.number)
                 .expect("the library answers with a number of the documents"),
-            place: six.place,
-            names: six.names,
+            place: seven.place,
+            link: seven.link,
+            names: seven.names,
             displaced,
-            bytes: six.bytes,
-            stores: six.stores,
+            bytes: seven.bytes,
+            stores: seven.stores,
         }
     }
 }
@@ -63,11 +70,12 @@ impl Answer {
         }
     }
 
-    /// The six numbers: number, place, names, displaced as 0 or 1, bytes, stores.
-    pub fn numbers(self) -> [u32; 6] {
+    /// The seven numbers: number, place, link, names, displaced as 0 or 1, bytes, stores.
+    pub fn numbers(self) -> [u32; 7] {
         [
             self.number.code(),
             self.place,
+            self.link,
             self.names,
             self.displaced.into(),
             self.bytes,
@@ -81,11 +89,12 @@ impl Answer {
 pub struct Refused(Answer);
 
 impl Refused {
-    /// A refusal without asking the box: nothing is done.
+    /// A refusal without asking the box: nothing is done, and no link is said.
     pub(crate) fn unasked(number: Number, place: u32) -> Refused {
         Refused(Answer {
             number,
             place,
+            link: 0,
             names: 0,
             displaced: false,
             bytes: 0,
@@ -101,11 +110,17 @@ impl Refused {
 
 impl fmt::Display for Refused {
     fn fmt(&self, f: &mut fmt::Formatter) -> fmt::Result {
-        let Answer { number, place, .. } = self.0;
+        let Answer {
+            number,
+            place,
+            link,
+            ..
+        } = self.0;
         write!(f, "{}: {number}", number.code())?;
-        match place {
-            0 => Ok(()),
-            _ => write!(f, " (argument {place})"),
+        match (place, link) {
+            (0, _) => Ok(()),
+            (_, 0) => write!(f, " (argument {place})"),
+            _ => write!(f, " (argument {place}, link {link})"),
         }
     }
 }

@@ -55,7 +55,7 @@
 //!     table.ask(day, "DUP .R:SHEET .000777:SHEET .1")?;
 //!     assert_eq!(table.sheet(night, ".G:SHEET")?, b"5.0 V");
 //!     let pen = table.ask(night, "DPR .G:SHEET .7").unwrap_err();
-//!     assert_eq!(pen.to_string(), "14: write inhibited (argument 1)");
+//!     assert_eq!(pen.to_string(), "14: write inhibited (argument 1, link 2)");
 //!     let again = table.ask(day, "DUP .R:SHEET .000777:SHEET .1").unwrap_err();
 //!     assert_eq!(again.answer().number, Number::NameBorne);
 //!
@@ -67,16 +67,22 @@
 //! }
 //! ```
 //!
-//! A refusal says the number, the argument and why, and leaves the table as it was:
+//! A refusal says the number and why, the argument, and which link of its chain, the supplied `.W` counted; it leaves the table
+//! as it was:
 //!
 //! ```
 //! use filebox::{Number, Table};
 //!
 //! let mut table = Table::free(16);
+//! table.ask(1, "CRD .W").unwrap();
+//! table.ask(1, "CRD LINE1").unwrap();
+//! table.ask(1, "CRD LINE1:BOARD7").unwrap();
 //! let before = table.clone();
-//! let refused = table.file(1, "M", ".R:LIMITS", b"5.0 V").unwrap_err();
+//! let refused = table.sheet(1, "LINE1:BOARD7:LIMITS").unwrap_err();
 //! assert_eq!(refused.answer().number, Number::NameNotThere);
-//! assert_eq!(refused.to_string(), "11: name not there (argument 2)");
+//! assert_eq!(refused.to_string(), "11: name not there (argument 1, link 4)");
+//! let refused = table.ask(1, "CRD LINE2 M").unwrap_err();
+//! assert_eq!(refused.to_string(), "9: declaration malformed or unfit (argument 2)");
 //! assert_eq!(table, before);
 //! ```
 //!

@@ -4,7 +4,7 @@
 //! value. Nothing but reading checks them against the library.
 #![allow(unsafe_code)]
 
-use crate::answer::{Answer, SixNumbers};
+use crate::answer::{Answer, SevenNumbers};
 use crate::lamp::Light;
 
 extern "C" {
@@ -19,8 +19,8 @@ extern "C" {
         reply_len: usize,
         user: u32,
         stop: u32,
-    ) -> SixNumbers;
-    fn filebox_mend(table: *mut u8, table_len: usize, stop: u32) -> SixNumbers;
+    ) -> SevenNumbers;
+    fn filebox_mend(table: *mut u8, table_len: usize, stop: u32) -> SevenNumbers;
     fn filebox_lamp(
         table: *mut u8,
         table_len: usize,
@@ -67,7 +67,7 @@ pub fn request(
     // Sound: each pointer is to as many bytes as the length beside it says, readable, and writable where the slice is lent
     // `mut`; no two of the slices overlap, since two are lent `mut` and the others are only read. The library keeps no
     // pointer after the call. The pointer of an empty slice is never followed.
-    let six = unsafe {
+    let seven = unsafe {
         filebox_request(
             table.as_mut_ptr(),
             table.len(),
@@ -81,7 +81,7 @@ pub fn request(
             stop,
         )
     };
-    Answer::from(six)
+    Answer::from(seven)
 }
 
 /// Mend a table: clear the headings that no entry names, then the text of no simple file. Exactly the first `stop` stores
@@ -100,8 +100,8 @@ pub fn request(
 #[must_use = "the answer may be a refusal"]
 pub fn mend(table: &mut [u8], stop: u32) -> Answer {
     // Sound: as above; the one slice is lent `mut`.
-    let six = unsafe { filebox_mend(table.as_mut_ptr(), table.len(), stop) };
-    Answer::from(six)
+    let seven = unsafe { filebox_mend(table.as_mut_ptr(), table.len(), stop) };
+    Answer::from(seven)
 }
 
 /// Light the lamp of a job for a user: file each sheet's text in the directory of the chain, then read each back into the

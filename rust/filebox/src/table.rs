@@ -81,7 +81,7 @@ impl<B: AsMut<[u8]>> Table<B> {
     /// let mut table = Table::free(2);
     /// table.ask(1, "CRD .R").unwrap();
     /// let answer = table.ask(1, "DEL .R .R").unwrap_err().answer();
-    /// assert_eq!((answer.number, answer.place, answer.names), (Number::NameNotThere, 2, 1));
+    /// assert_eq!((answer.number, answer.place, answer.link, answer.names), (Number::NameNotThere, 2, 1, 1));
     /// assert_eq!(table, Table::free(2));
     /// ```
     pub fn ask(&mut self, user: u32, line: &str) -> Result<Answer, Refused> {
@@ -166,7 +166,8 @@ impl<B: AsMut<[u8]>> Table<B> {
     }
 }
 
-/// No name and no declaration has a blank: an argument that has one is refused, by this number and at this place.
+/// No name and no declaration has a blank: an argument that has one is refused, by this number and at this place; it is
+/// no chain, so it has no link.
 fn without_blank(argument: &str, number: Number, place: u32) -> Result<(), Refused> {
     match argument.contains(' ') {
         true => Err(Refused::unasked(number, place)),

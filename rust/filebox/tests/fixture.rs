@@ -58,6 +58,37 @@ fn the_longest_listing_comes_back() -> Result<(), Refused> {
 }
 
 #[test]
+fn a_refusal_says_which_link() -> Result<(), Refused> {
+    let mut table = Table::free(32);
+    let names = ["LINE1", "BOARD7", "TEST", "1971", "APRIL", "WEEK3", "DAY5"];
+    table.ask(1, "CRD .W")?;
+    for length in 1..=names.len() {
+        table.ask(1, &format!("CRD {}", names[..length].join(":")))?;
+    }
+    // nine names, the supplied .W and LIMITS among them
+    let chain = format!("{}:LIMITS", names.join(":"));
+    table.file(1, "M", &chain, b"5.0 V")?;
+    for (wrong, name) in (2..).zip(names) {
+        let chain = chain.replace(name, "NONE");
+        let refused = table.sheet(1, &chain).unwrap_err();
+        assert_eq!((refused.answer().place, refused.answer().link), (1, wrong));
+        let said = format!("11: name not there (argument 1, link {wrong})");
+        assert_eq!(refused.to_string(), said);
+    }
+    for (line, said) in [
+        ("CPY LINE1 .R:@", "7: malformed name or chain (argument 2, link 2)"),
+        ("CRD -", "7: malformed name or chain (argument 1)"),
+        ("CRD .1:A", "8: illegal base name (also CHN's link for a base file, a user's number out of place) (argument 1, link 1)"),
+        ("DPR LINE1 M", "9: declaration malformed or unfit (argument 2)"),
+        ("DEL LINE1:BOARD7", "18: file losing its last entry is a directory with entries (argument 1, link 3)"),
+        ("RDS", "6: wrong count of arguments"),
+    ] {
+        assert_eq!(table.ask(1, line).unwrap_err().to_string(), said);
+    }
+    Ok(())
+}
+
+#[test]
 fn what_was_displaced_is_said() -> Result<(), Refused> {
     let mut table = Table::free(16);
     table.ask(1, "CRD .W")?;
@@ -87,21 +118,25 @@ fn an_argument_with_a_blank_is_refused_before_it_is_two_words() -> Result<(), Re
     table.ask(1, "CRD .W")?;
     table.file(1, "M", "A", b"SHEET")?;
     let before = table.clone();
-    let six = |refused: Refused| refused.answer().numbers();
+    let seven = |refused: Refused| refused.answer().numbers();
     // the first would be granted as a line, its name declaration and name; so would the declaration below
     let filed = [("", "M A"), ("M", "A B"), ("M", " "), ("M", "A : B")];
     for (declaration, name) in filed {
         let refused = table.file(1, declaration, name, b"OTHER").unwrap_err();
-        assert_eq!(six(refused), [7, 2, 0, 0, 0, 0], "{declaration}, {name}");
+        assert_eq!(
+            seven(refused),
+            [7, 2, 0, 0, 0, 0, 0],
+            "{declaration}, {name}"
+        );
     }
     let refused = table.file(1, "M A", "", b"OTHER").unwrap_err();
-    assert_eq!(six(refused), [9, 1, 0, 0, 0, 0]);
+    assert_eq!(seven(refused), [9, 1, 0, 0, 0, 0, 0]);
     // "RDS A " and "LST . " are granted as lines
     for name in ["A ", " A", ". ", "A B", " "] {
         let sheet = table.sheet(1, name).unwrap_err();
         let list = table.list(1, name).unwrap_err();
-        assert_eq!(six(sheet), [7, 1, 0, 0, 0, 0], "{name:?}");
-        assert_eq!(six(list), [7, 1, 0, 0, 0, 0], "{name:?}");
+        assert_eq!(seven(sheet), [7, 1, 0, 0, 0, 0, 0], "{name:?}");
+        assert_eq!(seven(list), [7, 1, 0, 0, 0, 0, 0], "{name:?}");
     }
     assert_eq!(table, before);
     Ok(())

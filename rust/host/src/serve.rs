@@ -58,7 +58,8 @@ pub fn serve<D: Disk>(
     Ok(())
 }
 
-/// "each answer's six numbers in decimal on a line, a blank between, displaced as 0 or 1, then the reply bytes"
+/// "each answer's ... numbers in decimal on a line, a blank between, displaced as 0 or 1, then the reply bytes": seven, since "the
+/// place becomes argument and link"
 pub fn printed(answer: Answer, reply: &[u8]) -> Vec<u8> {
     let numbers = answer.numbers().map(|number| number.to_string());
     let mut printed = numbers.join(" ").into_bytes();

@@ -12,26 +12,26 @@ fn ask_does_one_request() {
     let ran = run(&["ask", &path, "1", "CRD .R"]);
     assert_eq!(
         (ran.status, ran.out().as_str(), ran.err.as_str()),
-        (0, "0 0 1 0 0 2\n", "")
+        (0, "0 0 0 1 0 0 2\n", "")
     );
     assert_eq!(
         run(&["ask", &path, "1", "WRS M .R:A", &sheet]).out(),
-        "0 0 1 0 0 3\n"
+        "0 0 0 1 0 0 3\n"
     );
     assert_eq!(
         run(&["ask", &path, "1", "RDS .R:A"]).out(),
-        "0 0 1 0 6 0\n5.0 V\n"
+        "0 0 0 1 0 6 0\n5.0 V\n"
     );
     assert_eq!(
         run(&["ask", &path, "1", "WRS M .R:B"]).out(),
-        "0 0 1 0 0 2\n"
+        "0 0 0 1 0 0 2\n"
     );
     let refused = run(&["ask", &path, "2", "RDS .R:A"]);
     assert_eq!(
         (refused.status, refused.out().as_str()),
-        (1, "11 1 0 0 0 0\n")
+        (1, "11 1 1 0 0 0 0\n")
     );
-    assert_eq!(refused.err, "11: name not there (argument 1)\n");
+    assert_eq!(refused.err, "11: name not there (argument 1, link 1)\n");
 }
 
 #[test]
@@ -44,7 +44,7 @@ fn ask_takes_a_text_that_is_too_long_to_the_box() {
     ] {
         assert_eq!(
             run(&["ask", &path, "1", "WRS M .R", &long]).out(),
-            "10 0 0 0 0 0\n"
+            "10 0 0 0 0 0 0\n"
         );
     }
 }
@@ -85,7 +85,7 @@ fn the_lamp_is_red() {
     assert_eq!((ran.status, ran.out().as_str()), (1, red));
     assert_eq!(
         run(&["ask", &path, "1", "RDS .R:A"]).out(),
-        "0 0 1 0 1 0\n1"
+        "0 0 0 1 0 1 0\n1"
     );
 }
 
@@ -234,11 +234,11 @@ fn help_says_every_command_and_its_examples_work() {
     let path = folder.at("line1.table");
     assert_eq!(run(&["serve", &path]).status, 0);
     let limits = folder.file("limits", b"5.0 V\n");
-    assert_eq!(run(&["ask", &path, "1", "CRD .R"]).out(), "0 0 1 0 0 2\n");
+    assert_eq!(run(&["ask", &path, "1", "CRD .R"]).out(), "0 0 0 1 0 0 2\n");
     assert_eq!(run(&["job", &path, "1", ".R", &limits]).status, 0);
     assert_eq!(
         run(&["ask", &path, "1", "RDS .R:LIMITS"]).out(),
-        "0 0 1 0 6 0\n5.0 V\n"
+        "0 0 0 1 0 6 0\n5.0 V\n"
     );
     assert!(run(&["show", &path]).out().contains("LIMITS"));
 }

@@ -123,18 +123,18 @@ fn a_del_goes_name_by_name() {
     };
     assert_eq!(
         deleted("DEL .R:A .R:B .R:C"),
-        ([0, 0, 3, 0, 0, 6], "4 | 5 | 2 3 | 7 | 6 |".to_string())
+        ([0, 0, 0, 3, 0, 0, 6], "4 | 5 | 2 3 | 7 | 6 |".to_string())
     );
     assert_eq!(
         deleted("DEL .R:C .R:B .R : A .R"),
         (
-            [0, 0, 4, 0, 0, 8],
+            [0, 0, 0, 4, 0, 0, 8],
             "7 | 6 | 5 | 4 | 2 3 | 1 | 0 |".to_string()
         )
     );
     assert_eq!(
         deleted("DEL .R:A .R:B .R:B .R:C"),
-        ([11, 3, 2, 0, 0, 4], "4 | 5 | 2 3 |".to_string())
+        ([11, 3, 2, 2, 0, 0, 4], "4 | 5 | 2 3 |".to_string())
     );
 }
 
@@ -235,7 +235,7 @@ fn on_standard_input_a_disk_error_ends_without_an_answer() {
     };
     let said = "line.table: the disk failed: out of order. This request has no answer, and may be done or not";
     assert_eq!(stopped.to_string(), said);
-    assert_eq!(output, b"0 0 1 0 0 2\n");
+    assert_eq!(output, b"0 0 0 1 0 0 2\n");
 }
 
 /// A disk in memory of which every call fails while it is told to.
@@ -283,7 +283,7 @@ fn a_fixture_is_told_of_a_disk_error_and_the_host_goes_on() {
     };
     thread::spawn(move || serve_all(&desk, vec![Fixture { listener, place }]));
     let (mut one, mut other) = (Connection::to(address), Connection::to(address));
-    assert_eq!(other.ask("CRD .R"), "0 0 1 0 0 2\n");
+    assert_eq!(other.ask("CRD .R"), "0 0 0 1 0 0 2\n");
     fails.store(true, Ordering::SeqCst);
     one.send(b"CRD .R:A\n");
     let mut said = String::new();
@@ -293,6 +293,6 @@ fn a_fixture_is_told_of_a_disk_error_and_the_host_goes_on() {
         "{said}"
     );
     fails.store(false, Ordering::SeqCst);
-    assert_eq!(other.ask("LST .R"), "0 0 1 0 0 0\n");
-    assert_eq!(other.ask("CRD .R:A"), "0 0 1 0 0 2\n");
+    assert_eq!(other.ask("LST .R"), "0 0 0 1 0 0 0\n");
+    assert_eq!(other.ask("CRD .R:A"), "0 0 0 1 0 0 2\n");
 }

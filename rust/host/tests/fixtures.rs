@@ -30,12 +30,12 @@ fn the_user_is_fixed_by_where_the_line_comes_from() {
         host.said
     );
     let mut fixtures: Vec<Connection> = host.addresses().into_iter().map(Connection::to).collect();
-    assert_eq!(fixtures[0].ask("CRD .R"), "0 0 1 0 0 2\n");
-    assert_eq!(fixtures[1].ask("LST .R"), "11 1 0 0 0 0\n");
-    assert_eq!(fixtures[2].ask("LST .R"), "0 0 1 0 0 0\n");
-    assert_eq!(fixtures[1].ask("CRD .R .4"), "0 0 1 0 0 2\n");
-    assert_eq!(fixtures[0].ask("LST ."), "0 0 1 0 13 0\nDM.U0    .R\r\n");
-    assert_eq!(fixtures[1].ask("LST ."), "0 0 1 0 13 0\nDM.U4    .R\r\n");
+    assert_eq!(fixtures[0].ask("CRD .R"), "0 0 0 1 0 0 2\n");
+    assert_eq!(fixtures[1].ask("LST .R"), "11 1 1 0 0 0 0\n");
+    assert_eq!(fixtures[2].ask("LST .R"), "0 0 0 1 0 0 0\n");
+    assert_eq!(fixtures[1].ask("CRD .R .4"), "0 0 0 1 0 0 2\n");
+    assert_eq!(fixtures[0].ask("LST ."), "0 0 0 1 0 13 0\nDM.U0    .R\r\n");
+    assert_eq!(fixtures[1].ask("LST ."), "0 0 0 1 0 13 0\nDM.U4    .R\r\n");
 }
 
 #[test]
@@ -77,8 +77,8 @@ fn rubbish_silence_and_going_away_disturb_nobody() {
     let host = hosted(&path, &[1, 1, 1]);
     let addresses = host.addresses();
     let mut good = Connection::to(addresses[0]);
-    assert_eq!(good.ask("CRD .R"), "0 0 1 0 0 2\n");
-    assert_eq!(good.ask("CRD .R:LIMITS"), "0 0 1 0 0 2\n");
+    assert_eq!(good.ask("CRD .R"), "0 0 0 1 0 0 2\n");
+    assert_eq!(good.ask("CRD .R:LIMITS"), "0 0 0 1 0 0 2\n");
     let _silent = Connection::to(addresses[1]);
     let mut rubbish = Connection::to(addresses[2]);
     rubbish.send(&[vec![0xff; 3_000_000], b"\nLST .R:\n".to_vec()].concat());
@@ -93,7 +93,7 @@ fn rubbish_silence_and_going_away_disturb_nobody() {
         let mut away = Connection::to(addresses[2]);
         away.send(half);
         away.stream.shutdown(Shutdown::Write).unwrap();
-        let answers = if half == b"\n" { "5 0 0 0 0 0\n" } else { "" };
+        let answers = if half == b"\n" { "5 0 0 0 0 0 0\n" } else { "" };
         assert_eq!(
             if answers.is_empty() {
                 String::new()
@@ -103,11 +103,11 @@ fn rubbish_silence_and_going_away_disturb_nobody() {
             answers
         );
         assert!(away.is_ended());
-        assert_eq!(good.ask("LST .R"), "0 0 1 0 17 0\nDM.U0    LIMITS\r\n");
+        assert_eq!(good.ask("LST .R"), "0 0 0 1 0 17 0\nDM.U0    LIMITS\r\n");
     }
     assert_eq!(
         (rubbish.answer().as_str(), rubbish.answer().as_str()),
-        ("4 0 0 0 0 0\n", "7 1 0 0 0 0\n")
+        ("4 0 0 0 0 0 0\n", "7 1 2 0 0 0 0\n")
     );
     assert_eq!(held(&path), before);
 }
@@ -122,14 +122,14 @@ fn an_answer_that_nobody_reads_disturbs_nobody() {
     let mut deaf = Connection::to(addresses[1]);
     assert_eq!(
         good.ask(&format!("WRS M .R\n{}", "x".repeat(1_400))),
-        "0 0 1 0 0 61\n"
+        "0 0 0 1 0 0 61\n"
     );
     deaf.stream.set_nonblocking(true).unwrap();
     use std::io::Write;
     // until its answers, which nobody reads, hold it up
     while deaf.stream.write(&b"RDS .R\n".repeat(1_000)).is_ok() {}
     for _ in 0..20 {
-        assert!(good.ask("LST .").starts_with("0 0 1 0 13 0\n"));
+        assert!(good.ask("LST .").starts_with("0 0 0 1 0 13 0\n"));
     }
 }
 
@@ -142,12 +142,12 @@ fn one_connection_too_many_closes_the_oldest_of_that_fixture() {
     let mut open: Vec<Connection> = Vec::new();
     for _ in 0..9 {
         let mut connection = Connection::to(addresses[0]);
-        assert_eq!(connection.ask("LST ."), "0 0 1 0 0 0\n");
+        assert_eq!(connection.ask("LST ."), "0 0 0 1 0 0 0\n");
         open.push(connection);
     }
     assert!(open[0].is_ended());
     for connection in open[1..].iter_mut().chain([&mut other]) {
-        assert_eq!(connection.ask("LST ."), "0 0 1 0 0 0\n");
+        assert_eq!(connection.ask("LST ."), "0 0 0 1 0 0 0\n");
     }
 }
 

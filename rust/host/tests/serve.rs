@@ -7,7 +7,7 @@ use random::Random;
 
 const SCRIPT: &[u8] = b"CRD .R\nWRS M .R:LIMITS\n5.0 V\nRDS .R:LIMITS\nLST .R\nRDS .R:KEYS\n";
 const ANSWERS: &str =
-    "0 0 1 0 0 2\n0 0 1 0 0 3\n0 0 1 0 5 0\n5.0 V0 0 1 0 17 0\nFM.U0    LIMITS\r\n11 1 0 0 0 0\n";
+    "0 0 0 1 0 0 2\n0 0 0 1 0 0 3\n0 0 0 1 0 5 0\n5.0 V0 0 0 1 0 17 0\nFM.U0    LIMITS\r\n11 1 2 0 0 0 0\n";
 
 #[test]
 fn it_makes_the_file_and_answers_as_the_program_does() {
@@ -29,7 +29,10 @@ fn it_keeps_the_table_and_says_that_nothing_is_to_be_mended() {
     let path = folder.at("line.table");
     run_with(&["serve", &path], SCRIPT);
     let ran = run_with(&["serve", &path], b"RDS .R:LIMITS\n");
-    assert_eq!((ran.status, ran.out().as_str()), (0, "0 0 1 0 5 0\n5.0 V"));
+    assert_eq!(
+        (ran.status, ran.out().as_str()),
+        (0, "0 0 0 1 0 5 0\n5.0 V")
+    );
     assert_eq!(ran.err, format!("{path}: 1024 records, nothing to mend\n"));
 }
 
@@ -43,11 +46,11 @@ fn it_has_as_many_records_as_are_asked_for() {
     }
     let path = folder.file("full", &table(2, &[("CRD .R", b"")]));
     let ran = run_with(&["serve", &path, "--records", "2"], b"CRD .R:A\n");
-    assert_eq!(ran.out(), "19 0 0 0 0 0\n");
+    assert_eq!(ran.out(), "19 0 0 0 0 0 0\n");
     let empty = folder.file("empty", b"");
     assert_eq!(
         run_with(&["serve", &empty, "--records", "2"], b"CRD .R\n").out(),
-        "0 0 1 0 0 2\n"
+        "0 0 0 1 0 0 2\n"
     );
 }
 
@@ -66,15 +69,15 @@ fn it_acts_for_user_1_or_for_the_user_that_is_said() {
     let path = folder.at("line.table");
     assert_eq!(
         run_with(&["serve", &path], b"CRD .R\n").out(),
-        "0 0 1 0 0 2\n"
+        "0 0 0 1 0 0 2\n"
     );
     assert_eq!(
         run_with(&["serve", &path, "--user", "7"], b"LST .R\nCRD .G\n").out(),
-        "11 1 0 0 0 0\n0 0 1 0 0 2\n"
+        "11 1 1 0 0 0 0\n0 0 0 1 0 0 2\n"
     );
     assert_eq!(
         run_with(&["serve", &path, "--user", "1"], b"LST .\n").out(),
-        "0 0 1 0 13 0\nDM.U0    .R\r\n"
+        "0 0 0 1 0 13 0\nDM.U0    .R\r\n"
     );
 }
 
@@ -114,7 +117,7 @@ fn what_a_cut_left_is_mended_and_that_is_said() {
     assert_eq!(answer.number, filebox::Number::Stopped);
     let path = folder.file("cut", &cut);
     let ran = run_with(&["serve", &path], b"LST .R\n");
-    assert_eq!(ran.out(), "0 0 1 0 0 0\n");
+    assert_eq!(ran.out(), "0 0 0 1 0 0 0\n");
     assert!(
         ran.err
             .contains("mended: 4 records of a request that was cut are cleared"),
@@ -150,7 +153,7 @@ fn a_host_that_was_killed_leaves_no_lock() {
     drop(Serving::start(&["serve", &path], 2));
     assert_eq!(
         run_with(&["serve", &path], b"CRD .R\n").out(),
-        "0 0 1 0 0 2\n"
+        "0 0 0 1 0 0 2\n"
     );
 }
 

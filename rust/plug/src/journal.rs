@@ -8,12 +8,12 @@ use crate::seen::{equal, Checked};
 const HELD_LINE: usize = 257;
 const HELD_TEXT: usize = 24_001;
 
-/// A request that a fixture sent, and the answer, if it came: the six numbers, and the reply's bytes.
+/// A request that a fixture sent, and the answer, if it came: the seven numbers, and the reply's bytes.
 #[derive(Debug, Clone)]
 pub struct Told {
     pub line: Vec<u8>,
     pub text: Vec<u8>,
-    pub answer: Option<([u32; 6], Vec<u8>)>,
+    pub answer: Option<([u32; 7], Vec<u8>)>,
 }
 
 /// A request as the journal has it.

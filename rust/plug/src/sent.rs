@@ -7,7 +7,7 @@ use crate::wire::Asked;
 /// A request that was sent, and what it must come to.
 pub struct Sent {
     pub asked: Asked,
-    pub answer: [u32; 6],
+    pub answer: [u32; 7],
     before: Vec<u8>,
     pub after: Vec<u8>,
 }
@@ -17,7 +17,7 @@ impl Sent {
     fn new(asked: Asked, before: Vec<u8>) -> Sent {
         let sent = Sent {
             asked,
-            answer: [0; 6],
+            answer: [0; 7],
             before,
             after: Vec::new(),
         };

@@ -13,7 +13,7 @@ pub struct Asked {
 }
 
 /// The bytes of an answer on the pipe.
-pub const ANSWER_BYTES: usize = 24;
+pub const ANSWER_BYTES: usize = 28;
 
 impl Asked {
     /// The bytes of a request on the pipe: user, both lengths, line, text.
@@ -55,8 +55,8 @@ pub fn send(pipe: &mut impl Write, answer: Answer) -> io::Result<()> {
     pipe.write_all(&answer.numbers().map(u32::to_le_bytes).concat())
 }
 
-/// The six numbers that were sent in so many bytes.
-pub fn received(bytes: &[u8]) -> [u32; 6] {
+/// The seven numbers that were sent in so many bytes.
+pub fn received(bytes: &[u8]) -> [u32; 7] {
     let number = |at: usize| u32::from_le_bytes([0, 1, 2, 3].map(|byte| bytes[at * 4 + byte]));
-    [0, 1, 2, 3, 4, 5].map(number)
+    [0, 1, 2, 3, 4, 5, 6].map(number)
 }

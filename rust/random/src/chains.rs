@@ -54,6 +54,22 @@ pub fn old(random: &mut Random, table: &[u8], user: u32) -> String {
     }
 }
 
+/// A long chain, of up to twenty names, by entries that are there; mostly with one name in it, anywhere, that may not be there,
+/// or that no entry may have.
+pub fn long(random: &mut Random, table: &[u8], user: u32) -> String {
+    let most = 2 + random.below(18);
+    let mut names = down(random, table, BASE_FILE, user, most);
+    names.push(link(random).to_string());
+    for _ in 0..random.below(3) {
+        let at = random.below(names.len());
+        names[at] = match random.below(3) {
+            0 => random.pick(&["@", "", "ELEVENCHARS", "A@"]).to_string(),
+            _ => link(random).to_string(),
+        };
+    }
+    names.join(":")
+}
+
 /// A chain that could be new: a name after a chain that is there, or instead of its last name, or that chain itself.
 pub fn new(random: &mut Random, table: &[u8], user: u32) -> String {
     let old = old(random, table, user);

@@ -1,6 +1,6 @@
 //! Request lines that meet a table: well-formed and often granted, nearly well-formed, and rubbish.
 
-use crate::chains::{base, link, new, old};
+use crate::chains::{self, base, link, new, old};
 use crate::lines;
 use crate::parts::part;
 use crate::Random;
@@ -47,6 +47,26 @@ pub fn granted(random: &mut Random, table: &[u8], user: u32) -> String {
         39 | 40 => format!("LST {one}"),
         _ => "LST .".to_string(),
     }
+}
+
+/// A line of one of the nine functions with a long chain, which may be wrong at any link.
+pub fn long(random: &mut Random, table: &[u8], user: u32) -> Vec<u8> {
+    let (chain, other) = (chains::long(random, table, user), old(random, table, user));
+    let line = match random.below(12) {
+        0 => format!("CRD {chain}"),
+        1 => format!("WRS M {chain}"),
+        2 => format!("RDS {chain}"),
+        3 => format!("LST {chain}"),
+        4 => format!("CPY {chain} {other}"),
+        5 => format!("CPY {other} {chain}"),
+        6 => format!("DUP {chain} {other}"),
+        7 => format!("DUP {other} {chain} .4"),
+        8 => format!("CHN {chain} {}", link(random)),
+        9 => format!("DPR {chain} .4"),
+        10 => format!("DEL {chain}"),
+        _ => format!("DEL {other} {chain}"),
+    };
+    line.into_bytes()
 }
 
 /// A new link for the chain: for a base file mostly a base name, now and then the one that it has.

@@ -7,12 +7,13 @@ use beside::Answer;
 /// The byte that fills a reply buffer before each request.
 pub const UNTOUCHED: u8 = 0xEE;
 
-/// An answer from its six numbers: number, place, names, displaced, bytes, stores.
-pub fn answer(numbers: [u32; 6]) -> Answer {
-    let [number, place, names, displaced, bytes, stores] = numbers;
+/// An answer from its seven numbers: number, argument, link, names, displaced, bytes, stores.
+pub fn answer(numbers: [u32; 7]) -> Answer {
+    let [number, argument, link, names, displaced, bytes, stores] = numbers;
     Answer {
         number,
-        place,
+        argument,
+        link,
         names,
         displaced,
         bytes,
@@ -186,7 +187,7 @@ impl Bench {
     pub fn grant(&mut self, line: &str, text: &[u8]) -> Seen {
         let seen = self.ask(line, text);
         assert_eq!(seen.answer.number, 0, "{line}: {:?}", seen.answer);
-        assert_eq!(seen.answer.place, 0, "{line}");
+        assert_eq!((seen.answer.argument, seen.answer.link), (0, 0), "{line}");
         assert!(sound(&seen.table), "{line}: not sound after");
         let bytes = seen.answer.bytes as usize;
         let rest = &seen.reply[bytes..];
@@ -195,21 +196,32 @@ impl Bench {
         seen
     }
 
-    /// The request must be refused with this number and place, and change no byte.
-    pub fn refuse(&self, line: impl AsRef<[u8]>, text: &[u8], number: u32, place: u32) {
-        let shown = String::from_utf8_lossy(line.as_ref()).into_owned();
+    /// The request must be refused with this number and argument, and change no byte; its link is told in `links`.
+    pub fn refuse(&self, line: impl AsRef<[u8]>, text: &[u8], number: u32, argument: u32) {
+        self.refused(line.as_ref(), text, number, argument);
+    }
+
+    /// The request, with `TEXT`, must be refused with this number at this link of this argument, and change no byte.
+    pub fn refuse_at(&self, line: &str, number: u32, argument: u32, link: u32) {
+        let told = self.refused(line.as_bytes(), TEXT, number, argument);
+        assert_eq!(told, link, "{line}: the link");
+    }
+
+    /// The link of a request that must be refused with this number and argument, and change no byte.
+    fn refused(&self, line: &[u8], text: &[u8], number: u32, argument: u32) -> u32 {
+        let shown = String::from_utf8_lossy(line).into_owned();
         let seen = self.ask(line, text);
-        let expected = answer([number, place, 0, 0, 0, 0]);
-        assert_eq!(seen.answer, expected, "{shown}");
+        seen.refused(number, argument, &shown);
         assert!(seen.table == self.table, "{shown}: table changed");
         assert!(seen.untouched(), "{shown}: reply changed");
+        seen.answer.link
     }
 
     /// The reply bytes of a request that must be granted and store nothing.
     pub fn reply(&self, line: &str) -> Vec<u8> {
         let seen = self.ask(line, b"");
         let bytes = seen.answer.bytes;
-        assert_eq!(seen.answer, answer([0, 0, 1, 0, bytes, 0]), "{line}");
+        assert_eq!(seen.answer, answer([0, 0, 0, 1, 0, bytes, 0]), "{line}");
         assert!(seen.table == self.table, "{line}: table changed");
         let (front, rest) = seen.reply.split_at(bytes as usize);
         assert!(rest.iter().all(|byte| *byte == UNTOUCHED), "{line}: reply");
@@ -221,6 +233,13 @@ impl Bench {
 pub const TEXT: &[u8] = b"THIS TEXT HAS THIRTY BYTES: 30";
 
 impl Seen {
+    /// It was refused with this number and argument, at some link, with nothing done.
+    pub fn refused(&self, number: u32, argument: u32, line: &str) {
+        let link = self.answer.link;
+        let expected = answer([number, argument, link, 0, 0, 0, 0]);
+        assert_eq!(self.answer, expected, "{line}");
+    }
+
     /// Is the reply buffer as it was lent?
     pub fn untouched(&self) -> bool {
         self.reply.iter().all(|byte| *byte == UNTOUCHED)

@@ -179,7 +179,7 @@ impl Connection {
         self.answers.read_line(&mut line).unwrap();
         let bytes: usize = line
             .split(' ')
-            .nth(4)
+            .nth(5)
             .and_then(|word| word.parse().ok())
             .unwrap_or(0);
         let mut reply = vec![0; bytes];
