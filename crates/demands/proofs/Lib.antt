@@ -13,6 +13,8 @@ pub mod Mending
 pub mod PowerCut
 -- the listing: `directory-listing`, `base-listing`
 pub mod Listed
+-- the tree: `depth-one`, `first-line`, `shallower`
+pub mod Tree
 -- where entries stand: `entry-stood`, `others-stay`
 pub mod Standing
 -- give and take: `nobody-more`, `never-displaces`

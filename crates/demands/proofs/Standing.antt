@@ -15,13 +15,13 @@ use Rattle.paper.specs.Name.{dotG, pointed, chain}
 use Rattle.paper.specs.Declaration.{Part, orElse}
 use Rattle.paper.specs.Line.{Word}
 use Rattle.paper.specs.Check.{Check, passed, verdict}
-use Rattle.paper.specs.Request.{Begin, own, takeOf, giveTo, Request, crd, wrs, rds, cpy, dup, chn, del, dpr, lst, lstBase, request, asked}
+use Rattle.paper.specs.Request.{Begin, own, takeOf, giveTo, Request, crd, wrs, rds, cpy, dup, chn, del, dpr, lst, lstBase, lstTree, lstBaseTree, request, asked}
 use Rattle.paper.specs.Code.{joined}
 use Rattle.paper.specs.Entry.{Holder, baseList, stands}
 use Rattle.paper.specs.Block.{blocksOf, fileText}
 use Rattle.paper.specs.Walk.{State, start, file, reached, toDirectory, lastName}
 use Rattle.paper.specs.Store.{Store, clear, run}
-use Rattle.paper.specs.Effect.{listOf, begun, Plan, Planned, plan, halted, chainOf, Making, borne, placing, needed, freed, lost, settled, writeInhibited, linking, making, entryIn, filing, recoded, crdPlan, wrsPlan, cpyPlan, dupPlan, chnPlan, dprPlan, delPlan, rdsPlan, lstPlan, lstBasePlan}
+use Rattle.paper.specs.Effect.{listOf, begun, Plan, Planned, plan, halted, chainOf, Making, borne, placing, needed, freed, lost, settled, writeInhibited, linking, making, entryIn, filing, recoded, crdPlan, wrsPlan, cpyPlan, dupPlan, chnPlan, dprPlan, delPlan, rdsPlan, lstPlan, lstBasePlan, lstTreePlan, lstBaseTreePlan}
 use Rattle.paper.specs.Answer.{Outcome, ran, single, oneName, deleting, granted, requested}
 use Rattle.laws.proofs.Tests.{either}
 use Rattle.laws.proofs.Lists.{Every, every-append, every-each, every-imp, every-parts, every-take}
@@ -424,6 +424,8 @@ By (del ws) w = ⊥
 By (dpr name code) w = w ≡ mine name
 By (lst from name) w = ⊥
 By lstBase w = ⊥
+By (lstTree from name depth) w = ⊥
+By (lstBaseTree depth) w = ⊥
 
 -- as lent; or a step by the request's one name; or a DEL, name by name
 pub data Stood (t line body : List ℕ) (u : ℕ) (s : List ℕ) : Type 0 where
@@ -433,7 +435,7 @@ pub data Stood (t line body : List ℕ) (u : ℕ) (s : List ℕ) : Type 0 where
 
 -- the theorem: every table, line, text, reply, user and stop number
 pub entry-stood : (t line body reply : List ℕ) (u k : ℕ) → Stood t line body u (requested t line body reply u k .table)
-unfolding granted rdsPlan lstPlan lstBasePlan
+unfolding granted rdsPlan lstPlan lstBasePlan lstTreePlan lstBaseTreePlan
 entry-stood t line body reply u k = go (course t line body reply u)
   where
     by : (r : Request) → asked line body ≡ request r → (w : Aim) → By r w → (x : Planned)
@@ -470,6 +472,10 @@ entry-stood t line body reply u k = go (course t line body reply u)
         shows (lstPlan t (listOf u from) reply (begun from name))
         (end-by Shows 1 (λ _ _ _. tt) t (listOf u from) (begun from name) _ (λ _ _ _ _. refl))
     grants c l lstBase q h = shows (lstBasePlan t u reply) refl
+    grants c l (lstTree from name depth) q h =
+        shows (lstTreePlan t (listOf u from) reply (begun from name) depth)
+        (end-by Shows 1 (λ _ _ _. tt) t (listOf u from) (begun from name) _ (λ _ _ _ _. refl))
+    grants c l (lstBaseTree depth) q h = shows (lstBaseTreePlan t u reply depth) refl
 
     go : Course t line body reply u → Stood t line body u (requested t line body reply u k .table)
     go (untried f h e) = rw (e k) (lent refl)

@@ -5,8 +5,8 @@ use mathlib.Core.Path.{_≡_}
 use Prim.Native.Nat.{ℕ, _≤_}
 use Rattle.paper.specs.Line.{Word}
 use Rattle.paper.specs.Check.{Refusal}
-use Rattle.paper.specs.Request.{Request, crd, wrs, rds, cpy, dup, chn, del, dpr, lst, lstBase, request, asked}
-use Rattle.paper.specs.Effect.{listOf, begun, Planned, crdPlan, wrsPlan, rdsPlan, cpyPlan, dupPlan, chnPlan, dprPlan, lstPlan, lstBasePlan}
+use Rattle.paper.specs.Request.{Request, crd, wrs, rds, cpy, dup, chn, del, dpr, lst, lstBase, lstTree, lstBaseTree, request, asked}
+use Rattle.paper.specs.Effect.{listOf, begun, Planned, crdPlan, wrsPlan, rdsPlan, cpyPlan, dupPlan, chnPlan, dprPlan, lstPlan, lstBasePlan, lstTreePlan, lstBaseTreePlan}
 use Rattle.paper.specs.Answer.{refusing, ran, single, deleting, granted, requested}
 use Rattle.laws.proofs.Entries.{link-short}
 use Rattle.demands.proofs.Sound.Clauses.{Sound, sound-clauses}
@@ -14,9 +14,9 @@ use Rattle.demands.proofs.Request.Formed.{named-last}
 use Rattle.demands.proofs.Request.Begun.{list-most}
 use Rattle.demands.proofs.Request.Read.{Told}
 use Rattle.demands.proofs.Request.Course.{Course, untried, tried, course}
-use Rattle.demands.proofs.SoundKept.Kept.{Keeps, dpr-keeps, rds-keeps, lst-keeps, lstBase-keeps}
+use Rattle.demands.proofs.SoundKept.Kept.{Keeps, dpr-keeps, rds-keeps, lst-keeps, lstBase-keeps, lstTree-keeps, lstBaseTree-keeps}
 use Rattle.demands.proofs.SoundKept.Keeping.{crd-keeps, wrs-keeps, cpy-keeps, dup-keeps, chn-kept}
-use Rattle.demands.proofs.PowerCut.Plans.{Safe, crd-safe, wrs-safe, cpy-safe, dup-safe, chn-safe, dpr-safe, rds-safe, lst-safe, lst-base-safe}
+use Rattle.demands.proofs.PowerCut.Plans.{Safe, crd-safe, wrs-safe, cpy-safe, dup-safe, chn-safe, dpr-safe, rds-safe, lst-safe, lst-base-safe, lst-tree-safe, lst-base-tree-safe}
 
 pub data Tried (t line text reply : List ℕ) (u : ℕ) : Type 0 where
   lent : (f : Refusal) → ((k : ℕ) → requested t line text reply u k ≡ refusing t reply f) → Tried t line text reply u
@@ -55,6 +55,11 @@ module _ (t line text reply : List ℕ) (u : ℕ) where
       by-plan (lstPlan t (listOf u from) reply (begun from name)) (lst-safe t c (listOf u from) reply (begun from name))
       (lst-keeps t (listOf u from) reply (begun from name) c)
   tries c m lstBase a h = by-plan (lstBasePlan t u reply) (lst-base-safe t c u reply) (lstBase-keeps t u reply c)
+  tries c m (lstTree from name depth) a h =
+      by-plan (lstTreePlan t (listOf u from) reply (begun from name) depth) (lst-tree-safe t c (listOf u from) reply (begun from name) depth)
+      (lstTree-keeps t (listOf u from) reply (begun from name) depth c)
+  tries c m (lstBaseTree depth) a h =
+      by-plan (lstBaseTreePlan t u reply depth) (lst-base-tree-safe t c u reply depth) (lstBaseTree-keeps t u reply depth c)
 
   pub ways : Tried t line text reply u
   ways = go (course t line text reply u)

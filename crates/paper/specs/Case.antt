@@ -151,6 +151,31 @@ reads table after n number argument out =
     asks table (rds (dotR ++ after)) [] (replicate n 0) 1 9
     (answer number argument 0 (yesNo (eqb number 0)) 0 (length out) 0) table (out ++ replicate (n - length out) 0)
 
+-- `LST* ` name, a blank and a digit; an entry of code c, one letter, in directory d, that names heading h
+abbrev pub lstStar : List ℕ → (digit : ℕ) → List ℕ
+lstStar name digit = 76 ∷ 83 ∷ 84 ∷ 42 ∷ 32 ∷ name ++ 32 ∷ digit ∷ []
+
+abbrev pub within : (d letter h c : ℕ) → List ℕ
+within d letter h c = 2 ∷ c ∷ d ∷ 0 ∷ h ∷ 0 ∷ 0 ∷ 0 ∷ 0 ∷ 1 ∷ letter ∷ replicate 21 0
+
+-- `.R` of user 1 holds the directory D, of this code, and the simple file E; D holds the simple file F, of code 1
+abbrev pub branches : (code : ℕ) → List ℕ
+branches code = headingR ++ entryR ++ headingR ++ within 0 68 2 code ++ sheet 1 ++ within 0 69 4 0 ++ within 2 70 4 1
+
+-- .. and their lines: `DM.U` and the code of D; `FM.P0    E`; two blanks and `FM.P1    F`
+abbrev pub lineD : (code : ℕ) → List ℕ
+lineD code = 68 ∷ 77 ∷ 46 ∷ 85 ∷ code ∷ 32 ∷ 32 ∷ 32 ∷ 32 ∷ 68 ∷ 13 ∷ 10 ∷ []
+
+abbrev pub lineE : List ℕ
+lineE = 70 ∷ 77 ∷ 46 ∷ 80 ∷ 48 ∷ 32 ∷ 32 ∷ 32 ∷ 32 ∷ 69 ∷ 13 ∷ 10 ∷ []
+
+abbrev pub lineF : List ℕ
+lineF = 70 ∷ 77 ∷ 46 ∷ 80 ∷ 49 ∷ 32 ∷ 32 ∷ 32 ∷ 32 ∷ 70 ∷ 13 ∷ 10 ∷ []
+
+-- a directory `.R` of user 1 that holds itself as D
+abbrev pub loop : List ℕ
+loop = headingR ++ entryR ++ within 0 68 0 0
+
 unfoldable pub cases : List Case
 cases =
     -- "code 1 joined with 4 is 5; 2 with 6 is 6"
@@ -243,4 +268,25 @@ cases =
     ∷ reads lettered (32 ∷ 49 ∷ 58 ∷ 50 ∷ []) 9 27 2 []
     ∷ reads lettered (32 ∷ replicate 7 48) 9 27 2 []
     ∷ reads lettered (32 ∷ replicate 5 48 ++ 55 ∷ []) 9 0 0 (72 ∷ 73 ∷ [])
+    -- "`LST*` name digit lists a directory and, under each entry that is a readable directory, its entries": F under D, two blanks more
+    -- in front, its own code and not that of D joined with it; the byte after them as it was
+    ∷ asks (branches 4) (lstStar dotR 50) [] (replicate 39 7) 1 9 (answer 0 0 0 1 0 38 0) (branches 4) (lineD 52 ++ 32 ∷ 32 ∷ lineF ++ lineE ++ 7 ∷ [])
+    -- "Depth 1 equals LST"
+    ∷ asks (branches 4) (lstStar dotR 49) [] (replicate 24 7) 1 9 (answer 0 0 0 1 0 24 0) (branches 4) (lineD 52 ++ lineE)
+    -- "Read-inhibited directories show their own line only."
+    ∷ asks (branches 2) (lstStar dotR 56) [] (replicate 24 7) 1 9 (answer 0 0 0 1 0 24 0) (branches 2) (lineD 50 ++ lineE)
+    -- "20 for a short buffer": "The needed length is judged before anything is written."
+    ∷ asks (branches 4) (lstStar dotR 50) [] (replicate 37 7) 1 9 (answer 20 0 0 0 0 0 0) (branches 4) (replicate 37 7)
+    -- "so loops end"
+    ∷ asks loop (lstStar dotR 51) [] (replicate 42 7) 1 9 (answer 0 0 0 1 0 42 0) loop
+    (lineD 48 ++ 32 ∷ 32 ∷ lineD 48 ++ 32 ∷ 32 ∷ 32 ∷ 32 ∷ lineD 48)
+    -- "a lone point and request g's `.nnnnnn` included"
+    ∷ asks (headingR ++ nights 84 0 ++ within 0 68 0 0) (lstStar night 49) [] (replicate 12 7) 1 9 (answer 0 0 0 1 0 12 0)
+    (headingR ++ nights 84 0 ++ within 0 68 0 0) (lineD 48)
+    ∷ asks loop (lstStar (46 ∷ []) 50) [] (replicate 27 7) 1 9 (answer 0 0 0 1 0 27 0) loop
+    (68 ∷ 77 ∷ 46 ∷ 85 ∷ 48 ∷ 32 ∷ 32 ∷ 32 ∷ 32 ∷ 46 ∷ 82 ∷ 13 ∷ 10 ∷ 32 ∷ 32 ∷ lineD 48)
+    -- "9 for another digit"; 8 before it
+    ∷ asks [] (lstStar dotR 48) [] [] 1 9 (answer 9 2 0 0 0 0 0) [] []
+    ∷ asks [] (lstStar dotR 57) [] [] 1 9 (answer 9 2 0 0 0 0 0) [] []
+    ∷ asks [] (lstStar (46 ∷ 49 ∷ []) 57) [] [] 1 9 (answer 8 1 1 0 0 0 0) [] []
     ∷ []

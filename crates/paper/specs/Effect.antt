@@ -17,7 +17,7 @@ use Rattle.paper.specs.Entry.{find, full, named, peopled}
 use Rattle.paper.specs.Block.{blocks, block, blocksOf, fileText}
 use Rattle.paper.specs.Walk.{State, start, file, Walked, reached, stopped, toDirectory, lastName, End, arrived, astray, ended}
 use Rattle.paper.specs.Store.{Store, puts, clear}
-use Rattle.paper.specs.Listing.{directoryLines, baseLines}
+use Rattle.paper.specs.Listing.{directoryLines, baseLines, directoryTree, baseTree}
 
 -- what a request does where its walks end: its end checks, its stores, whether an entry is displaced, and what it writes
 pub record Plan : Type 0 where
@@ -312,3 +312,13 @@ lstPlan t u reply name =
 -- "LST of a lone point"
 unfoldable pub lstBasePlan : List ℕ → ℕ → List ℕ → Planned
 lstBasePlan t u reply = writing [] (baseLines t u) reply
+
+-- "`LST*` name digit lists a directory and, under each entry that is a readable directory, its entries"
+unfoldable pub lstTreePlan : List ℕ → ℕ → List ℕ → Word → ℕ → Planned
+lstTreePlan t u reply name depth =
+    toEnd t u 1 name
+    (λ _ f. writing (readInhibited (endOf 1 name) f ∷ noDirectory (endOf 1 name) t f ∷ []) (directoryTree t depth 0 (file t f)) reply)
+
+-- ".. a lone point .. included"
+unfoldable pub lstBaseTreePlan : List ℕ → ℕ → List ℕ → ℕ → Planned
+lstBaseTreePlan t u reply depth = writing [] (baseTree t depth u) reply

@@ -28,6 +28,8 @@ pub data Request : Type 0 where
   dpr : (name : Word) (code : ℕ) → Request
   lst : (from : Begin) (name : Word) → Request
   lstBase : Request
+  lstTree : (from : Begin) (name : Word) (depth : ℕ) → Request
+  lstBaseTree : (depth : ℕ) → Request
 
 pub data Read : Type 0 where
   request : Request → Read
@@ -222,9 +224,31 @@ unfoldable pub readDel : List ℕ → Read
 readDel line =
     readAs (del (drop 1 (words line))) (verdict (miscounted 1 8 line ∷ misnamed 1 (length (words line)) line))
 
+-- "the digit's depth, 1 to 8": one byte
+unfoldable pub depthOf : List ℕ → Part
+depthOf w = cond (eqb (length w) 1 && (leb 49 (getD w 0 0) && leb (getD w 0 0) 56)) (given (getD w 0 0 - 48)) notGiven
+
+-- a digit has no colon
+abbrev pub depthGiven : List (List ℕ) → Part
+depthGiven [] = notGiven
+depthGiven (w ∷ []) = depthOf w
+depthGiven (w ∷ v ∷ ws) = notGiven
+
+-- "`LST*` name digit": the same names as LST, "a lone point and request g's `.nnnnnn` included"; "9 for another digit"
+unfoldable pub readTree : List ℕ → Read
+readTree line =
+    cond (lonePoint (word line 1 .names))
+    (after (verdict (miscounted 2 2 line ∷ [])) (needed 2 (depthGiven (word line 2 .names)) (λ depth. lstBaseTree depth)))
+    (after (verdict (miscounted 2 2 line ∷ malformed 1 (word line 1) ∷ illegalBut isTake 1 (word line 1) ∷ []))
+    (needed 2 (depthGiven (word line 2 .names)) (λ depth. lstTree (oldFrom (word line 1)) (word line 1) depth)))
+
 -- the first word is the function of these three letters
 abbrev pub isFunction : ℕ → ℕ → ℕ → List ℕ → Bool
 isFunction a b c line = alone (a ∷ b ∷ c ∷ []) (word line 0 .names)
+
+-- .. or `LST*`, one word
+abbrev pub isTree : List ℕ → Bool
+isTree line = alone (76 ∷ 83 ∷ 84 ∷ 42 ∷ []) (word line 0 .names)
 
 -- 5: "no such function, empty line"
 unfoldable pub readFunction : List ℕ → Read
@@ -238,7 +262,8 @@ readFunction line =
     (cond (isFunction 68 69 76 line) (readDel line)
     (cond (isFunction 68 80 82 line) (readDpr line)
     (cond (isFunction 76 83 84 line) (readLst line)
-    (unread (refusalAt 5 (whole 0)))))))))))
+    (cond (isTree line) (readTree line)
+    (unread (refusalAt 5 (whole 0))))))))))))
 
 -- 4: "line too long, or a byte outside 32..95"
 unfoldable pub read : List ℕ → Read
@@ -256,6 +281,8 @@ textTooLong (del names) text = false
 textTooLong (dpr name code) text = false
 textTooLong (lst from name) text = false
 textTooLong lstBase text = false
+textTooLong (lstTree from name depth) text = false
+textTooLong (lstBaseTree depth) text = false
 
 abbrev pub withText : List ℕ → Read → Read
 withText text (request r) = readAs r (verdict (check (textTooLong r text) 10 (whole 0) ∷ []))

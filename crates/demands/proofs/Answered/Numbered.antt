@@ -13,7 +13,7 @@ use Rattle.paper.specs.Line.{Word}
 use Rattle.paper.specs.Check.{atLink, Refusal, refusalAt, Check}
 use Rattle.paper.specs.Request.{Begin, own, takeOf, giveTo}
 use Rattle.paper.specs.Walk.{State}
-use Rattle.paper.specs.Effect.{Plan, Planned, plan, halted, chainOf, endOf, toHolder, toEnd, Making, making, linkTaken, linking, showing, readInhibited, notSimple, noDirectory, writeInhibited, tooShort, crdPlan, wrsPlan, rdsPlan, cpyPlan, dupPlan, chnPlan, delPlan, dprPlan, lstPlan, lstBasePlan}
+use Rattle.paper.specs.Effect.{Plan, Planned, plan, halted, chainOf, endOf, toHolder, toEnd, Making, making, linkTaken, linking, showing, readInhibited, notSimple, noDirectory, writeInhibited, tooShort, crdPlan, wrsPlan, rdsPlan, cpyPlan, dupPlan, chnPlan, delPlan, dprPlan, lstPlan, lstBasePlan, lstTreePlan, lstBaseTreePlan}
 use Rattle.laws.proofs.Lists.{Every, every-append, every-parts}
 use Rattle.demands.proofs.Request.Fair.{Idle, Fair, FairCheck, Chained, ofChain, verdict-fair, fair-line, fair-linked, fair-end, fair-whole}
 use Rattle.demands.proofs.Request.Steps.{Walks, Halts, holder-within, end-within}
@@ -150,3 +150,12 @@ module _ (names : ℕ → List (List ℕ)) (t reply : List ℕ) (u : ℕ) where
   pub fair-lstBasePlan : FairPlanned names reply (lstBasePlan t u reply)
   unfolding lstBasePlan
   fair-lstBasePlan = fair-showing [] [] _ tt tt
+
+  pub fair-lstTreePlan : (w : Word) (depth : ℕ) → Chained names 1 w → FairPlanned names reply (lstTreePlan t u reply w depth)
+  unfolding lstTreePlan
+  fair-lstTreePlan w depth c =
+      fair-toEnd names reply 1 w c t u _ (λ _ f. fair-reading w c f (noDirectory (endOf 1 w) t f) [] _ (fair-end names 15 1 w refl c) tt)
+
+  pub fair-lstBaseTreePlan : (depth : ℕ) → FairPlanned names reply (lstBaseTreePlan t u reply depth)
+  unfolding lstBaseTreePlan
+  fair-lstBaseTreePlan depth = fair-showing [] [] _ tt tt

@@ -6,14 +6,14 @@ use mathlib.Core.Path.{_≡_, refl}
 use Prim.Native.Nat.{ℕ}
 use Rattle.paper.specs.Line.{Word}
 use Rattle.paper.specs.Check.{Refusal}
-use Rattle.paper.specs.Request.{Request, crd, wrs, rds, cpy, dup, chn, del, dpr, lst, lstBase, request, asked}
-use Rattle.paper.specs.Effect.{listOf, begun, Planned, crdPlan, wrsPlan, rdsPlan, cpyPlan, dupPlan, chnPlan, dprPlan, lstPlan, lstBasePlan}
+use Rattle.paper.specs.Request.{Request, crd, wrs, rds, cpy, dup, chn, del, dpr, lst, lstBase, lstTree, lstBaseTree, request, asked}
+use Rattle.paper.specs.Effect.{listOf, begun, Planned, crdPlan, wrsPlan, rdsPlan, cpyPlan, dupPlan, chnPlan, dprPlan, lstPlan, lstBasePlan, lstTreePlan, lstBaseTreePlan}
 use Rattle.paper.specs.Answer.{refusing, ran, single, deleting, granted, requested}
 use Rattle.demands.proofs.Request.Fair.{Fair}
 use Rattle.demands.proofs.Request.Chains.{namesAt}
 use Rattle.demands.proofs.Request.Spoken.{Spoken}
 use Rattle.demands.proofs.Request.Course.{Course, untried, tried, course}
-use Rattle.demands.proofs.Answered.Numbered.{FairPlanned, fair-crdPlan, fair-wrsPlan, fair-rdsPlan, fair-cpyPlan, fair-dupPlan, fair-chnPlan, fair-dprPlan, fair-lstPlan, fair-lstBasePlan}
+use Rattle.demands.proofs.Answered.Numbered.{FairPlanned, fair-crdPlan, fair-wrsPlan, fair-rdsPlan, fair-cpyPlan, fair-dupPlan, fair-chnPlan, fair-dprPlan, fair-lstPlan, fair-lstBasePlan, fair-lstTreePlan, fair-lstBaseTreePlan}
 
 abbrev pub isDel : Request → Bool
 isDel (crd w level code) = false
@@ -26,6 +26,8 @@ isDel (del ws) = true
 isDel (dpr w code) = false
 isDel (lst from w) = false
 isDel lstBase = false
+isDel (lstTree from w depth) = false
+isDel (lstBaseTree depth) = false
 
 -- the three ways of a request, each the same for every stop number
 pub data Came (t line text reply : List ℕ) (u : ℕ) : Type 0 where
@@ -66,6 +68,10 @@ came t line text reply u = go (course t line text reply u)
     grants (lst from w) q s =
         planned (lst from w) q refl (lstPlan t (listOf u from) reply (begun from w)) (fair-lstPlan names t reply (listOf u from) (begun from w) s)
     grants lstBase q s = planned lstBase q refl (lstBasePlan t u reply) (fair-lstBasePlan names t reply u)
+    grants (lstTree from w depth) q s =
+        planned (lstTree from w depth) q refl (lstTreePlan t (listOf u from) reply (begun from w) depth)
+        (fair-lstTreePlan names t reply (listOf u from) (begun from w) depth s)
+    grants (lstBaseTree depth) q s = planned (lstBaseTree depth) q refl (lstBaseTreePlan t u reply depth) (fair-lstBaseTreePlan names t reply u depth)
 
     go : Course t line text reply u → Came t line text reply u
     go (untried f h e) = lent f h e

@@ -16,7 +16,7 @@ use Rattle.paper.specs.Request.{Begin}
 use Rattle.paper.specs.Block.{fileText}
 use Rattle.paper.specs.Walk.{State, file, reached, toLast, lastName}
 use Rattle.paper.specs.Store.{puts}
-use Rattle.paper.specs.Effect.{Planned, plan, halted, chainOf, toHolder, toEnd, Making, borne, placing, needed, writeInhibited, making, filing, crdPlan, wrsPlan, cpyPlan, dupPlan, chnPlan, dprPlan, delPlan, rdsPlan, lstPlan, lstBasePlan}
+use Rattle.paper.specs.Effect.{Planned, plan, halted, chainOf, toHolder, toEnd, Making, borne, placing, needed, writeInhibited, making, filing, crdPlan, wrsPlan, cpyPlan, dupPlan, chnPlan, dprPlan, delPlan, rdsPlan, lstPlan, lstBasePlan, lstTreePlan, lstBaseTreePlan}
 use Rattle.laws.proofs.Lists.{Every, every-parts}
 use Rattle.laws.proofs.Fields.{entry-record-kind, length-entry}
 use Rattle.laws.proofs.Entries.{found-stands}
@@ -145,3 +145,11 @@ module _ (t : List ℕ) (c : Sound t) where
   pub lst-base-safe : (u : ℕ) (reply : List ℕ) → Safe t (lstBasePlan t u reply)
   unfolding lstBasePlan
   lst-base-safe u reply _ = none refl
+
+  pub lst-tree-safe : (u : ℕ) (reply : List ℕ) (name : Word) (depth : ℕ) → Safe t (lstTreePlan t u reply name depth)
+  unfolding lstTreePlan
+  lst-tree-safe u reply name depth = end-safe t u 1 name _ (λ d f _ _. none refl)
+
+  pub lst-base-tree-safe : (u : ℕ) (reply : List ℕ) (depth : ℕ) → Safe t (lstBaseTreePlan t u reply depth)
+  unfolding lstBaseTreePlan
+  lst-base-tree-safe u reply depth _ = none refl

@@ -1,5 +1,5 @@
--- Which arguments of a line are chains: all but declarations, the link of CHN and RDS's numbers. The first word is one function, so it is no other.
--- Each argument has a name, even an empty one, since a word has one more than it has colons.
+-- Which arguments of a line are chains: all but declarations, the link of CHN, RDS's numbers and LST*'s digit. The first word is one
+-- function, so it is no other. Each argument has a name, even an empty one, since a word has one more than it has colons.
 use mathlib.Core.Bool.{Bool, true, _&&_, _||_, cond, true≢false}
 use mathlib.Core.List.{List, [], _∷_, map}
 use mathlib.Core.Path.{_≡_, sym}
@@ -9,19 +9,19 @@ use lib.ListN.{length, getD}
 use lib.Dec.{eqb}
 use Rattle.paper.specs.Name.{alone}
 use Rattle.paper.specs.Line.{Spot, blankSpot, colonSpot, placed, closed, grow, split, Word, solid, words, word}
-use Rattle.paper.specs.Request.{isFunction}
 use Rattle.laws.proofs.Tests.{either}
 use Rattle.laws.proofs.Lists.{Every}
 use Rattle.laws.proofs.Entries.{same-true}
 
 -- "any argument that is no chain", by the first word's names: "CRD name [decl]", "CHN old link", "DPR name decl"; "WRS decl name";
--- "CPY, DUP old new [decl]"; "RDS name first count"
+-- "CPY, DUP old new [decl]"; "RDS name first count"; "`LST*` name digit"
 abbrev pub noChain : (function : List (List ℕ)) (argument : ℕ) → Bool
 noChain function argument =
     (alone (67 ∷ 82 ∷ 68 ∷ []) function || alone (67 ∷ 72 ∷ 78 ∷ []) function || alone (68 ∷ 80 ∷ 82 ∷ []) function) && eqb argument 2
     || alone (87 ∷ 82 ∷ 83 ∷ []) function && eqb argument 1
     || (alone (67 ∷ 80 ∷ 89 ∷ []) function || alone (68 ∷ 85 ∷ 80 ∷ []) function) && eqb argument 3
     || alone (82 ∷ 68 ∷ 83 ∷ []) function && (eqb argument 2 || eqb argument 3)
+    || alone (76 ∷ 83 ∷ 84 ∷ 42 ∷ []) function && eqb argument 2
 
 -- the names of an argument, none where it is no chain
 abbrev pub namesAt : List ℕ → (argument : ℕ) → List (List ℕ)
@@ -34,13 +34,13 @@ abbrev pub IsNone : List ℕ → ℕ → Type 0
 IsNone line argument = namesAt line argument ≡ []
 
 -- the first word is this function: which arguments are chains is computed
-pub names-by : (line : List ℕ) (a b c argument : ℕ) → isFunction a b c line ≡ true
-    → namesAt line argument ≡ cond (noChain ((a ∷ b ∷ c ∷ []) ∷ []) argument) [] (word line argument .names)
-names-by line a b c argument e = rw (go (word line 0 .names) e)
+pub names-by : (line function : List ℕ) (argument : ℕ) → alone function (word line 0 .names) ≡ true
+    → namesAt line argument ≡ cond (noChain (function ∷ []) argument) [] (word line argument .names)
+names-by line function argument e = rw (go (word line 0 .names) e)
   where
-    go : (ns : List (List ℕ)) → alone (a ∷ b ∷ c ∷ []) ns ≡ true → ns ≡ (a ∷ b ∷ c ∷ []) ∷ []
+    go : (ns : List (List ℕ)) → alone function ns ≡ true → ns ≡ function ∷ []
     go [] e = absurd (true≢false (sym e))
-    go (n ∷ []) e = rw (same-true n (a ∷ b ∷ c ∷ []) e)
+    go (n ∷ []) e = rw (same-true n function e)
     go (n ∷ m ∷ ns) e = absurd (true≢false (sym e))
 
 -- ---- names there are

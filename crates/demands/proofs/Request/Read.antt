@@ -1,6 +1,6 @@
 -- What reading gives: a request as its function needs it. A reader is a few checks in number order, so a request comes out only where
 -- none of them held, and each fact of it is the opposite of a check.
-use mathlib.Core.Bool.{Bool, true, false, _&&_, not, true≢false}
+use mathlib.Core.Bool.{Bool, true, false, _&&_, not, cond, true≢false}
 use mathlib.Core.List.{List, [], _∷_, _++_, append-nil}
 use mathlib.Core.Path.{_≡_, sym, refl, subst}
 use Prim.Native.Nat.{ℕ, _+_, _-_, _≤_, _<_}
@@ -15,7 +15,7 @@ use Rattle.paper.specs.Declaration.{Part, given, notGiven, isGiven, Parts, fits
 use Rattle.paper.specs.Line.{Word, words, word, legalLine}
 use Rattle.paper.specs.Octal.{partOf}
 use Rattle.paper.specs.Check.{whole, Check, check, Verdict, passed, refused, verdict}
-use Rattle.paper.specs.Request.{declaredAt, octalAt, partsAt, Begin, oldFrom, isTake, isTakeWithin, illegalBut, Request, crd, wrs, rds, cpy, dup, chn, del, dpr, lst, lstBase, Read, request, unread, after, needed, readAs, counted, miscounted, malformed, illegal, unfit, each, between, misnamed, readCrd, readWrs, readRds, readLst, readCpy, readDup, linkAlone, readChn, readDpr, readDel, isFunction, readFunction, read, textTooLong, withText, asked}
+use Rattle.paper.specs.Request.{declaredAt, octalAt, partsAt, Begin, oldFrom, isTake, isTakeWithin, illegalBut, Request, crd, wrs, rds, cpy, dup, chn, del, dpr, lst, lstBase, lstTree, lstBaseTree, Read, request, unread, after, needed, readAs, counted, miscounted, malformed, illegal, unfit, each, between, misnamed, readCrd, readWrs, readRds, readLst, readCpy, readDup, linkAlone, readChn, readDpr, readDel, depthOf, depthGiven, readTree, isFunction, isTree, readFunction, read, textTooLong, withText, asked}
 use Rattle.paper.specs.Walk.{lastName}
 use Rattle.paper.specs.Effect.{begun}
 use Rattle.laws.proofs.Tests.{and-left, and-right, and-parts, either}
@@ -65,6 +65,14 @@ pub record DprRead (w : Word) (c : ℕ) : Type 0 where
   pub name : Named w
   pub code : c ≤ 7
 
+-- "the digit's depth, 1 to 8"
+abbrev pub Depth : ℕ → Type 0
+Depth d = (1 ≤ d) × (d ≤ 8)
+
+pub record TreeRead (w : Word) (d : ℕ) : Type 0 where
+  pub name : Named w
+  pub depth : Depth d
+
 abbrev pub Told : List ℕ → Request → Type 0
 Told text (crd name level code) = CrdRead name level code
 Told text (wrs lifetime level code name) = WrsRead text lifetime level code name
@@ -76,6 +84,8 @@ Told text (del names) = DelRead names
 Told text (dpr name code) = DprRead name code
 Told text (lst from name) = Named (begun from name)
 Told text lstBase = Unit {0}
+Told text (lstTree from name depth) = TreeRead (begun from name) depth
+Told text (lstBaseTree depth) = Depth depth
 
 -- ---- what the checks give
 
@@ -161,6 +171,27 @@ heard-needed : (text : List ℕ) (place : ℕ) (p : Part) (r : ℕ → Request) 
 heard-needed text place (given n) r h = h n refl
 heard-needed text place notGiven r h = tt
 
+-- a digit that is given is from 1 to 8
+digit-within : (w : List ℕ) → Within 1 8 (depthOf w)
+unfolding depthOf
+digit-within w = go (eqb (length w) 1 && (leb 49 (getD w 0 0) && leb (getD w 0 0) 56)) refl
+  where
+    go : (b : Bool) → (eqb (length w) 1 && (leb 49 (getD w 0 0) && leb (getD w 0 0) 56)) ≡ b → Within 1 8 (cond b (given (getD w 0 0 - 48)) notGiven)
+    go true e =
+        let r = and-right (eqb (length w) 1) _ e in
+        let a = leb-true 49 (getD w 0 0) (and-left (leb 49 (getD w 0 0)) _ r) in
+        let z = leb-true (getD w 0 0) 56 (and-right (leb 49 (getD w 0 0)) _ r) in
+        (omega arith, omega arith)
+    go false e = tt
+
+depth-within : (ns : List (List ℕ)) → Within 1 8 (depthGiven ns)
+depth-within [] = tt
+depth-within (w ∷ []) = digit-within w
+depth-within (w ∷ v ∷ ws) = tt
+
+depth-given : (ns : List (List ℕ)) (d : ℕ) → depthGiven ns ≡ given d → Depth d
+depth-given ns d e = rw e at (depth-within ns)
+
 module _ (line text : List ℕ) where
   -- the usual reader: the count, the names from word a up to b, and the checks after them
   reader : (least most a b : ℕ) (cs : List Check) (x : Read)
@@ -200,10 +231,14 @@ module _ (line text : List ℕ) where
       }))
 
   -- the count, a name that may be a take, and the checks after it
+  take-heard : (least most : ℕ) (late : List Check) (x : Read) → (Named (begun (oldFrom (word line 1)) (word line 1)) → Heard text x)
+      → Heard text (after (verdict (miscounted least most line ∷ malformed 1 (word line 1) ∷ illegalBut isTake 1 (word line 1) ∷ late)) x)
+  take-heard least most late x told =
+      heard-after text x _ (λ h. told (old-named isTake 1 (word line 1) (λ e. e) (h .1 .0) (h .1 .1 .0)))
+
   take-read : (most : ℕ) (late : List Check) (r : Request) → (Named (begun (oldFrom (word line 1)) (word line 1)) → Told text r)
       → Heard text (readAs r (verdict (miscounted 1 most line ∷ malformed 1 (word line 1) ∷ illegalBut isTake 1 (word line 1) ∷ late)))
-  take-read most late r told =
-      heard-after text (request r) _ (λ h _. told (old-named isTake 1 (word line 1) (λ e. e) (h .1 .0) (h .1 .1 .0)))
+  take-read most late r told = take-heard 1 most late (request r) (λ n _. told n)
 
   heard-rds : Heard text (readRds line)
   unfolding readRds
@@ -215,6 +250,14 @@ module _ (line text : List ℕ) where
   heard-lst =
       either (Heard text) (lonePoint (word line 1 .names)) _ _ (heard-after text (request lstBase) _ (λ _ _. tt))
       (take-read 1 [] (lst (oldFrom (word line 1)) (word line 1)) (λ n. n))
+
+  heard-tree : Heard text (readTree line)
+  unfolding readTree
+  heard-tree =
+      either (Heard text) (lonePoint (word line 1 .names)) _ _
+      (heard-after text _ _ (λ _. heard-needed text 2 (depthGiven (word line 2 .names)) _ (λ d e _. depth-given (word line 2 .names) d e)))
+      (take-heard 2 2 [] _ (λ n.
+      heard-needed text 2 (depthGiven (word line 2 .names)) _ (λ d e _. record { name = n; depth = depth-given (word line 2 .names) d e })))
 
   heard-cpy : Heard text (readCpy line)
   unfolding readCpy
@@ -287,7 +330,8 @@ module _ (line text : List ℕ) where
       (either (Heard text) (isFunction 68 69 76 line) _ _ heard-del
       (either (Heard text) (isFunction 68 80 82 line) _ _ heard-dpr
       (either (Heard text) (isFunction 76 83 84 line) _ _ heard-lst
-      tt))))))))
+      (either (Heard text) (isTree line) _ _ heard-tree
+      tt)))))))))
 
   heard : Heard text (read line)
   unfolding read

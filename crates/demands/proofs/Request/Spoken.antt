@@ -14,7 +14,7 @@ use Rattle.paper.specs.Declaration.{Part, given, notGiven, wrsLifetime, dprCode
 use Rattle.paper.specs.Octal.{partOf}
 use Rattle.paper.specs.Line.{Word, words, word, legalLine}
 use Rattle.paper.specs.Check.{atLink, whole, refusalAt, Check, check, Verdict, passed, refused, verdict}
-use Rattle.paper.specs.Request.{Request, crd, wrs, rds, cpy, dup, chn, del, dpr, lst, lstBase, Read, request, unread, after, readAs, needed, miscounted, firstWrong, firstLink, malformed, illegal, isTake, illegalBut, each, between, misnamed, oldFrom, declaredAt, octalAt, readCrd, readWrs, readRds, readLst, readCpy, readDup, readChn, readDpr, readDel, isFunction, readFunction, read, textTooLong, withText, asked}
+use Rattle.paper.specs.Request.{Request, crd, wrs, rds, cpy, dup, chn, del, dpr, lst, lstBase, lstTree, lstBaseTree, Read, request, unread, after, readAs, needed, miscounted, firstWrong, firstLink, malformed, illegal, isTake, illegalBut, each, between, misnamed, oldFrom, declaredAt, octalAt, readCrd, readWrs, readRds, readLst, readCpy, readDup, readChn, readDpr, readDel, depthGiven, readTree, isFunction, isTree, readFunction, read, textTooLong, withText, asked}
 use Rattle.paper.specs.Effect.{begun}
 use Rattle.laws.proofs.Tests.{either}
 use Rattle.laws.proofs.Lists.{Every, every-append}
@@ -35,6 +35,8 @@ Spoken names (del ws) = (m : ℕ) (w : Word) (rest : List Word) → drop m ws �
 Spoken names (dpr name code) = Chained names 1 name × (names 2 ≡ [])
 Spoken names (lst from name) = Chained names 1 (begun from name)
 Spoken names lstBase = Unit {0}
+Spoken names (lstTree from name depth) = Chained names 1 (begun from name)
+Spoken names (lstBaseTree depth) = Unit {0}
 
 abbrev pub Said : (ℕ → List (List ℕ)) → Read → Type 0
 Said names (request r) = Spoken names r
@@ -113,8 +115,8 @@ module _ (line : List ℕ) where
   said-crd : isFunction 67 82 68 line ≡ true → Said names (readCrd line)
   unfolding readCrd same
   said-crd e =
-      let q : IsChain line 1 = names-by line 67 82 68 1 e in
-      let z : IsNone line 2 = names-by line 67 82 68 2 e in
+      let q : IsChain line 1 = names-by line (67 ∷ 82 ∷ 68 ∷ []) 1 e in
+      let z : IsNone line 2 = names-by line (67 ∷ 82 ∷ 68 ∷ []) 2 e in
       said-after names _ _ (
         six 1 2,
         every-append (FairCheck names) (misnamed 1 2 line) _ (fair-misnamed 1 2 (omega arith) (λ k l m. let y : k ≡ 1 = omega arith in rw y q))
@@ -125,8 +127,8 @@ module _ (line : List ℕ) where
   said-wrs : isFunction 87 82 83 line ≡ true → Said names (readWrs line)
   unfolding readWrs same
   said-wrs e =
-      let q : IsChain line 2 = names-by line 87 82 83 2 e in
-      let z : IsNone line 1 = names-by line 87 82 83 1 e in
+      let q : IsChain line 2 = names-by line (87 ∷ 82 ∷ 83 ∷ []) 2 e in
+      let z : IsNone line 1 = names-by line (87 ∷ 82 ∷ 83 ∷ []) 1 e in
       said-after names _ _ (six 2 2, fair-misnamed 2 3 (omega arith) (λ k l m. let y : k ≡ 2 = omega arith in rw y q))
       (said-needed names 1 (wrsLifetime (declaredAt line 1)) _ (omega arith) z (λ _. chained 2 (omega arith) q))
 
@@ -134,26 +136,35 @@ module _ (line : List ℕ) where
   taken : IsChain line 1 → Chained names 1 (begun (oldFrom (word line 1)) (word line 1))
   taken q = record { from = omega arith; long = rw q (old-long (word line 1)) }
 
-  said-take : (most : ℕ) (late : List Check) (r : Request) → IsChain line 1 → Every (FairCheck names) late → Spoken names r
-      → Said names (readAs r (verdict (miscounted 1 most line ∷ malformed 1 (word line 1) ∷ illegalBut isTake 1 (word line 1) ∷ late)))
-  said-take most late r q h =
-      said-after names (request r) _ (six 1 most, (fair-malformed 1 (omega arith) q, (fair-illegal 1 (omega arith) q, h)))
+  said-take : (least most : ℕ) (late : List Check) (x : Read) → IsChain line 1 → Every (FairCheck names) late → Said names x
+      → Said names (after (verdict (miscounted least most line ∷ malformed 1 (word line 1) ∷ illegalBut isTake 1 (word line 1) ∷ late)) x)
+  said-take least most late x q h =
+      said-after names x _ (six least most, (fair-malformed 1 (omega arith) q, (fair-illegal 1 (omega arith) q, h)))
 
   said-rds : isFunction 82 68 83 line ≡ true → Said names (readRds line)
   unfolding readRds same
   said-rds e =
-      let q : IsChain line 1 = names-by line 82 68 83 1 e in
-      let y : IsNone line 2 = names-by line 82 68 83 2 e in
-      let z : IsNone line 3 = names-by line 82 68 83 3 e in
-      said-take 3 _ (rds (oldFrom (word line 1)) (word line 1) (partOf (octalAt line 2)) (partOf (octalAt line 3))) q
+      let q : IsChain line 1 = names-by line (82 ∷ 68 ∷ 83 ∷ []) 1 e in
+      let y : IsNone line 2 = names-by line (82 ∷ 68 ∷ 83 ∷ []) 2 e in
+      let z : IsNone line 3 = names-by line (82 ∷ 68 ∷ 83 ∷ []) 3 e in
+      said-take 1 3 _ (request (rds (oldFrom (word line 1)) (word line 1) (partOf (octalAt line 2)) (partOf (octalAt line 3)))) q
       (fair-whole names 27 2 refl (omega arith) y, (fair-whole names 27 3 refl (omega arith) z, tt)) (taken q, y)
 
   said-lst : isFunction 76 83 84 line ≡ true → Said names (readLst line)
   unfolding readLst same
   said-lst e =
-      let q : IsChain line 1 = names-by line 76 83 84 1 e in
+      let q : IsChain line 1 = names-by line (76 ∷ 83 ∷ 84 ∷ []) 1 e in
       either (Said names) (lonePoint (word line 1 .names)) _ _ (said-after names (request lstBase) _ (six 1 1, tt) tt)
-      (said-take 1 [] (lst (oldFrom (word line 1)) (word line 1)) q tt (taken q))
+      (said-take 1 1 [] (request (lst (oldFrom (word line 1)) (word line 1))) q tt (taken q))
+
+  said-tree : isTree line ≡ true → Said names (readTree line)
+  unfolding readTree same
+  said-tree e =
+      let q : IsChain line 1 = names-by line (76 ∷ 83 ∷ 84 ∷ 42 ∷ []) 1 e in
+      let z : IsNone line 2 = names-by line (76 ∷ 83 ∷ 84 ∷ 42 ∷ []) 2 e in
+      either (Said names) (lonePoint (word line 1 .names)) _ _
+      (said-after names _ _ (six 2 2, tt) (said-needed names 2 (depthGiven (word line 2 .names)) _ (omega arith) z (λ _. tt)))
+      (said-take 2 2 [] _ q tt (said-needed names 2 (depthGiven (word line 2 .names)) _ (omega arith) z (λ _. taken q)))
 
   -- the refusals of CPY and DUP: the count, 7 and 8 of both names, 9
   fair-two : IsChain line 1 → IsChain line 2 → IsNone line 3
@@ -173,24 +184,24 @@ module _ (line : List ℕ) where
   said-cpy : isFunction 67 80 89 line ≡ true → Said names (readCpy line)
   unfolding readCpy same
   said-cpy e =
-      let q : IsChain line 1 = names-by line 67 80 89 1 e in
-      let r : IsChain line 2 = names-by line 67 80 89 2 e in
-      let z : IsNone line 3 = names-by line 67 80 89 3 e in
+      let q : IsChain line 1 = names-by line (67 ∷ 80 ∷ 89 ∷ []) 1 e in
+      let r : IsChain line 2 = names-by line (67 ∷ 80 ∷ 89 ∷ []) 2 e in
+      let z : IsNone line 3 = names-by line (67 ∷ 80 ∷ 89 ∷ []) 3 e in
       said-after names _ _ (fair-two q r z) (taken q, (chained 2 (omega arith) r, z))
 
   said-dup : isFunction 68 85 80 line ≡ true → Said names (readDup line)
   unfolding readDup same
   said-dup e =
-      let q : IsChain line 1 = names-by line 68 85 80 1 e in
-      let r : IsChain line 2 = names-by line 68 85 80 2 e in
-      let z : IsNone line 3 = names-by line 68 85 80 3 e in
+      let q : IsChain line 1 = names-by line (68 ∷ 85 ∷ 80 ∷ []) 1 e in
+      let r : IsChain line 2 = names-by line (68 ∷ 85 ∷ 80 ∷ []) 2 e in
+      let z : IsNone line 3 = names-by line (68 ∷ 85 ∷ 80 ∷ []) 3 e in
       said-after names _ _ (fair-two q r z) (taken q, record { from = omega arith; long = rw r (new-long (word line 2)) })
 
   said-chn : isFunction 67 72 78 line ≡ true → Said names (readChn line)
   unfolding readChn same
   said-chn e =
-      let q : IsChain line 1 = names-by line 67 72 78 1 e in
-      let z : IsNone line 2 = names-by line 67 72 78 2 e in
+      let q : IsChain line 1 = names-by line (67 ∷ 72 ∷ 78 ∷ []) 1 e in
+      let z : IsNone line 2 = names-by line (67 ∷ 72 ∷ 78 ∷ []) 2 e in
       said-after names _ _ (
         six 2 2,
         (
@@ -206,8 +217,8 @@ module _ (line : List ℕ) where
   said-dpr : isFunction 68 80 82 line ≡ true → Said names (readDpr line)
   unfolding readDpr same
   said-dpr e =
-      let q : IsChain line 1 = names-by line 68 80 82 1 e in
-      let z : IsNone line 2 = names-by line 68 80 82 2 e in
+      let q : IsChain line 1 = names-by line (68 ∷ 80 ∷ 82 ∷ []) 1 e in
+      let z : IsNone line 2 = names-by line (68 ∷ 80 ∷ 82 ∷ []) 2 e in
       said-after names _ _ (six 2 2, fair-misnamed 1 2 (omega arith) (λ k l m. let y : k ≡ 1 = omega arith in rw y q))
       (said-needed names 2 (dprCode (declaredAt line 2)) _ (omega arith) z (λ _. (chained 1 (omega arith) q, z)))
 
@@ -223,7 +234,7 @@ module _ (line : List ℕ) where
   said-del : isFunction 68 69 76 line ≡ true → Said names (readDel line)
   unfolding readDel same
   said-del e =
-      let q : (k : ℕ) → IsChain line k = λ k. names-by line 68 69 76 k e in
+      let q : (k : ℕ) → IsChain line k = λ k. names-by line (68 ∷ 69 ∷ 76 ∷ []) k e in
       said-after names _ _ (six 1 8, fair-misnamed 1 (length (words line)) (omega arith) (λ k _ _. q k)) (next-chained q)
 
   -- ---- the line
@@ -244,7 +255,8 @@ module _ (line : List ℕ) where
       (by (isFunction 68 69 76 line) _ _ said-del
       (by (isFunction 68 80 82 line) _ _ said-dpr
       (by (isFunction 76 83 84 line) _ _ said-lst
-      (fair-line names 5 refl)))))))))
+      (by (isTree line) _ _ said-tree
+      (fair-line names 5 refl))))))))))
 
   said-read : Said names (read line)
   unfolding read

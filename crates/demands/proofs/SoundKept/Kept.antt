@@ -18,7 +18,7 @@ use Rattle.paper.specs.Entry.{find, full}
 use Rattle.paper.specs.Sound.{isBase}
 use Rattle.paper.specs.Walk.{State, start, file, reached, toDirectory, lastName, toLast}
 use Rattle.paper.specs.Store.{puts, run}
-use Rattle.paper.specs.Effect.{Plan, Planned, plan, halted, chainOf, toHolder, toEnd, isFound, Making, borne, placing, needed, displacing, losing, settled, writeInhibited, making, chnPlan, dprPlan, delPlan, rdsPlan, lstPlan, lstBasePlan}
+use Rattle.paper.specs.Effect.{Plan, Planned, plan, halted, chainOf, toHolder, toEnd, isFound, Making, borne, placing, needed, displacing, losing, settled, writeInhibited, making, chnPlan, dprPlan, delPlan, rdsPlan, lstPlan, lstBasePlan, lstTreePlan, lstBaseTreePlan}
 use Rattle.paper.specs.Answer.{Outcome, ran, single, oneName, deleting}
 use Rattle.laws.proofs.Tests.{implies-by}
 use Rattle.laws.proofs.Lists.{every-parts}
@@ -91,6 +91,14 @@ lst-keeps t u reply name c = end-keeps t u 1 name _ (λ _ _ _ _ _. c)
 pub lstBase-keeps : (t : List ℕ) (u : ℕ) (reply : List ℕ) → Sound t → Keeps t (lstBasePlan t u reply)
 unfolding lstBasePlan run
 lstBase-keeps t u reply c _ = c
+
+pub lstTree-keeps : (t : List ℕ) (u : ℕ) (reply : List ℕ) (name : Word) (depth : ℕ) → Sound t → Keeps t (lstTreePlan t u reply name depth)
+unfolding lstTreePlan run
+lstTree-keeps t u reply name depth c = end-keeps t u 1 name _ (λ _ _ _ _ _. c)
+
+pub lstBaseTree-keeps : (t : List ℕ) (u : ℕ) (reply : List ℕ) (depth : ℕ) → Sound t → Keeps t (lstBaseTreePlan t u reply depth)
+unfolding lstBaseTreePlan run
+lstBaseTree-keeps t u reply depth c _ = c
 
 -- ---- a new entry: over the one that bears its name, or in a free record
 

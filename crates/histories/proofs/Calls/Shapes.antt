@@ -23,7 +23,7 @@ use Rattle.paper.specs.Sound.{implies}
 use Rattle.paper.specs.Block.{block, fileText}
 use Rattle.paper.specs.Walk.{State, applies, file, reached, toLast, lastName}
 use Rattle.paper.specs.Store.{Store, puts, run}
-use Rattle.paper.specs.Effect.{Planned, plan, halted, chainOf, toHolder, toEnd, Making, borne, placing, needed, writeInhibited, making, filing, linking, newFile, freed, lost, settled, recoded, renamed, crdPlan, wrsPlan, cpyPlan, dupPlan, chnPlan, dprPlan, delPlan, rdsPlan, lstPlan, lstBasePlan}
+use Rattle.paper.specs.Effect.{Planned, plan, halted, chainOf, toHolder, toEnd, Making, borne, placing, needed, writeInhibited, making, filing, linking, newFile, freed, lost, settled, recoded, renamed, crdPlan, wrsPlan, cpyPlan, dupPlan, chnPlan, dprPlan, delPlan, rdsPlan, lstPlan, lstBasePlan, lstTreePlan, lstBaseTreePlan}
 use Rattle.laws.proofs.Tests.{truth, not-both, false-by, implies-use}
 use Rattle.laws.proofs.Scans.{any-here, any-none, all-true}
 use Rattle.laws.proofs.Lists.{Every, every-parts, every-append, every-imp}
@@ -269,3 +269,11 @@ module _ (t : List ℕ) (c : Sound t) where
   pub lst-base-shape : (u : ℕ) (reply : List ℕ) → Shape t (lstBasePlan t u reply)
   unfolding lstBasePlan
   lst-base-shape u reply _ = plain tt
+
+  pub lst-tree-shape : (u : ℕ) (reply : List ℕ) (name : Word) (depth : ℕ) → Shape t (lstTreePlan t u reply name depth)
+  unfolding lstTreePlan
+  lst-tree-shape u reply name depth = end-shape t u 1 name _ (λ d f _ _. plain tt)
+
+  pub lst-base-tree-shape : (u : ℕ) (reply : List ℕ) (depth : ℕ) → Shape t (lstBaseTreePlan t u reply depth)
+  unfolding lstBaseTreePlan
+  lst-base-tree-shape u reply depth _ = plain tt

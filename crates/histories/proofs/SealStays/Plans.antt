@@ -19,7 +19,7 @@ use Rattle.paper.specs.Code.{joined, noRead}
 use Rattle.paper.specs.Sound.{implies}
 use Rattle.paper.specs.Block.{fileText}
 use Rattle.paper.specs.Walk.{State, start, applies, file, Walked, reached, stopped, toDirectory, toLast, lastName, lastFrom, endFrom, ended}
-use Rattle.paper.specs.Effect.{Planned, onward, inward, chainOf, endOf, toHolder, toEnd, Making, borne, placing, displacing, readInhibited, linkTaken, making, filing, linking, newFile, crdPlan, wrsPlan, cpyPlan, dupPlan, chnPlan, dprPlan, delPlan, rdsPlan, lstPlan, lstBasePlan}
+use Rattle.paper.specs.Effect.{Planned, onward, inward, chainOf, endOf, toHolder, toEnd, Making, borne, placing, displacing, readInhibited, linkTaken, making, filing, linking, newFile, crdPlan, wrsPlan, cpyPlan, dupPlan, chnPlan, dprPlan, delPlan, rdsPlan, lstPlan, lstBasePlan, lstTreePlan, lstBaseTreePlan}
 use Rattle.laws.proofs.Tests.{implies-use}
 use Rattle.laws.proofs.Scans.{all-true}
 use Rattle.laws.proofs.Fields.{length-entry}
@@ -29,7 +29,7 @@ use Rattle.demands.proofs.Sound.Clauses.{Sound, entry-code}
 use Rattle.demands.proofs.Request.Ended.{Refused, checked}
 use Rattle.demands.proofs.Request.Walked.{Reached, walk-reached}
 use Rattle.histories.proofs.SealStays.Veils.{Veil, rooms-veil, named-veil, rec-veil, simple-veil, directory-veil, find-veil, full-veil, frees-veil}
-use Rattle.histories.proofs.SealStays.Walks.{to-directory-veil, to-last-veil, losing-veil, settled-veil, file-text-veil, directory-lines-veil, base-lines-veil}
+use Rattle.histories.proofs.SealStays.Walks.{to-directory-veil, to-last-veil, losing-veil, settled-veil, file-text-veil, directory-lines-veil, base-lines-veil, directory-tree-veil, base-tree-veil}
 
 -- one plan, or refused alike
 pub data Same (x y : Planned) : Type 0 where
@@ -183,6 +183,15 @@ module _ (h : ℕ) (t s : List ℕ) (v : Veil h t s) (c : Sound t) (seal : noRea
   pub lst-base-same : (u : ℕ) (reply : List ℕ) → Same (lstBasePlan t u reply) (lstBasePlan s u reply)
   unfolding lstBasePlan
   lst-base-same u reply = one (rw (base-lines-veil h t s v u))
+
+  pub lst-tree-same : (u : ℕ) (reply : List ℕ) (name : Word) (depth : ℕ) → Same (lstTreePlan t u reply name depth) (lstTreePlan s u reply name depth)
+  unfolding lstTreePlan
+  lst-tree-same u reply name depth =
+      end-same u 1 name _ _ (λ d f r. one (rw (file-same f, directory-veil h t s v (file t f), directory-tree-veil h t s v depth (file t f))))
+
+  pub lst-base-tree-same : (u : ℕ) (reply : List ℕ) (depth : ℕ) → Same (lstBaseTreePlan t u reply depth) (lstBaseTreePlan s u reply depth)
+  unfolding lstBaseTreePlan
+  lst-base-tree-same u reply depth = one (rw (base-tree-veil h t s v depth u))
 
   -- ---- what reads the text: another file's is the same; the sealed file's is refused first
 

@@ -4,19 +4,19 @@ use mathlib.Core.Bool.{Bool, true, false, _&&_, not}
 use mathlib.Core.List.{List, [], _∷_}
 use mathlib.Core.Logic.{_≢_}
 use mathlib.Core.Path.{_≡_, refl, sym, ap, _∙_}
-use Prim.Native.Nat.{ℕ, suc, _<_}
+use Prim.Native.Nat.{ℕ, zero, suc, _+_, _<_}
 use native.Mathlib.Omega.{arith}
 use lib.ListN.{length}
 use Rattle.paper.specs.Scan.{Found, at, nowhere, firstBelow, listBelow}
 use Rattle.paper.specs.Record.{byte, headingNamed, headingOf, nameOf, textAt, held}
 use Rattle.paper.specs.Table.{rooms, rec, lay, place, textRoom}
 use Rattle.paper.specs.Name.{same, dotW, before}
-use Rattle.paper.specs.Entry.{stands, find, inDirectory, baseList}
+use Rattle.paper.specs.Entry.{Holder, stands, find, inDirectory, baseList}
 use Rattle.paper.specs.Block.{blocksOf, fileText}
 use Rattle.paper.specs.Walk.{State, applies, file, Step, on, off, looked, look, enter, then, follow, linked, toDirectory, lastName, toLast}
 use Rattle.paper.specs.Store.{Store, clear}
 use Rattle.paper.specs.Effect.{freed, lost, settled, losing}
-use Rattle.paper.specs.Listing.{line, insert, inOrder, listed, lines, directoryLines, baseLines}
+use Rattle.paper.specs.Listing.{line, lineOf, insert, inOrder, listed, lines, directoryLines, baseLines, opens, entryBy, linesBy, tree, directoryTree, baseTree}
 use Rattle.laws.proofs.Tests.{and-left, either, false-by}
 use Rattle.laws.proofs.Lists.{Every, join-cong, every-imp, every-below, list-cong}
 use Rattle.laws.proofs.Scans.{first-at}
@@ -130,27 +130,25 @@ module _ (h : ℕ) (t s : List ℕ) (v : Veil h t s) where
       let r = order-veil es (q .1) in
       (rw (r .0) (insert-veil e (inOrder t es) (q .0) (r .1)), entries-insert e (inOrder t es) (q .0) (r .1))
 
-  lines-veil : (es : List ℕ) → Entries es → lines s es ≡ lines t es
-  unfolding lines line
-  lines-veil [] q = refl
-  lines-veil (e ∷ es) q =
+  line-veil : (e : ℕ) → byte (rec t e) 0 ≡ 2 → lineOf s e ≡ lineOf t e
+  unfolding line
+  line-veil e k =
       let g : ℕ = headingNamed (rec t e) in
-      rw (
-        entry-veil e (q .0),
-        byte-veil h t s v g 1 (omega arith),
-        byte-veil h t s v g 2 (omega arith),
-        byte-veil h t s v g 4 (omega arith),
-        lines-veil es (q .1),
-      )
+      rw (entry-veil e k, byte-veil h t s v g 1 (omega arith), byte-veil h t s v g 2 (omega arith), byte-veil h t s v g 4 (omega arith))
+
+  lines-veil : (es : List ℕ) → Entries es → lines s es ≡ lines t es
+  unfolding lines
+  lines-veil [] q = refl
+  lines-veil (e ∷ es) q = rw (line-veil e (q .0), lines-veil es (q .1))
 
   -- the entries that pass a test which text does not
-  listed-veil : (test : List ℕ → Bool) → ((r : List ℕ) → test r ≡ true → byte r 0 ≡ 2) → lines s (listed s test) ≡ lines t (listed t test)
+  listed-veil : (test : List ℕ → Bool) → ((r : List ℕ) → test r ≡ true → byte r 0 ≡ 2) → (listed s test ≡ listed t test) × Entries (listed t test)
   unfolding listed
   listed-veil test k =
       let e : listBelow (λ i. test (rec s i)) (rooms s) ≡ listBelow (λ i. test (rec t i)) (rooms t) =
       rw (rooms-veil h t s v) (list-cong _ _ (rooms t) (λ i _. test-veil h t s v test no-text i)) in
       let o = order-veil (listBelow (λ i. test (rec t i)) (rooms t)) entries in
-      rw (e, o .0) (lines-veil (inOrder t (listBelow (λ i. test (rec t i)) (rooms t))) (o .1))
+      (rw (e, o .0), o .1)
     where
       entries : Entries (listBelow (λ i. test (rec t i)) (rooms t))
       entries =
@@ -161,9 +159,44 @@ module _ (h : ℕ) (t s : List ℕ) (v : Veil h t s) where
       no-text : (r : List ℕ) → byte r 0 ≡ 3 → test r ≡ false
       no-text r q = false-by (test r) (λ x. omega (arith, k r x))
 
+  listed-lines : (test : List ℕ → Bool) → ((r : List ℕ) → test r ≡ true → byte r 0 ≡ 2) → lines s (listed s test) ≡ lines t (listed t test)
+  listed-lines test k = let o = listed-veil test k in rw (o .0) (lines-veil (listed t test) (o .1))
+
+  stands-entry : (d : Holder) (r : List ℕ) → stands d r ≡ true → byte r 0 ≡ 2
+  stands-entry d r x = stands-true d r x .kind
+
+  notW-entry : (u : ℕ) (r : List ℕ) → (stands (baseList u) r && not (same dotW (nameOf r))) ≡ true → byte r 0 ≡ 2
+  notW-entry u r x = stands-entry (baseList u) r (and-left (stands (baseList u) r) _ x)
+
   pub directory-lines-veil : (g : ℕ) → directoryLines s g ≡ directoryLines t g
-  directory-lines-veil g = listed-veil (stands (inDirectory g)) (λ r x. stands-true (inDirectory g) r x .kind)
+  directory-lines-veil g = listed-lines (stands (inDirectory g)) (stands-entry (inDirectory g))
 
   pub base-lines-veil : (u : ℕ) → baseLines s u ≡ baseLines t u
-  base-lines-veil u =
-      listed-veil (λ r. stands (baseList u) r && not (same dotW (nameOf r))) (λ r x. stands-true (baseList u) r (and-left (stands (baseList u) r) _ x) .kind)
+  base-lines-veil u = listed-lines (λ r. stands (baseList u) r && not (same dotW (nameOf r))) (notW-entry u)
+
+  -- ---- the tree
+
+  opens-veil : (e : ℕ) → opens s e ≡ opens t e
+  unfolding opens
+  opens-veil e = rw (named-veil h t s v e, directory-veil h t s v (headingNamed (rec t e)), applies-veil e)
+
+  by-veil : (f g : ℕ → List ℕ) (blanks : ℕ) → ((i : ℕ) → f i ≡ g i) → (es : List ℕ) → Entries es
+      → linesBy (entryBy f s blanks) es ≡ linesBy (entryBy g t blanks) es
+  unfolding linesBy entryBy
+  by-veil f g blanks x [] q = refl
+  by-veil f g blanks x (e ∷ es) q =
+      rw (line-veil e (q .0), opens-veil e, named-veil h t s v e, x (headingNamed (rec t e)), by-veil f g blanks x es (q .1))
+
+  tree-veil : (depth blanks : ℕ) (test : List ℕ → Bool) → ((r : List ℕ) → test r ≡ true → byte r 0 ≡ 2) → tree s depth blanks test ≡ tree t depth blanks test
+  unfolding tree
+  tree-veil zero blanks test k = refl
+  tree-veil (suc depth) blanks test k =
+      let o = listed-veil test k in
+      rw (o .0)
+      (by-veil _ _ blanks (λ g. tree-veil depth (blanks + 2) (stands (inDirectory g)) (stands-entry (inDirectory g))) (listed t test) (o .1))
+
+  pub directory-tree-veil : (depth g : ℕ) → directoryTree s depth 0 g ≡ directoryTree t depth 0 g
+  directory-tree-veil depth g = tree-veil depth 0 (stands (inDirectory g)) (stands-entry (inDirectory g))
+
+  pub base-tree-veil : (depth u : ℕ) → baseTree s depth u ≡ baseTree t depth u
+  base-tree-veil depth u = tree-veil depth 0 (λ r. stands (baseList u) r && not (same dotW (nameOf r))) (notW-entry u)
