@@ -19,7 +19,7 @@ pub struct Answer {
     pub link: u32,
     pub names: u32,
     pub displaced: u32,
-    pub bytes: u32,
+    pub bytes: usize,
     pub stores: u32,
 }
 
@@ -75,7 +75,7 @@ impl Answer {
     }
 
     // All that one name asks for was done: an entry displaced or not, so many bytes written, so many stores made.
-    pub fn granted(displaced: bool, bytes: u32, stores: u32) -> Self
+    pub fn granted(displaced: bool, bytes: usize, stores: u32) -> Self
         ensures { λ r. ⌜ r ≡ shown (granting displaced bytes stores) ⌝ }
     {
         Answer {

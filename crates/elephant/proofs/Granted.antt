@@ -10,7 +10,7 @@ use lib.ListN.{length, drop}
 use Rattle.paper.specs.Line.{Word, words, word}
 use Rattle.paper.specs.Name.{dotG, pointed, chain}
 use Rattle.paper.specs.Request.{request, asked}
-use Rattle.paper.specs.Effect.{Planned, crdPlan, wrsPlan, rdsPlan, cpyPlan, dupPlan, chnPlan, dprPlan, lstPlan, lstBasePlan, chainOf, listOf, begun}
+use Rattle.paper.specs.Effect.{Planned, crdPlan, wrsPlan, rdsPlan, cpyPlan, dupPlan, chnPlan, dprPlan, lstPlan, lstBasePlan, lstTreePlan, lstBaseTreePlan, chainOf, listOf, begun}
 use Rattle.paper.specs.Walk.{lastName}
 use Rattle.paper.specs.Answer.{Outcome, granted, requested, ran, single}
 use Rattle.laws.proofs.Tests.{truth}
@@ -24,7 +24,7 @@ use Rattle.declarations.specs.declared.part.Lifetime.{Lifetime}
 use Rattle.declarations.specs.declared.part.Level.{Level}
 use Rattle.declarations.specs.declared.part.Digit.{Digit}
 use Rattle.reader.specs.declared.request.Request.{Request}
-use Rattle.reader.specs.declared.request.Request.the-variants.{Crd, Wrs, Rds, Cpy, Dup, Chn, Del, Dpr, Lst, LstBase}
+use Rattle.reader.specs.declared.request.Request.the-variants.{Crd, Wrs, Rds, Cpy, Dup, Chn, Del, Dpr, Lst, LstBase, LstTree, LstBaseTree}
 use Rattle.reader.specs.declared.request.Read.the-variants.{Granted}
 use Rattle.demands.proofs.Request.Read.{Told}
 use Rattle.demands.proofs.Request.Begun.{Gives}
@@ -36,12 +36,12 @@ use Rattle.elephant.specs.Done.{Did, Wrote}
 use Rattle.elephant.specs.Filing.{Named, Linked}
 use Rattle.elephant.specs.Deleted.{CameAll}
 use Rattle.elephant.specs.Reading.{reading}
-use Rattle.elephant.specs.declared.reply.Sheet.the-variants.{Text, Lines}
+use Rattle.elephant.specs.declared.reply.Sheet.the-variants.{Text, Lines, Deep}
 use Rattle.elephant.specs.Meant.{requestMeant}
 use Rattle.elephant.specs.Admitted.{Admitted}
 use Rattle.elephant.specs.Promised.{Promised}
 use Rattle.answers.specs.declared.Answer.{Answer}
-use Rattle.elephant.proofs.Grants.{Silent, Storeless, crd-silent, wrs-silent, cpy-silent, dup-silent, chn-silent, dpr-silent, rds-storeless, lst-storeless, lst-base-storeless}
+use Rattle.elephant.proofs.Grants.{Silent, Storeless, crd-silent, wrs-silent, cpy-silent, dup-silent, chn-silent, dpr-silent, rds-storeless, lst-storeless, lst-base-storeless, lst-tree-storeless, lst-base-tree-storeless}
 use Rattle.elephant.proofs.Promises.{promised-storing, promised-writing, promised-names}
 use Rattle.elephant.proofs.Asking.{read-granted}
 use Rattle.elephant.proofs.Places.{read-short}
@@ -196,3 +196,14 @@ module _ {t line text : List ℕ} {u : ℕ} {r : Request} (a : Admitted t line t
     pub lst-base-done : r ≡ LstBase → Wrote t reply (lstBasePlan t u reply) z v → Promised (requested t line text reply u k) z t v
     unfolding granted
     lst-base-done e h = writing-done LstBase e (lstBasePlan t u reply) refl (lst-base-storeless t u reply) h
+
+    pub lst-tree-done : (b : Begin) (p d : ℕ) → r ≡ LstTree b p d → Wrote t reply (reading (Deep d) t (list b) reply (from b p)) z v
+        → Promised (requested t line text reply u k) z t v
+    unfolding granted lstTreePlan
+    lst-tree-done b p d e h =
+        writing-done (LstTree b p d) e (lstTreePlan t (list b) reply (from b p) d) refl (lst-tree-storeless t (list b) reply (from b p) d) h
+
+    pub lst-base-tree-done : (d : ℕ) → r ≡ LstBaseTree d → Wrote t reply (lstBaseTreePlan t u reply d) z v
+        → Promised (requested t line text reply u k) z t v
+    unfolding granted
+    lst-base-tree-done d e h = writing-done (LstBaseTree d) e (lstBaseTreePlan t u reply d) refl (lst-base-tree-storeless t u reply d) h

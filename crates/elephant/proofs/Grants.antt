@@ -12,7 +12,7 @@ use Rattle.paper.specs.Check.{Check, Verdict, passed, refused, verdict}
 use Rattle.paper.specs.Declaration.{Part}
 use Rattle.paper.specs.Line.{Word, word}
 use Rattle.paper.specs.Request.{Begin}
-use Rattle.paper.specs.Effect.{Planned, plan, halted, Making, making, crdPlan, wrsPlan, cpyPlan, dupPlan, chnPlan, dprPlan, delPlan, rdsPlan, lstPlan, lstBasePlan}
+use Rattle.paper.specs.Effect.{Planned, plan, halted, Making, making, crdPlan, wrsPlan, cpyPlan, dupPlan, chnPlan, dprPlan, delPlan, rdsPlan, lstPlan, lstBasePlan, lstTreePlan, lstBaseTreePlan}
 use Rattle.paper.specs.Answer.{Outcome, Ran, refusedBy, done, cut, stores, ran, single, oneName, deleting}
 use Rattle.paper.specs.Store.{run}
 use Rattle.words.specs.Place.{wordAt}
@@ -111,6 +111,14 @@ lst-storeless t u reply name = end-by Storeless 1 (λ _ _ _. tt) t u name _ (λ 
 pub lst-base-storeless : (t : List ℕ) (u : ℕ) (reply : List ℕ) → Storeless (lstBasePlan t u reply)
 unfolding lstBasePlan
 lst-base-storeless t u reply = refl
+
+pub lst-tree-storeless : (t : List ℕ) (u : ℕ) (reply : List ℕ) (name : Word) (depth : ℕ) → Storeless (lstTreePlan t u reply name depth)
+unfolding lstTreePlan
+lst-tree-storeless t u reply name depth = end-by Storeless 1 (λ _ _ _. tt) t u name _ (λ d f _ _. refl)
+
+pub lst-base-tree-storeless : (t : List ℕ) (u : ℕ) (reply : List ℕ) (depth : ℕ) → Storeless (lstBaseTreePlan t u reply depth)
+unfolding lstBaseTreePlan
+lst-base-tree-storeless t u reply depth = refl
 
 -- .. leaves the table
 pub table-kept : (t reply : List ℕ) (x : Planned) → Storeless x → single t reply 0 (ran 0 x) .table ≡ t

@@ -19,3 +19,4 @@ pub mod Links
 pub mod Places
 pub mod Granted
 pub mod Refused
+mod Trees

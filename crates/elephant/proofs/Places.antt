@@ -13,7 +13,7 @@ use Rattle.paper.specs.Line.{Word, words, word, inLine, legalLine}
 use Rattle.paper.specs.Check.{whole, Refusal, refusalAt, Check, Verdict, passed, refused, verdict}
 use Rattle.paper.specs.Declaration.{Part, wrsLifetime, dprCode}
 use Rattle.paper.specs.Declaration as part
-use Rattle.paper.specs.Request.{Request, del, Read, request, unread, after, needed, readAs, counted, miscounted, malformed, illegal, each, between, misnamed, declaredAt, readCrd, readWrs, readRds, readLst, readCpy, readDup, readChn, readDpr, readDel, isFunction, readFunction, read, asked}
+use Rattle.paper.specs.Request.{Request, del, Read, request, unread, after, needed, readAs, counted, miscounted, malformed, illegal, each, between, misnamed, declaredAt, readCrd, readWrs, readRds, readLst, readCpy, readDup, readChn, readDpr, readDel, depthGiven, readTree, isFunction, isTree, readFunction, read, asked}
 use Rattle.laws.proofs.Tests.{and-left, and-right, either, clash}
 use Rattle.laws.proofs.Lists.{Every, every-append}
 use Rattle.demands.proofs.Request.Chains.{namesAt}
@@ -46,8 +46,11 @@ read-near : (x : Read) (v : Verdict) → NearVerdict v → Near x → Near (afte
 read-near x passed h n = n
 read-near x (refused f) h n = h
 
+near-then : (x : Read) (cs : List Check) → Every NearCheck cs → Near x → Near (after (verdict cs) x)
+near-then x cs h n = read-near x (verdict cs) (verdict-near cs h) n
+
 near-as : (r : Request) (cs : List Check) → Every NearCheck cs → Near (readAs r (verdict cs))
-near-as r cs h = read-near (request r) (verdict cs) (verdict-near cs h) tt
+near-as r cs h = near-then (request r) cs h tt
 
 near-needed : (argument : ℕ) (p : Part) (r : ℕ → Request) → argument ≤ 8 → Near (needed argument p r)
 near-needed argument (part.given n) r l = tt
@@ -76,9 +79,7 @@ module _ (line : List ℕ) where
   -- the count and the names, and what is read after them
   near-after : (x : Read) (least most a b : ℕ) → a + (b - a) ≤ 9 → Near x
       → Near (after (verdict (miscounted least most line ∷ misnamed a b line)) x)
-  near-after x least most a b l n =
-      let cs = miscounted least most line ∷ misnamed a b line in
-      read-near x (verdict cs) (verdict-near cs (omega arith, misnamed-near a b line l)) n
+  near-after x least most a b l n = near-then x _ (omega arith, misnamed-near a b line l) n
 
   near-crd : Near (readCrd line)
   unfolding readCrd
@@ -97,6 +98,13 @@ module _ (line : List ℕ) where
   near-lst =
       either Near (lonePoint (word line 1 .names)) _ _ (near-as _ _ (omega arith, tt))
       (near-as _ _ (omega arith, (omega arith, (omega arith, tt))))
+
+  near-tree : Near (readTree line)
+  unfolding readTree
+  near-tree =
+      let n : (r : ℕ → Request) → Near (needed 2 (depthGiven (word line 2 .names)) r) = λ r. near-needed 2 (depthGiven (word line 2 .names)) r (omega arith) in
+      either Near (lonePoint (word line 1 .names)) _ _ (near-then _ _ (omega arith, tt) (n _))
+      (near-then _ _ (omega arith, (omega arith, (omega arith, tt))) (n _))
 
   near-cpy : Near (readCpy line)
   unfolding readCpy
@@ -143,7 +151,8 @@ module _ (line : List ℕ) where
       (either Near (isFunction 68 69 76 line) _ _ near-del
       (either Near (isFunction 68 80 82 line) _ _ near-dpr
       (either Near (isFunction 76 83 84 line) _ _ near-lst
-      (omega arith)))))))))
+      (either Near (isTree line) _ _ near-tree
+      (omega arith))))))))))
 
   near : Near (read line)
   unfolding read

@@ -1,24 +1,19 @@
--- What RDS and LST write is the text and the lines of document 01: on a sound table a simple file has at most 1,000 blocks, which the
--- list of rooms holds, its text is as long as its heading says; and 2,048 lines of at most 21 bytes each are few.
-use mathlib.Core.Bool.{Bool, true, false, cond}
+-- What RDS writes is the text of document 01: on a sound table a simple file has at most 1,000 blocks, which the list of rooms holds, and its
+-- text is as long as its heading says.
+use mathlib.Core.Bool.{true}
 use mathlib.Core.List.{List}
 use mathlib.Core.Path.{_≡_}
-use Prim.Native.Nat.{ℕ, zero, suc, _+_, _*_, _/_, _%_, _≤_, _<_}
+use Prim.Native.Nat.{ℕ, _+_, _/_, _%_, _≤_}
 use native.Mathlib.Omega.{arith}
 use lib.ListN.{length, take, drop}
 use lib.Seq.{sets, take-all}
-use Rattle.paper.specs.Record.{nameOf, textLength, simple}
-use Rattle.paper.specs.Table.{rooms, rec}
+use Rattle.paper.specs.Record.{textLength, simple}
+use Rattle.paper.specs.Table.{rec}
 use Rattle.paper.specs.Block.{blocks, fileText}
-use Rattle.paper.specs.Listing.{listed, lines}
 use Rattle.effects.specs.Listed.{textRooms, gathered}
-use Rattle.effects.proofs.Papers.{sized-most, taken-front}
+use Rattle.effects.proofs.Papers.{taken-front}
 use Rattle.effects.proofs.Lengths.{length-few, text-length, text-part}
-use Rattle.listing.specs.Ordered.{sizeAt, sizeBelow}
-use Rattle.listing.proofs.Sizes.{name-short, size-listed}
 use Rattle.elephant.specs.Done.{Fit}
-
--- ---- a file's text
 
 module _ (t : List ℕ) (h : ℕ) (f : Fit t) (s : simple (rec t h) ≡ true) where
   pub text-few : length (fileText t h) ≤ 24000
@@ -36,20 +31,3 @@ module _ (t : List ℕ) (h : ℕ) (f : Fit t) (s : simple (rec t h) ≡ true) wh
   -- .. and copied to the front of z, from where it is taken again
   pub text-copied : (z l : List ℕ) (n : ℕ) → 24000 ≤ length z → l ≡ sets z 0 (fileText t h) → n ≡ textLength (rec t h) → take n (drop 0 l) ≡ fileText t h
   text-copied z l n m p q = rw (p, q, ← text-length t h (f .sized) (f .sound) s) (taken-front z (fileText t h) (omega (arith, text-few)))
-
--- ---- the lines
-
-size-at-most : (t : List ℕ) (test : List ℕ → Bool) (i : ℕ) → sizeAt t test i ≤ 21
-size-at-most t test i = go (test (rec t i))
-  where
-    go : (b : Bool) → cond b (11 + length (nameOf (rec t i))) 0 ≤ 21
-    go true = omega (arith, name-short (rec t i))
-    go false = omega arith
-
-size-most : (t : List ℕ) (test : List ℕ → Bool) (n : ℕ) → sizeBelow t test n ≤ 21 * n
-unfolding sizeBelow
-size-most t test zero = omega arith
-size-most t test (suc n) = omega (arith, size-most t test n, size-at-most t test n)
-
-pub lines-few : (t : List ℕ) (test : List ℕ → Bool) → Fit t → length (lines t (listed t test)) < 65536
-lines-few t test f = rw (size-listed t test) (omega (arith, sized-most t (f .sized), size-most t test (rooms t)))

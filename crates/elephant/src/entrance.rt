@@ -8,6 +8,7 @@ use crate::making::dup;
 use crate::making::wrs;
 use crate::reply::Sheet;
 use crate::reply::lst_base;
+use crate::reply::lst_base_tree;
 use crate::reply::read;
 use answers::Answer;
 use reader::request::Request;
@@ -80,5 +81,38 @@ pub(crate) fn grant(
         Request::Dpr { name, code } => dpr(table, line, name, code, user, stop),
         Request::Lst { from, name } => read(table, line, reply, Sheet::Lines, from, name, user),
         Request::LstBase => lst_base(table, reply, user),
+        Request::LstTree { from, name, depth } => {
+            read(table, line, reply, Sheet::Deep(depth), from, name, user)
+        }
+        Request::LstBaseTree { depth } => lst_base_tree(table, reply, user, depth),
     }
+}
+
+// The same for what is no WRS, with CPY apart: its frame has room for a whole text, and would be part of every function's frame if
+// `grant` alone called it. What is called from two places, as `cpy` and `grant` are, the compiler leaves a frame of its own.
+pub(crate) fn admit(
+    table: &mut [u8],
+    line: &[u8],
+    text: &[u8],
+    reply: &mut [u8],
+    user: u32,
+    stop: u32,
+    asked: Request,
+) -> Answer
+    requires { ⌜ Admitted (now table) (now line) (now text) user asked ⌝ }
+    ensures { λ r. ⌜ Promised (requested (now (table .entry)) (now (line .entry)) (now (text .entry)) (now (reply .entry)) user stop)
+        r (now (table .exit)) (now (reply .exit)) ⌝ }
+{
+    let Request::Cpy {
+        from,
+        old,
+        new,
+        lifetime: life,
+        level,
+        digit,
+    } = asked
+    else {
+        return grant(table, line, text, reply, user, stop, asked);
+    };
+    cpy(table, line, from, old, new, life, level, digit, user, stop)
 }

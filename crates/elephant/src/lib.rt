@@ -8,6 +8,7 @@ mod making;
 mod place;
 mod reply;
 
+use crate::entrance::admit;
 use crate::entrance::entrance_number;
 use crate::entrance::grant;
 use crate::place::refused_at;
@@ -47,7 +48,7 @@ pub fn request(
                 name: _,
             } = asked
             else {
-                return grant(table, line, text, reply, user, stop, asked);
+                return admit(table, line, text, reply, user, stop, asked);
             };
             if Heading::MOST_LENGTH < text.len() {
                 return Answer::refused_whole(10, 0);

@@ -1,4 +1,4 @@
-// RDS and LST: what they write to the front of the reply.
+// RDS, LST and LST*: what they write to the front of the reply.
 use crate::place::end_of;
 use crate::place::refused_at;
 use answers::Answer;
@@ -16,6 +16,8 @@ use records::heading::is_directory;
 use records::heading::is_simple;
 use records::heading::text_length;
 use records::text::Text;
+use tree::Reach;
+use tree::list_tree;
 use walk::end::End;
 use walk::end::to_end;
 use walk::state::State;
@@ -30,8 +32,8 @@ ghost use lib.Seq.{sets};
 ghost use Rattle.paper.specs.Block.{fileText};
 ghost use Rattle.paper.specs.Check.{whole};
 ghost use Rattle.paper.specs.Declaration.{orElse};
-ghost use Rattle.paper.specs.Effect.{showing, writing, part, beyondEnd, lstBasePlan, listOf, begun};
-ghost use Rattle.paper.specs.Listing.{listed, lines};
+ghost use Rattle.paper.specs.Effect.{showing, writing, part, beyondEnd, lstBasePlan, lstBaseTreePlan, listOf, begun};
+ghost use Rattle.paper.specs.Listing.{listed, lines, tree};
 ghost use Rattle.paper.specs.Record.{simple, textLength};
 ghost use Rattle.paper.specs.Table.{rec};
 ghost use Rattle.listing.specs.Shown.{isListed};
@@ -42,10 +44,12 @@ ghost use Rattle.answers.specs.Shown.{placeMeant};
 ghost use Rattle.elephant.specs.Done.{Fit, Wrote};
 ghost use Rattle.elephant.specs.Reading.{isRight, written, late, readingAt, reading};
 
-// What is read of a file: of the text of a simple one, the part from a first byte on, so many bytes; or the lines of a directory.
+// What is read of a file: of the text of a simple one, the part from a first byte on, so many bytes; or the lines
+// of a directory, or those and what stands under them, to a depth.
 pub(crate) enum Sheet {
     Text(Part, Part),
     Lines,
+    Deep(u8),
 }
 
 // So many bytes of a simple file's text, from one on, copied to the front of the reply; from the text records that hold them alone.
@@ -117,7 +121,7 @@ fn write_text(table: &[u8], heading: Room, first: Part, count: Part, reply: &mut
         return Answer::refused_whole(28, 2);
     }
     copy_part(table, heading, Bytes(a), Bytes(m), reply);
-    Answer::granted(false, m as u32, 0)
+    Answer::granted(false, m, 0)
 }
 
 // The lines of what is listed, where they fit.
@@ -131,7 +135,19 @@ fn list(table: &[u8], which: Listed, reply: &mut [u8]) -> Answer
         return Answer::refused_whole(20, 0);
     }
     write_lines(table, which, reply);
-    Answer::granted(false, n as u32, 0)
+    Answer::granted(false, n, 0)
+}
+
+// The lines of what is listed and of what stands under it, to a depth, where they fit.
+fn list_deep(table: &[u8], which: Listed, depth: u8, reply: &mut [u8]) -> Answer
+    requires { ⌜ Fit (now table) ⌝ }
+    ensures { λ r. ⌜ Wrote (now (table .entry)) (now (reply .entry))
+        (writing [] (tree (now (table .entry)) depth 0 (isListed which)) (now (reply .entry))) r (now (reply .exit)) ⌝ }
+{
+    let Reach::At(n) = list_tree(table, which, depth, reply) else {
+        return Answer::refused_whole(20, 0);
+    };
+    Answer::granted(false, n, 0)
 }
 
 // Whether a heading is of the file that is read.
@@ -141,6 +157,7 @@ fn is_right(table: &[u8], sheet: Sheet, heading: Room) -> bool
     match sheet {
         Sheet::Text(_, _) => is_simple(table, heading),
         Sheet::Lines => is_directory(table, heading),
+        Sheet::Deep(_) => is_directory(table, heading),
     }
 }
 
@@ -154,6 +171,7 @@ fn write(table: &[u8], sheet: Sheet, heading: Room, reply: &mut [u8]) -> Answer
     match sheet {
         Sheet::Text(first, count) => write_text(table, heading, first, count, reply),
         Sheet::Lines => list(table, Listed::Directory(heading), reply),
+        Sheet::Deep(depth) => list_deep(table, Listed::Directory(heading), depth, reply),
     }
 }
 
@@ -174,7 +192,7 @@ fn read_at(table: &[u8], sheet: Sheet, place: Place, f: State, reply: &mut [u8])
     write(table, sheet, heading, reply)
 }
 
-// "RDS writes the text to the front of the reply buffer." "LST writes one line an entry"
+// "RDS writes the text to the front of the reply buffer." "LST writes one line an entry", and LST* those under it
 pub(crate) fn read(
     table: &[u8],
     line: &[u8],
@@ -203,4 +221,13 @@ pub(crate) fn lst_base(table: &[u8], reply: &mut [u8], user: u32) -> Answer
         (lstBasePlan (now (table .entry)) user (now (reply .entry))) r (now (reply .exit)) ⌝ }
 {
     list(table, Listed::Base(user), reply)
+}
+
+// "LST* of a lone point", to a depth
+pub(crate) fn lst_base_tree(table: &[u8], reply: &mut [u8], user: u32, depth: u8) -> Answer
+    requires { ⌜ Fit (now table) ⌝ }
+    ensures { λ r. ⌜ Wrote (now (table .entry)) (now (reply .entry))
+        (lstBaseTreePlan (now (table .entry)) user (now (reply .entry)) depth) r (now (reply .exit)) ⌝ }
+{
+    list_deep(table, Listed::Base(user), depth, reply)
 }

@@ -16,17 +16,17 @@ use Rattle.io.specs.Digits.{digits, Fewest}
 use Rattle.answers.specs.declared.Answer.{Answer}
 use Rattle.filebox.specs.Spelled.{Spelled, Line}
 
--- a number of 32 bits has at most ten digits
-pub few-digits : (n k : ℕ) → n < 4294967296 → Fewest 10 1 n k → k ≤ 10
-few-digits n k l f = go (truth (leb k 10))
+-- a number of 64 bits has at most twenty digits
+pub few-digits : (n k : ℕ) → n < 18446744073709551616 → Fewest 10 1 n k → k ≤ 20
+few-digits n k l f = go (truth (leb k 20))
   where
-    go : (leb k 10 ≡ true) ⊎ (leb k 10 ≡ false) → k ≤ 10
-    go (inl e) = leb-true k 10 e
+    go : (leb k 20 ≡ true) ⊎ (leb k 20 ≡ false) → k ≤ 20
+    go (inl e) = leb-true k 20 e
     go (inr e) =
-        let h : 10 < k = leb-false k 10 e in
-        let m : 10 ≤ k - 1 = omega arith in
+        let h : 20 < k = leb-false k 20 e in
+        let m : 20 ≤ k - 1 = omega arith in
         let o : 0 < 10 = omega arith in
-        let p : 10 ^ 10 ≤ 10 ^ (k - 1) = pow-le-pow-right o m in
+        let p : 10 ^ 20 ≤ 10 ^ (k - 1) = pow-le-pow-right o m in
         let q : 10 ^ (k - 1) ≤ n = f .2 (omega arith) in
         let z : ⊥ = omega arith in
         absurd z
@@ -37,7 +37,7 @@ laid l d at h =
     let n : length (take at l ++ d) ≡ at + length d = length-append (take at l) d ∙ ap (λ (k : ℕ). k + length d) (length-take-le at l (omega arith)) in
     rw (sets-eq d l at h, ← n) (take-append-seam (take at l ++ d) (drop (length (take at l ++ d)) l))
 
-pub spelled : (l d l₁ l₂ : List ℕ) (at n b k : ℕ) → at + 11 ≤ length l → k ≤ 10 → k ≡ length d → Fewest 10 1 n k → d ≡ digits 10 k n → l₁ ≡ sets l at d
+pub spelled : (l d l₁ l₂ : List ℕ) (at n b k : ℕ) → at + 21 ≤ length l → k ≤ 20 → k ≡ length d → Fewest 10 1 n k → d ≡ digits 10 k n → l₁ ≡ sets l at d
     → l₂ ≡ set l₁ (at + k) b → Spelled l at n b (at + k + 1) l₂
 spelled l d l₁ l₂ at n b k room few e f g p q =
     record {

@@ -26,7 +26,7 @@ pub record Spelled (l : List ℕ) (at n b r : ℕ) (l' : List ℕ) : Type 0 wher
   pub number : List ℕ
   pub decimal : Decimal n number
   pub text : take r l' ≡ put (take at l) number b
-  pub end : r ≤ at + 11
+  pub end : r ≤ at + 21
 
 -- the seven numbers, a blank after each but the last, which a byte 10 follows
 pub record Line (a : Answer) (s : List ℕ) : Type 0 where

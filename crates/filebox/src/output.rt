@@ -8,21 +8,29 @@ ghost use lib.ListN.{length, take};
 ghost use Rattle.filebox.specs.Spelled.{Spelled, Line};
 
 // A number in decimal from a place on, and a byte after it; answers the place past them.
-fn spell(out: &mut [u8], at: usize, n: u32, after: u8) -> usize
-    requires { ⌜ at + 11 ≤ length (now out) ⌝ }
+fn spell_wide(out: &mut [u8], at: usize, n: u64, after: u8) -> usize
+    requires { ⌜ at + 21 ≤ length (now out) ⌝ }
     ensures { λ r. ⌜ Spelled (now (out .entry)) at n after r (now (out .exit)) ⌝ }
 {
     let mut digits = [0u8; 20];
-    let k = io::decimal(n as u64, &mut digits);
+    let k = io::decimal(n, &mut digits);
     copy_in(out, at, &digits[..k]);
     let e = at + k;
     out[e] = after;
     e + 1
 }
 
+// The same of 32 bits.
+fn spell(out: &mut [u8], at: usize, n: u32, after: u8) -> usize
+    requires { ⌜ at + 21 ≤ length (now out) ⌝ }
+    ensures { λ r. ⌜ Spelled (now (out .entry)) at n after r (now (out .exit)) ⌝ }
+{
+    spell_wide(out, at, n as u64, after)
+}
+
 // "each answer's .. numbers in decimal on a line, a blank between, displaced as 0 or 1": the place is two of the seven
 pub(crate) fn spell_answer(a: Answer, out: &mut [u8]) -> usize
-    requires { ⌜ length (now out) ≡ 77 ⌝ }
+    requires { ⌜ length (now out) ≡ 147 ⌝ }
     ensures { λ r. ⌜ Line a (take r (now (out .exit))) ⌝ }
 {
     let place = spell(out, 0, a.number, b' ');
@@ -30,7 +38,7 @@ pub(crate) fn spell_answer(a: Answer, out: &mut [u8]) -> usize
     let names = spell(out, link, a.link, b' ');
     let displaced = spell(out, names, a.names, b' ');
     let bytes = spell(out, displaced, a.displaced, b' ');
-    let stores = spell(out, bytes, a.bytes, b' ');
+    let stores = spell_wide(out, bytes, a.bytes as u64, b' ');
     spell(out, stores, a.stores, b'\n')
 }
 

@@ -25,7 +25,7 @@ fn ask(
     held: Held,
     out: &mut [u8],
 ) -> Answered
-    requires { ⌜ length (now out) ≡ 77 ⌝ }
+    requires { ⌜ length (now out) ≡ 147 ⌝ }
     ensures { λ r. ⌜ Asks (now (table .entry)) (now (line .entry)) (now (text .entry)) (now (reply .entry))
         held (now (table .exit)) (now (reply .exit)) (now (out .exit)) r ⌝ }
 {
@@ -34,7 +34,7 @@ fn ask(
     let answer = elephant::request(table, first(line, n), first(text, m), reply, USER, STOP);
     Answered {
         line: spell_answer(answer, out),
-        reply: answer.bytes as usize,
+        reply: answer.bytes,
     }
 }
 
@@ -43,7 +43,7 @@ fn answer(table: &mut [u8], line: &[u8], text: &[u8], reply: &mut [u8], held: He
     ensures { λ r. ⌜ Follows answered (now (table .entry)) (now (line .entry)) (now (text .entry)) (now (reply .entry))
         held (now (table .exit)) (now (line .entry)) (now (text .entry)) (now (reply .exit)) r ⌝ }
 {
-    let mut out = [0u8; 77];
+    let mut out = [0u8; 147];
     let told = ask(table, line, text, reply, held, &mut out);
     let n = told.line;
     let m = told.reply;

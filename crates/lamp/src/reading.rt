@@ -40,7 +40,7 @@ fn is_brought(answer: Answer, back: &[u8], text: &[u8]) -> bool
     if answer.number != 0 {
         return false;
     }
-    are_same(part(back, 0, Bytes(answer.bytes as usize)), text)
+    are_same(part(back, 0, Bytes(answer.bytes)), text)
 }
 
 // Every sheet read back, up to the first that fails.

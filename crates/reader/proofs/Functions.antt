@@ -8,12 +8,14 @@ use native.Mathlib.Omega.{arith}
 use lib.ListN.{length, getD, drop, length-drop}
 use lib.Seq.{drop-cons}
 use lib.Dec.{eqb, leb}
-use borrow.Author.Tests.{eqb-true, leb-true}
+use borrow.Author.Tests.{eqb-true, eq-eqb, ne-eqb, leb-true}
+use Rattle.paper.specs.Declaration.{given, notGiven}
 use Rattle.paper.specs.Name.{same, alone, linkName}
 use Rattle.paper.specs.Line.{words, word}
 use Rattle.paper.specs.Check.{whole, refusalAt, Check, refused, verdict}
-use Rattle.paper.specs.Request.{unread, counted, miscounted, malformed, illegal, linkAlone, unlinked, misbased, isFunction, readCrd, readWrs, readRds, readLst, readCpy, readDup, readChn, readDpr, readDel, readFunction}
+use Rattle.paper.specs.Request.{unread, counted, miscounted, malformed, illegal, linkAlone, unlinked, misbased, isFunction, readCrd, readWrs, readRds, readLst, readCpy, readDup, readChn, readDpr, readDel, depthOf, depthGiven, isTree, readTree, readFunction}
 use Rattle.words.specs.Place.{loneOf, namesFrom, wordAt}
+use Rattle.laws.proofs.Entries.{same-true}
 use Rattle.laws.proofs.Tests.{false-by, and-left, and-right, clash}
 use Rattle.records.proofs.Order.{same-length}
 use Rattle.words.proofs.Names.{alone-lone}
@@ -37,6 +39,26 @@ link-lone [] = refl
 link-lone (n ∷ []) = refl
 link-lone (n ∷ m ∷ ns) = refl
 
+-- the depth of LST* by its stretch
+pub depth-lone : (ns : List (List ℕ)) → depthGiven ns ≡ depthOf (loneOf ns)
+unfolding depthOf
+depth-lone [] = refl
+depth-lone (n ∷ []) = refl
+depth-lone (n ∷ m ∷ ns) = refl
+
+-- .. of word k, which starts at p
+pub depth-word : (line : List ℕ) (k p : ℕ) → p ≡ word line k .start → depthGiven (word line k .names) ≡ depthGiven (namesFrom line p)
+depth-word line k p e = rw (word-names line k, ← e)
+
+pub depth-none : (line : List ℕ) (p : ℕ) (w : List ℕ) → w ≡ loneOf (namesFrom line p) → (length w ≡ 1 → ⊥) → depthGiven (namesFrom line p) ≡ notGiven
+unfolding depthOf
+depth-none line p w e h = depth-lone (namesFrom line p) ∙ rw (← e, ne-eqb (length w) 1 h)
+
+pub depth-digit : (line : List ℕ) (p : ℕ) (w : List ℕ) (v : Bool) → w ≡ loneOf (namesFrom line p) → length w ≡ 1
+    → (leb 49 (getD w 0 0) && leb (getD w 0 0) 56) ≡ v → depthGiven (namesFrom line p) ≡ cond v (given (getD w 0 0 - 48)) notGiven
+unfolding depthOf
+depth-digit line p w v e h q = depth-lone (namesFrom line p) ∙ rw (← e, eq-eqb (length w) 1 h, q)
+
 -- the function is known by the stretch of the first word
 pub function-lone : (ns : List (List ℕ)) → functionOf (loneOf ns ∷ []) ≡ functionOf ns
 unfolding functionOf same
@@ -49,24 +71,25 @@ pub function-read : (line : List ℕ) → readFunction line ≡ readBy (function
 unfolding readFunction functionOf
 function-read line =
     go (isFunction 67 82 68 line) (isFunction 87 82 83 line) (isFunction 82 68 83 line) (isFunction 67 80 89 line) (isFunction 68 85 80 line)
-    (isFunction 67 72 78 line) (isFunction 68 69 76 line) (isFunction 68 80 82 line) (isFunction 76 83 84 line)
+    (isFunction 67 72 78 line) (isFunction 68 69 76 line) (isFunction 68 80 82 line) (isFunction 76 83 84 line) (isTree line)
   where
-    go : (a b c d e f g h i : Bool)
+    go : (a b c d e f g h i j : Bool)
         → cond a (readCrd line) (cond b (readWrs line) (cond c (readRds line) (cond d (readCpy line) (cond e (readDup line)
         (cond f (readChn line) (cond g (readDel line) (cond h (readDpr line) (cond i (readLst line)
-        (unread (refusalAt 5 (whole 0)))))))))))
+        (cond j (readTree line) (unread (refusalAt 5 (whole 0))))))))))))
         ≡ readBy (cond a function.Crd (cond b function.Wrs (cond c function.Rds (cond d function.Cpy (cond e function.Dup
-        (cond f function.Chn (cond g function.Del (cond h function.Dpr (cond i function.Lst function.Nothing))))))))) line
-    go true b c d e f g h i = refl
-    go false true c d e f g h i = refl
-    go false false true d e f g h i = refl
-    go false false false true e f g h i = refl
-    go false false false false true f g h i = refl
-    go false false false false false true g h i = refl
-    go false false false false false false true h i = refl
-    go false false false false false false false true i = refl
-    go false false false false false false false false true = refl
-    go false false false false false false false false false = refl
+        (cond f function.Chn (cond g function.Del (cond h function.Dpr (cond i function.Lst (cond j function.LstTree function.Nothing)))))))))) line
+    go true b c d e f g h i j = refl
+    go false true c d e f g h i j = refl
+    go false false true d e f g h i j = refl
+    go false false false true e f g h i j = refl
+    go false false false false true f g h i j = refl
+    go false false false false false true g h i j = refl
+    go false false false false false false true h i j = refl
+    go false false false false false false false true i j = refl
+    go false false false false false false false false true j = refl
+    go false false false false false false false false false true = refl
+    go false false false false false false false false false false = refl
 
 -- what the first word's function reads, by the word's place and its stretch
 pub first-word : (line : List ℕ) (p : ℕ) (w : List ℕ) (f g : Function) → p ≡ word line 0 .start → w ≡ loneOf (namesFrom line p)
@@ -97,10 +120,19 @@ letters (a ∷ b ∷ []) e = let z : ⊥ = omega arith in absurd z
 letters (a ∷ b ∷ c ∷ []) e = refl
 letters (a ∷ b ∷ c ∷ d ∷ s) e = let z : ⊥ = omega arith in absurd z
 
-pub no-function : (n : List ℕ) → (length n ≡ 3 → ⊥) → functionOf (n ∷ []) ≡ function.Nothing
+-- three letters are not four
+pub no-four : (a b c : ℕ) → alone (76 ∷ 83 ∷ 84 ∷ 42 ∷ []) ((a ∷ b ∷ c ∷ []) ∷ []) ≡ false
+no-four a b c = same-length (a ∷ b ∷ c ∷ []) (76 ∷ 83 ∷ 84 ∷ 42 ∷ []) (λ (e : length (a ∷ b ∷ c ∷ []) ≡ 4). let z : _≡_ {A = ℕ} 3 4 = e in omega arith)
+
+-- the four of LST*
+pub tree-letters : (n : List ℕ) → same n (76 ∷ 83 ∷ 84 ∷ 42 ∷ []) ≡ true → functionOf (n ∷ []) ≡ function.LstTree
+unfolding functionOf same
+tree-letters n e = rw (same-true n (76 ∷ 83 ∷ 84 ∷ 42 ∷ []) e)
+
+pub no-function : (n : List ℕ) → same n (76 ∷ 83 ∷ 84 ∷ 42 ∷ []) ≡ false → (length n ≡ 3 → ⊥) → functionOf (n ∷ []) ≡ function.Nothing
 unfolding functionOf
-no-function n h = let no : (a b c : ℕ) → same n (a ∷ b ∷ c ∷ []) ≡ false = λ a b c. same-length n (a ∷ b ∷ c ∷ []) h in
-    rw (no 67 82 68, no 87 82 83, no 82 68 83, no 67 80 89, no 68 85 80, no 67 72 78, no 68 69 76, no 68 80 82, no 76 83 84)
+no-function n f h = let no : (a b c : ℕ) → same n (a ∷ b ∷ c ∷ []) ≡ false = λ a b c. same-length n (a ∷ b ∷ c ∷ []) h in
+    rw (no 67 82 68, no 87 82 83, no 82 68 83, no 67 80 89, no 68 85 80, no 67 72 78, no 68 69 76, no 68 80 82, no 76 83 84, f)
 
 -- a passed count has at least the least number of arguments
 pub count-least : (least most : ℕ) (line : List ℕ) (cs : List Check) (v : Verdict)

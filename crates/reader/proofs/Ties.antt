@@ -10,7 +10,7 @@ use Rattle.paper.specs.Name.{lonePoint}
 use Rattle.paper.specs.Declaration.{Part, given, notGiven, wrsLifetime, dprCode}
 use Rattle.paper.specs.Line.{words, word, legalLine}
 use Rattle.paper.specs.Check.{Refusal, Check, Verdict, passed, refused, verdict}
-use Rattle.paper.specs.Request.{Request, Read, request, unread, after, needed, declaredAt, isFunction, readCrd, readWrs, readRds, readLst, readCpy, readDup, readChn, readDpr, readDel, readFunction, read}
+use Rattle.paper.specs.Request.{Request, Read, request, unread, after, needed, declaredAt, isFunction, readCrd, readWrs, readRds, readLst, readCpy, readDup, readChn, readDpr, readDel, depthGiven, readTree, isTree, readFunction, read}
 use Rattle.laws.proofs.Tests.{either}
 use Rattle.reader.specs.Tied.{Tied, TiedRead}
 
@@ -72,6 +72,12 @@ module _ (line : List ℕ) where
   unfolding readLst
   tied-lst = either (TiedRead line) (lonePoint (word line 1 .names)) _ _ (gives _ _ tt) (gives _ _ refl)
 
+  tied-tree : TiedRead line (readTree line)
+  unfolding readTree
+  tied-tree =
+      either (TiedRead line) (lonePoint (word line 1 .names)) _ _ (keeps _ _ (needs-one 2 (depthGiven (word line 2 .names)) _ (λ n. tt)))
+      (keeps _ _ (needs-one 2 (depthGiven (word line 2 .names)) _ (λ n. refl)))
+
   tied-function : TiedRead line (readFunction line)
   unfolding readFunction
   tied-function =
@@ -84,7 +90,8 @@ module _ (line : List ℕ) where
       (either (TiedRead line) (isFunction 68 69 76 line) _ _ tied-del
       (either (TiedRead line) (isFunction 68 80 82 line) _ _ tied-dpr
       (either (TiedRead line) (isFunction 76 83 84 line) _ _ tied-lst
-      (none _)))))))))
+      (either (TiedRead line) (isTree line) _ _ tied-tree
+      (none _))))))))))
 
   -- what is read names the line's own words
   pub tied : TiedRead line (read line)

@@ -4,11 +4,11 @@ use mathlib.Core.List.{List, [], _∷_}
 use Prim.Native.Nat.{ℕ}
 use lib.Dec.{leb}
 use lib.ListN.{length}
-use Rattle.paper.specs.Line.{Word}
+use Rattle.paper.specs.Line.{Word, word}
 use Rattle.paper.specs.Name.{alone}
 use Rattle.paper.specs.Check as paper
 use Rattle.paper.specs.Check.{whole, refusalAt, Check, passed, refused}
-use Rattle.paper.specs.Request.{malformed, illegal, illegalBut, isTake, isTakeWithin, isGive, miscounted, readCrd, readWrs, readRds, readLst, readCpy, readDup, readChn, readDpr, readDel, crd, wrs, rds, cpy, dup, chn, del, dpr, lst, lstBase, request, unread}
+use Rattle.paper.specs.Request.{malformed, illegal, illegalBut, isTake, isTakeWithin, isGive, miscounted, readCrd, readWrs, readRds, readLst, readCpy, readDup, readChn, readDpr, readDel, crd, wrs, rds, cpy, dup, chn, del, dpr, lst, lstBase, lstTree, lstBaseTree, request, unread, after, needed, oldFrom, depthGiven, readTree}
 use Rattle.paper.specs.Request as asked
 use Rattle.words.specs.Shown.{beginShown, shownPart}
 use Rattle.words.specs.declared.octal.Part.the-variants.{Given, NotGiven}
@@ -18,7 +18,7 @@ use Rattle.declarations.specs.Given.{shownLifetime, shownLevel, shownDigit}
 use Rattle.reader.specs.declared.function.Function.{Function}
 use Rattle.reader.specs.declared.function.Function.the-variants as function
 use Rattle.reader.specs.declared.request.Request.{Request}
-use Rattle.reader.specs.declared.request.Request.the-variants.{Crd, Wrs, Rds, Cpy, Dup, Chn, Del, Dpr, Lst, LstBase}
+use Rattle.reader.specs.declared.request.Request.the-variants.{Crd, Wrs, Rds, Cpy, Dup, Chn, Del, Dpr, Lst, LstBase, LstTree, LstBaseTree}
 use Rattle.reader.specs.declared.request.Refusal.{Refusal}
 use Rattle.reader.specs.declared.request.Verdict.{Verdict}
 use Rattle.reader.specs.declared.request.Verdict.the-variants as verdicts
@@ -44,6 +44,8 @@ shownRequest (del ws) = Del (firstStart ws) (length ws)
 shownRequest (dpr w d) = Dpr (w .start) d
 shownRequest (lst b w) = Lst (beginShown b) (w .start)
 shownRequest lstBase = LstBase
+shownRequest (lstTree b w d) = LstTree (beginShown b) (w .start) d
+shownRequest (lstBaseTree d) = LstBaseTree d
 
 abbrev pub shownRefusal : paper.Refusal → Refusal
 shownRefusal f = record { number = f .number; place = f .place .argument; link = f .place .link }
@@ -69,15 +71,24 @@ faultCheck faults.IllegalTake = illegalBut isTake
 faultCheck faults.IllegalTakeWithin = illegalBut isTakeWithin
 faultCheck faults.IllegalGive = illegalBut isGive
 
--- the checks of RDS and LST: the count of arguments, then 7 and 8 of the name
-abbrev pub oldChecks : ℕ → List ℕ → Word → List Check
-oldChecks most line old = miscounted 1 most line ∷ malformed 1 old ∷ illegalBut isTake 1 old ∷ []
+-- the checks of RDS, LST and LST*: the count of arguments, then 7 and 8 of the name
+abbrev pub oldChecks : (least most : ℕ) → List ℕ → Word → List Check
+oldChecks least most line old = miscounted least most line ∷ malformed 1 old ∷ illegalBut isTake 1 old ∷ []
 
 -- a number of RDS as a count: 0 is none
 abbrev pub countOf : Octal → Octal
 countOf (Number (Given n)) = cond (leb 1 n) (Number (Given n)) NoNumber
 countOf (Number NotGiven) = Number NotGiven
 countOf NoNumber = NoNumber
+
+-- what LST* reads of a name, and of a lone point
+unfoldable pub treeName : List ℕ → asked.Read
+treeName line =
+    after (paper.verdict (oldChecks 2 2 line (word line 1)))
+    (needed 2 (depthGiven (word line 2 .names)) (λ depth. lstTree (oldFrom (word line 1)) (word line 1) depth))
+
+unfoldable pub treeBase : List ℕ → asked.Read
+treeBase line = after (paper.verdict (miscounted 2 2 line ∷ [])) (needed 2 (depthGiven (word line 2 .names)) (λ depth. lstBaseTree depth))
 
 -- the checks of CPY and DUP but for the declaration: the count, 7 of both names, then 8 of both
 abbrev pub bothChecks : List ℕ → Fault → Word → Fault → Word → List Check
@@ -96,7 +107,8 @@ functionOf ns =
     (cond (alone (68 ∷ 69 ∷ 76 ∷ []) ns) function.Del
     (cond (alone (68 ∷ 80 ∷ 82 ∷ []) ns) function.Dpr
     (cond (alone (76 ∷ 83 ∷ 84 ∷ []) ns) function.Lst
-    function.Nothing))))))))
+    (cond (alone (76 ∷ 83 ∷ 84 ∷ 42 ∷ []) ns) function.LstTree
+    function.Nothing)))))))))
 
 -- and what it reads of a line
 abbrev pub readBy : Function → List ℕ → asked.Read
@@ -109,4 +121,5 @@ readBy function.Chn = readChn
 readBy function.Del = readDel
 readBy function.Dpr = readDpr
 readBy function.Lst = readLst
+readBy function.LstTree = readTree
 readBy function.Nothing = λ line. unread (refusalAt 5 (whole 0))

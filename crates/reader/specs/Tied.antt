@@ -4,7 +4,7 @@ use mathlib.Core.Path.{_≡_}
 use Prim.Native.Nat.{ℕ}
 use lib.ListN.{drop}
 use Rattle.paper.specs.Line.{words, word}
-use Rattle.paper.specs.Request.{Request, crd, wrs, rds, cpy, dup, chn, del, dpr, lst, lstBase, Read, request, unread}
+use Rattle.paper.specs.Request.{Request, crd, wrs, rds, cpy, dup, chn, del, dpr, lst, lstBase, lstTree, lstBaseTree, Read, request, unread}
 
 -- each name of the request is the argument where the function has it
 abbrev pub Tied : List ℕ → Request → Type 0
@@ -18,6 +18,8 @@ Tied line (del ws) = ws ≡ drop 1 (words line)
 Tied line (dpr w d) = w ≡ word line 1
 Tied line (lst b w) = w ≡ word line 1
 Tied line lstBase = Unit
+Tied line (lstTree b w d) = w ≡ word line 1
+Tied line (lstBaseTree d) = Unit
 
 -- and a refusal has none
 unfoldable pub TiedRead : List ℕ → Read → Type 0

@@ -1,4 +1,5 @@
 // The function that a name is.
+use records::name::are_same;
 ghost use mathlib.Core.Path.{_≡_};
 ghost use mathlib.Core.List.{[], _∷_};
 ghost use Rattle.reader.specs.Asked.{functionOf};
@@ -13,6 +14,7 @@ pub(crate) enum Function {
     Del,
     Dpr,
     Lst,
+    LstTree,
     Nothing,
 }
 
@@ -62,6 +64,9 @@ impl Function {
     pub(crate) fn of(name: &[u8]) -> Function
         ensures { λ r. ⌜ r ≡ functionOf (now (name .entry) ∷ []) ⌝ }
     {
+        if are_same(name, b"LST*") {
+            return Function::LstTree;
+        }
         if name.len() != Function::LETTERS {
             return Function::Nothing;
         }

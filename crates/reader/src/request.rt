@@ -39,9 +39,10 @@ ghost use Prim.Native.Nat.{_-_};
 ghost use lib.ListN.{length};
 ghost use Rattle.paper.specs.Line.{words};
 ghost use Rattle.paper.specs.Check.{verdict};
-ghost use Rattle.paper.specs.Request.{each, between, malformed, illegalBut, unlinked, misbased, miscounted, misnamed, linkAlone, readCrd, readWrs, readRds, readLst, readCpy, readDup, readChn, readDpr, readDel, readFunction, read};
+ghost use Rattle.paper.specs.Request.{each, between, malformed, illegalBut, unlinked, misbased, miscounted, misnamed, linkAlone, readCrd, readWrs, readRds, readLst, readCpy, readDup, readChn, readDpr, readDel, depthGiven, readTree, readFunction, read};
 ghost use Rattle.words.specs.Place.{namesFrom, wordAt};
-ghost use Rattle.reader.specs.Asked.{faultCheck, oldChecks, bothChecks, firstOf, shownVerdict, shownRead};
+ghost use Rattle.declarations.specs.Given.{shownDigit};
+ghost use Rattle.reader.specs.Asked.{faultCheck, oldChecks, treeName, treeBase, bothChecks, firstOf, shownVerdict, shownRead};
 
 // The nine functions, and LST of a lone point. Names stand by the places where they start in the line; the names of DEL are
 // the words from the first on.
@@ -95,6 +96,14 @@ pub enum Request {
         name: usize,
     },
     LstBase,
+    LstTree {
+        from: Begin,
+        name: usize,
+        depth: u8,
+    },
+    LstBaseTree {
+        depth: u8,
+    },
 }
 
 impl Request {
@@ -268,10 +277,10 @@ fn check_form(line: &[u8], least: usize, most: usize, a: usize, b: usize) -> Ver
 }
 
 // The count of arguments, then the first of them, a name at p.
-fn check_old(line: &[u8], most: usize, p: usize) -> Verdict
-    ensures { λ r. ⌜ r ≡ shownVerdict (verdict (oldChecks most (now (line .entry)) (wordAt (now (line .entry)) p))) ⌝ }
+fn check_old(line: &[u8], least: usize, most: usize, p: usize) -> Verdict
+    ensures { λ r. ⌜ r ≡ shownVerdict (verdict (oldChecks least most (now (line .entry)) (wordAt (now (line .entry)) p))) ⌝ }
 {
-    check_count(line, 1, most)
+    check_count(line, least, most)
         .then(check_name(line, p, Fault::Malformed, 1))
         .then(check_name(line, p, Fault::IllegalTake, 1))
 }
@@ -334,7 +343,7 @@ fn read_rds(line: &[u8]) -> Read
     ensures { λ r. ⌜ r ≡ shownRead (readRds (now (line .entry))) ⌝ }
 {
     let p = word_at(line, 1);
-    if let Verdict::Refused(refusal) = check_old(line, 3, p) {
+    if let Verdict::Refused(refusal) = check_old(line, 1, 3, p) {
         return Read::Refused(refusal);
     }
     let Octal::Number(first) = octal_at(line, 2) else {
@@ -362,13 +371,69 @@ fn read_lst(line: &[u8]) -> Read
         }
         return Read::Granted(Request::LstBase);
     }
-    if let Verdict::Refused(refusal) = check_old(line, 1, p) {
+    if let Verdict::Refused(refusal) = check_old(line, 1, 1, p) {
         return Read::Refused(refusal);
     }
     Read::Granted(Request::Lst {
         from: old_from(line, p),
         name: p,
     })
+}
+
+// The depth that the word at p is: one byte from 1 to 8.
+fn depth_at(line: &[u8], p: usize) -> Digit
+    ensures { λ r. ⌜ r ≡ shownDigit (depthGiven (namesFrom (now (line .entry)) p)) ⌝ }
+{
+    let w = lone_word(line, p);
+    if w.len() != 1 {
+        return Digit::NotGiven;
+    }
+    let b = w[0];
+    match b {
+        b'1'..=b'8' => Digit::Given(b - b'0'),
+        _ => Digit::NotGiven,
+    }
+}
+
+// LST* of a name
+fn read_tree_name(line: &[u8]) -> Read
+    ensures { λ r. ⌜ r ≡ shownRead (treeName (now (line .entry))) ⌝ }
+{
+    let p = word_at(line, 1);
+    if let Verdict::Refused(refusal) = check_old(line, 2, 2, p) {
+        return Read::Refused(refusal);
+    }
+    let Digit::Given(depth) = depth_at(line, word_at(line, 2)) else {
+        return unfit_at(2);
+    };
+    Read::Granted(Request::LstTree {
+        from: old_from(line, p),
+        name: p,
+        depth: depth,
+    })
+}
+
+// LST* of a lone point
+fn read_tree_base(line: &[u8]) -> Read
+    ensures { λ r. ⌜ r ≡ shownRead (treeBase (now (line .entry))) ⌝ }
+{
+    if let Verdict::Refused(refusal) = check_count(line, 2, 2) {
+        return Read::Refused(refusal);
+    }
+    let Digit::Given(depth) = depth_at(line, word_at(line, 2)) else {
+        return unfit_at(2);
+    };
+    Read::Granted(Request::LstBaseTree { depth: depth })
+}
+
+// LST* name digit
+fn read_tree(line: &[u8]) -> Read
+    ensures { λ r. ⌜ r ≡ shownRead (readTree (now (line .entry))) ⌝ }
+{
+    if are_same(lone_word(line, word_at(line, 1)), b".") {
+        return read_tree_base(line);
+    }
+    read_tree_name(line)
 }
 
 // CPY old new [decl]
@@ -527,6 +592,7 @@ fn read_function(line: &[u8]) -> Read
         Function::Del => read_del(line),
         Function::Dpr => read_dpr(line),
         Function::Lst => read_lst(line),
+        Function::LstTree => read_tree(line),
         Function::Nothing => Read::Refused(Refusal {
             number: 5,
             place: 0,

@@ -188,6 +188,14 @@ fn put_request(request: Request) {
         }
         Request::Lst { from, name } => put_old(b"0 LST", from, name),
         Request::LstBase => put(b"0 LST ."),
+        Request::LstTree { from, name, depth } => {
+            put_old(b"0 LST*", from, name);
+            put_number(depth);
+        }
+        Request::LstBaseTree { depth } => {
+            put(b"0 LST* .");
+            put_number(depth);
+        }
     }
 }
 

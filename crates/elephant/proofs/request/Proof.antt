@@ -1,4 +1,4 @@
--- Each return is one law: 1 to 3, 4 to 9, 10, or what `grant` promises. A refusal's place fits, since no line that is counted has more
+-- Each return is one law: 1 to 3, 4 to 9, 10, or what `grant` or `admit` promises. A refusal's place fits, since no line that is counted has more
 -- than eight arguments, and its link, since no line that is not too long has more than 257 names.
 use mathlib.Core.Path.{sym, _∙_}
 use native.Mathlib.Omega.{arith}
@@ -55,8 +55,8 @@ enum-known-read-2 c = search needs
 enum-told : tie.Need-enum-told
 enum-told c = search needs
 
-grant-requires : tie.Need-grant-requires
-grant-requires c κs =
+admit-requires : tie.Need-admit-requires
+admit-requires c κs =
     let at-read2 = c .before .before .before .before in
     let at-read-line = at-read2 .before .before in
     let at-entrance-number = at-read-line .before .before in
@@ -76,8 +76,8 @@ same-length-3 c = search needs
 
 returns-2 : tie.Need-returns-2
 returns-2 c =
-    let at-grant = c .before .before .before .before in
-    at-grant .grant .ensures
+    let at-admit = c .before .before .before .before in
+    at-admit .admit .ensures
 
 refused-whole-requires-2 : tie.Need-refused-whole-requires-2
 refused-whole-requires-2 c κs = search needs
@@ -99,8 +99,8 @@ returns-3 c =
     refused-long (s .args .table .now) (s .args .line .now) (s .args .text .now) (s .args .reply .now) (s .args .user) (s .args .stop) (n .result)
     (n .ensures) (omega arith) (g .0 .0) q (w ∙ lt-ltb 24000 _ (c .before .if2 .taken)) _ (c .refused-whole2 .ensures)
 
-grant-requires-2 : tie.Need-grant-requires-2
-grant-requires-2 c κs =
+grant-requires : tie.Need-grant-requires
+grant-requires c κs =
     let at-read2 = c .before .before .before .before .before .before in
     let at-read-line = at-read2 .before .before in
     let at-entrance-number = at-read-line .before .before in
@@ -136,8 +136,8 @@ same-length-7 c = search needs
 
 returns-5 : tie.Need-returns-5
 returns-5 c =
-    let at-grant2 = c .before .before .before .before in
-    at-grant2 .grant2 .ensures
+    let at-grant = c .before .before .before .before in
+    at-grant .grant .ensures
 
 pub request-spec : {M : Type 1} → statement M
 request-spec =
@@ -153,14 +153,14 @@ request-spec =
     refused-at-requires
     enum-known-read-2
     enum-told
-    grant-requires
+    admit-requires
     same-length-2
     same-length-3
     returns-2
     refused-whole-requires-2
     same-length-4
     returns-3
-    grant-requires-2
+    grant-requires
     same-length-5
     returns-4
     same-length-6

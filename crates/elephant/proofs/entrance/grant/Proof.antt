@@ -2,7 +2,7 @@
 -- The laws stand in `Granted`, one of each kind for a function.
 use native.Mathlib.Omega.{arith}
 use borrow.Author.Needs.{needs}
-use Rattle.elephant.proofs.Granted.{line-short, crd-ready, wrs-ready, cpy-ready, dup-ready, chn-ready, del-ready, crd-done, wrs-done, rds-done, cpy-done, dup-done, chn-done, del-done, dpr-done, lst-done, lst-base-done}
+use Rattle.elephant.proofs.Granted.{line-short, crd-ready, wrs-ready, cpy-ready, dup-ready, chn-ready, del-ready, crd-done, wrs-done, rds-done, cpy-done, dup-done, chn-done, del-done, dpr-done, lst-done, lst-base-done, lst-tree-done, lst-base-tree-done}
 use Rattle.elephant.proofs.entrance.grant.Statement.{statement}
 use Rattle.elephant.proofs.entrance.grant.Tie as tie
 
@@ -97,6 +97,20 @@ enum-told c = search needs
 
 lst-base-requires : tie.Need-lst-base-requires
 lst-base-requires c κs = search needs
+
+enum-known-asked-10 : tie.Need-enum-known-asked-10
+enum-known-asked-10 c = search needs
+
+read-requires-3 : tie.Need-read-requires-3
+read-requires-3 c κs =
+    let s = c .before .before .before .before .before .before .before .before .before in
+    (s .pre .fit, line-short (s .pre))
+
+enum-known-asked-11 : tie.Need-enum-known-asked-11
+enum-known-asked-11 c = search needs
+
+lst-base-tree-requires : tie.Need-lst-base-tree-requires
+lst-base-tree-requires c κs = search needs
 
 same-length : tie.Need-same-length
 same-length c = search needs
@@ -211,6 +225,32 @@ returns-10 c =
     let g = at-asked .enum-told .given in
     lst-base-done (s .pre) (s .args .reply .now) (s .args .stop) _ _ (g .1) (c .before .before .lst-base .ensures)
 
+same-length-14 : tie.Need-same-length-14
+same-length-14 c = search needs
+
+same-length-15 : tie.Need-same-length-15
+same-length-15 c = search needs
+
+returns-11 : tie.Need-returns-11
+returns-11 c =
+    let at-asked = c .before .before .before .before .before .before in
+    let s = at-asked .before .before .before .before .before .before in
+    let g = at-asked .asked10 .given in
+    lst-tree-done (s .pre) (s .args .reply .now) (s .args .stop) _ _ (g .0 .0) (g .0 .1 .0) (g .0 .1 .1 .0) (g .1) (c .before .before .read3 .ensures)
+
+same-length-16 : tie.Need-same-length-16
+same-length-16 c = search needs
+
+same-length-17 : tie.Need-same-length-17
+same-length-17 c = search needs
+
+returns-12 : tie.Need-returns-12
+returns-12 c =
+    let at-asked = c .before .before .before .before .before .before in
+    let s = at-asked .before .before .before .before .before .before in
+    let g = at-asked .asked11 .given in
+    lst-base-tree-done (s .pre) (s .args .reply .now) (s .args .stop) _ _ (g .0 .0) (g .1) (c .before .before .lst-base-tree .ensures)
+
 pub grant-spec : {M : Type 1} → statement M
 grant-spec =
     tie.close
@@ -236,6 +276,10 @@ grant-spec =
     read-requires-2
     enum-told
     lst-base-requires
+    enum-known-asked-10
+    read-requires-3
+    enum-known-asked-11
+    lst-base-tree-requires
     same-length
     returns
     same-length-2
@@ -258,4 +302,10 @@ grant-spec =
     returns-9
     same-length-12
     same-length-13
-    returns-10)
+    returns-10
+    same-length-14
+    same-length-15
+    returns-11
+    same-length-16
+    same-length-17
+    returns-12)

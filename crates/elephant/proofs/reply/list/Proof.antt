@@ -10,7 +10,6 @@ use Rattle.listing.specs.Shown.{isListed}
 use Rattle.listing.proofs.Promised.{reply-after}
 use Rattle.elephant.proofs.Verdicts.{none-left, wrote-short, wrote-out}
 use Rattle.effects.proofs.Papers.{sized-most}
-use Rattle.elephant.proofs.Written.{lines-few}
 use borrow.Author.Needs.{needs}
 use Rattle.elephant.proofs.reply.list.Statement.{statement}
 use Rattle.elephant.proofs.reply.list.Tie as tie
@@ -31,12 +30,6 @@ returns c =
 
 write-lines-requires : tie.Need-write-lines-requires
 write-lines-requires c κs = search needs
-
-cast-granted : tie.Need-cast-granted
-cast-granted c =
-    let at-listed-length = c .before .before .before .before .before in
-    let start = at-listed-length .before .before .before in
-    omega (arith, at-listed-length .listed-length .ensures, lines-few (start .args .table .now) (isListed (start .args .which)) (start .pre))
 
 granted-requires : tie.Need-granted-requires
 granted-requires c κs = search needs
@@ -64,7 +57,6 @@ list-spec =
     refused-whole-requires
     returns
     write-lines-requires
-    cast-granted
     granted-requires
     same-length
     returns-2)

@@ -64,12 +64,6 @@ copy-part-requires c κs =
     let m = at-part-length .part-length in
     (p .0, p .1, omega (arith, n .ensures .0, m .ensures))
 
-cast-granted : tie.Need-cast-granted
-cast-granted c =
-    let at-part-length = c .before .before .before .before .before .before in
-    let at-text-length = at-part-length .before .before in
-    omega (arith, at-text-length .text-length .ensures .1, at-part-length .part-length .ensures)
-
 granted-requires : tie.Need-granted-requires
 granted-requires c κs = search needs
 
@@ -106,7 +100,6 @@ write-text-spec =
     refused-whole-requires-2
     returns-2
     copy-part-requires
-    cast-granted
     granted-requires
     same-length
     returns-3)

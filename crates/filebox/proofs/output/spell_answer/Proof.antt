@@ -1,5 +1,5 @@
 -- Each number is put after those before it,
--- and seven numbers of ten digits fit.
+-- and seven numbers of twenty digits fit.
 use Rattle.filebox.proofs.Spelling.{lined}
 use borrow.Author.Needs.{needs}
 use Rattle.filebox.proofs.output.spell_answer.Statement.{statement}
@@ -20,11 +20,11 @@ spell-requires-4 c κs = search needs
 spell-requires-5 : tie.Need-spell-requires-5
 spell-requires-5 c κs = search needs
 
+spell-wide-requires : tie.Need-spell-wide-requires
+spell-wide-requires c κs = search needs
+
 spell-requires-6 : tie.Need-spell-requires-6
 spell-requires-6 c κs = search needs
-
-spell-requires-7 : tie.Need-spell-requires-7
-spell-requires-7 c κs = search needs
 
 same-length : tie.Need-same-length
 same-length c = search needs
@@ -39,8 +39,8 @@ returns c =
     let at-spell2 = at-spell3 .before .before .before .before in
     let at-spell = at-spell2 .before .before .before .before in
     lined (at-spell .before .before .before .args .a) (at-spell .spell .ensures) (at-spell2 .spell2 .ensures)
-    (at-spell3 .spell3 .ensures) (at-spell4 .spell4 .ensures) (at-spell5 .spell5 .ensures) (at-spell6 .spell6 .ensures)
-    (at-spell7 .spell7 .ensures)
+    (at-spell3 .spell3 .ensures) (at-spell4 .spell4 .ensures) (at-spell5 .spell5 .ensures) (at-spell6 .spell-wide .ensures)
+    (at-spell7 .spell6 .ensures)
 
 pub spell-answer-spec : {M : Type 1} → statement M
 spell-answer-spec =
@@ -51,7 +51,7 @@ spell-answer-spec =
     spell-requires-3
     spell-requires-4
     spell-requires-5
+    spell-wide-requires
     spell-requires-6
-    spell-requires-7
     same-length
     returns)

@@ -18,9 +18,6 @@ request-requires c κs = search needs
 spell-answer-requires : tie.Need-spell-answer-requires
 spell-answer-requires c κs = search needs
 
-cast-t19 : tie.Need-cast-t19
-cast-t19 c = search needs
-
 same-length : tie.Need-same-length
 same-length c = search needs
 
@@ -32,7 +29,7 @@ same-length-3 c = search needs
 
 returns : tie.Need-returns
 returns c =
-    let at-spell-answer = c .before .before .before in
+    let at-spell-answer = c .before .before in
     let at-request = at-spell-answer .before .before .before .before .before .before in
     let at-first2 = at-request .before .before in
     let at-first = at-first2 .before in
@@ -48,7 +45,6 @@ ask-spec =
     first-requires-2
     request-requires
     spell-answer-requires
-    cast-t19
     same-length
     same-length-2
     same-length-3

@@ -11,9 +11,6 @@ returns c =
     let s = c .before .before .before .before in
     rw (ne-eqb (s .args .answer .number) 0 (c .if1 .taken))
 
-cast-t6 : tie.Need-cast-t6
-cast-t6 c = search needs
-
 part-requires : tie.Need-part-requires
 part-requires c κs = search needs
 
@@ -22,9 +19,9 @@ are-same-requires c κs = search needs
 
 returns-2 : tie.Need-returns-2
 returns-2 c =
-    let s = c .before .before .before .before .before .before .before in
-    let z : s .args .answer .number ≡ 0 = c .before .before .before .if1 .left in
+    let s = c .before .before .before .before .before .before in
+    let z : s .args .answer .number ≡ 0 = c .before .before .if1 .left in
     c .are-same .ensures ∙ rw (c .before .part .ensures, z)
 
 pub is-brought-spec : {M : Type 1} → statement M
-is-brought-spec = tie.close (tie.spec returns cast-t6 part-requires are-same-requires returns-2)
+is-brought-spec = tie.close (tie.spec returns part-requires are-same-requires returns-2)

@@ -35,7 +35,7 @@ returns c =
       eight .check-name2 .ensures,
       seven .check-name .ensures,
       count .check-count .ensures,
-    ) (verdict-three (miscounted 1 (args .most) line) (malformed 1 w) (illegalBut isTake 1 w))
+    ) (verdict-three (miscounted (args .least) (args .most) line) (malformed 1 w) (illegalBut isTake 1 w))
 
 pub check-old-spec : {M : Type 1} → statement M
 check-old-spec =

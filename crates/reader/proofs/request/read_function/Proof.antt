@@ -71,6 +71,12 @@ read-lst-requires c κs = tt
 enum-told-10 : tie.Need-enum-told-10
 enum-told-10 c = search needs
 
+read-tree-requires : tie.Need-read-tree-requires
+read-tree-requires c κs = tt
+
+enum-told-11 : tie.Need-enum-told-11
+enum-told-11 c = search needs
+
 returns : tie.Need-returns
 returns c =
     let told = c .before in
@@ -136,9 +142,16 @@ returns-9 c =
 
 returns-10 : tie.Need-returns-10
 returns-10 c =
+    let told = c .before in
+    let of = told .before .before in
+    let f = first-word _ _ _ _ _ (of .before .before .word-at .ensures) (of .before .lone-word .ensures) (of .of .ensures) in
+    rw (f (told .enum-told10 .given .1)) (c .read-tree .ensures)
+
+returns-11 : tie.Need-returns-11
+returns-11 c =
     let of = c .before .before in
     let f = first-word _ _ _ _ _ (of .before .before .word-at .ensures) (of .before .lone-word .ensures) (of .of .ensures) in
-    rw (f (c .enum-told10 .given .1))
+    rw (f (c .enum-told11 .given .1))
 
 pub read-function-spec : {M : Type 1} → statement M
 read-function-spec =
@@ -166,6 +179,8 @@ read-function-spec =
     enum-told-9
     read-lst-requires
     enum-told-10
+    read-tree-requires
+    enum-told-11
     returns
     returns-2
     returns-3
@@ -175,4 +190,5 @@ read-function-spec =
     returns-7
     returns-8
     returns-9
-    returns-10)
+    returns-10
+    returns-11)

@@ -74,7 +74,7 @@ returns-3 c =
     let at = lone .before in
     let line = at .before .before .args .line .now in
     let f = word-lone line 1 _ (at .word-at .ensures) _ (lone .lone-word .ensures) 46 [] _ (same .are-same .ensures) ∙ test .if1 .left in
-    let e = checks-at (oldChecks 1 line) line 1 _ _ (at .word-at .ensures) (form .check-old .ensures) in
+    let e = checks-at (oldChecks 1 1 line) line 1 _ _ (at .word-at .ensures) (form .check-old .ensures) in
     rw f (sym (read-refused (request (lst (oldFrom (word line 1)) (word line 1))) _ _ e _ (c .before .refusal2 .given .1)))
 
 enum-told-2 : tie.Need-enum-told-2
@@ -93,7 +93,7 @@ returns-4 c =
     let at = lone .before in
     let line = at .before .before .args .line .now in
     let f = word-lone line 1 _ (at .word-at .ensures) _ (lone .lone-word .ensures) 46 [] _ (same .are-same .ensures) ∙ test .if1 .left in
-    let e = checks-at (oldChecks 1 line) line 1 _ _ (at .word-at .ensures) (form .check-old .ensures) in
+    let e = checks-at (oldChecks 1 1 line) line 1 _ _ (at .word-at .ensures) (form .check-old .ensures) in
     let from = c .old-from .ensures ∙ ap (λ (w : Word). beginShown (oldFrom w)) (word-here line 1 _ (at .word-at .ensures)) in
     rw (f, from, at .word-at .ensures)
     (sym (read-passed (request (lst (oldFrom (word line 1)) (word line 1))) _ _ e (c .before .enum-told2 .given .1)))

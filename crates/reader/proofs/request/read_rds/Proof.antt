@@ -29,8 +29,8 @@ returns c =
     let at = form .before in
     let line = at .before .before .args .line .now in
     let r = rds (oldFrom (word line 1)) (word line 1) (partOf (octalAt line 2)) (partOf (octalAt line 3)) in
-    let e = checks-at (oldChecks 3 line) line 1 _ _ (at .word-at .ensures) (form .check-old .ensures) in
-    sym (name-refused r (oldChecks 3 line (word line 1)) (octalAt line 2) (octalAt line 3) _ e _ (c .before .refusal .given .1))
+    let e = checks-at (oldChecks 1 3 line) line 1 _ _ (at .word-at .ensures) (form .check-old .ensures) in
+    sym (name-refused r (oldChecks 1 3 line (word line 1)) (octalAt line 2) (octalAt line 3) _ e _ (c .before .refusal .given .1))
 
 enum-told : tie.Need-enum-told
 enum-told c = search needs
@@ -56,9 +56,9 @@ returns-2 c =
     let at = form .before in
     let line = at .before .before .args .line .now in
     let r = rds (oldFrom (word line 1)) (word line 1) (partOf (octalAt line 2)) (partOf (octalAt line 3)) in
-    let e = checks-at (oldChecks 3 line) line 1 _ _ (at .word-at .ensures) (form .check-old .ensures) in
+    let e = checks-at (oldChecks 1 3 line) line 1 _ _ (at .word-at .ensures) (form .check-old .ensures) in
     c .bad-number-at .ensures
-    ∙ sym (first-refused r (oldChecks 3 line (word line 1)) (octalAt line 2) (octalAt line 3) _ e (told .enum-told .given .1)
+    ∙ sym (first-refused r (oldChecks 1 3 line (word line 1)) (octalAt line 2) (octalAt line 3) _ e (told .enum-told .given .1)
     (sym (first .octal-at .ensures) ∙ c .before .enum-told2 .given .1))
 
 octal-at-requires-2 : tie.Need-octal-at-requires-2
@@ -88,10 +88,10 @@ returns-3 c =
     let at = form .before in
     let line = at .before .before .args .line .now in
     let r = rds (oldFrom (word line 1)) (word line 1) (partOf (octalAt line 2)) (partOf (octalAt line 3)) in
-    let e = checks-at (oldChecks 3 line) line 1 _ _ (at .word-at .ensures) (form .check-old .ensures) in
+    let e = checks-at (oldChecks 1 3 line) line 1 _ _ (at .word-at .ensures) (form .check-old .ensures) in
     let n = sym (ap countOf (second .octal-at2 .ensures)) ∙ sym (counted .as-count .ensures) ∙ c .before .enum-told3 .given .1 in
     c .bad-number-at2 .ensures
-    ∙ sym (count-refused r (oldChecks 3 line (word line 1)) (octalAt line 2) (octalAt line 3) _ e (told .enum-told .given .1) _
+    ∙ sym (count-refused r (oldChecks 1 3 line (word line 1)) (octalAt line 2) (octalAt line 3) _ e (told .enum-told .given .1) _
     (sym (first .octal-at .ensures) ∙ known .first .given .1) n)
 
 old-from-requires : tie.Need-old-from-requires
@@ -110,9 +110,9 @@ returns-4 c =
     let at = form .before in
     let line = at .before .before .args .line .now in
     let r = rds (oldFrom (word line 1)) (word line 1) (partOf (octalAt line 2)) (partOf (octalAt line 3)) in
-    let e = checks-at (oldChecks 3 line) line 1 _ _ (at .word-at .ensures) (form .check-old .ensures) in
+    let e = checks-at (oldChecks 1 3 line) line 1 _ _ (at .word-at .ensures) (form .check-old .ensures) in
     let n = sym (ap countOf (second .octal-at2 .ensures)) ∙ sym (counted .as-count .ensures) ∙ count .count .given .1 in
-    let g = numbers-passed r (oldChecks 3 line (word line 1)) (octalAt line 2) (octalAt line 3) _ e (told .enum-told .given .1) _ _
+    let g = numbers-passed r (oldChecks 1 3 line (word line 1)) (octalAt line 2) (octalAt line 3) _ e (told .enum-told .given .1) _ _
     (sym (first .octal-at .ensures) ∙ known .first .given .1) n in
     let from = c .old-from .ensures ∙ ap (λ (w : Word). beginShown (oldFrom w)) (word-here line 1 _ (at .word-at .ensures)) in
     rw (from, at .word-at .ensures, g .1 .0, g .1 .1) (sym (g .0))

@@ -1,16 +1,28 @@
--- A name of another length is no function,
--- and one of three letters is the function of these.
+-- A name is the four letters of LST*, or of another length and no function,
+-- or of three letters and the function of these.
 use mathlib.Core.List.{List, [], _∷_}
 use mathlib.Core.Path.{sym, ap, _∙_}
 use Prim.Native.Nat.{ℕ}
 use Rattle.reader.specs.Asked.{functionOf}
-use Rattle.reader.proofs.Functions.{letters, no-function}
+use Rattle.reader.proofs.Functions.{letters, tree-letters, no-function}
 use native.Mathlib.Omega.{arith}
+use borrow.Author.Needs.{needs}
 use Rattle.reader.proofs.function.Function.of.Statement.{statement}
 use Rattle.reader.proofs.function.Function.of.Tie as tie
 
+slice-aggregate-are-same : tie.Need-slice-aggregate-are-same
+slice-aggregate-are-same c = search needs
+
+are-same-requires : tie.Need-are-same-requires
+are-same-requires c κs = tt
+
 returns : tie.Need-returns
-returns c = sym (no-function (c .before .before .args .name .now) (c .if1 .taken))
+returns c = let same = c .before in
+    sym (tree-letters _ (sym (same .are-same .ensures) ∙ c .if1 .taken))
+
+returns-2 : tie.Need-returns-2
+returns-2 c = let same = c .before .before in
+    sym (no-function _ (sym (same .are-same .ensures) ∙ c .before .if1 .left) (c .if2 .taken))
 
 shared-slice-read-of-letters : tie.Need-shared-slice-read-of-letters
 shared-slice-read-of-letters c = omega arith
@@ -24,18 +36,21 @@ shared-slice-read-of-letters-3 c = omega arith
 of-letters-requires : tie.Need-of-letters-requires
 of-letters-requires c κs = tt
 
-returns-2 : tie.Need-returns-2
-returns-2 c =
+returns-3 : tie.Need-returns-3
+returns-3 c =
     let test = c .before .before .before .before in
-    c .of-letters .ensures ∙ ap (λ (n : List ℕ). functionOf (n ∷ [])) (sym (letters (test .before .before .args .name .now) (test .if1 .left)))
+    c .of-letters .ensures ∙ ap (λ (n : List ℕ). functionOf (n ∷ [])) (sym (letters _ (test .if2 .left)))
 
 pub of-spec : {M : Type 1} → statement M
 of-spec =
     tie.close
     (tie.spec
+    slice-aggregate-are-same
+    are-same-requires
     returns
+    returns-2
     shared-slice-read-of-letters
     shared-slice-read-of-letters-2
     shared-slice-read-of-letters-3
     of-letters-requires
-    returns-2)
+    returns-3)

@@ -1,0 +1,6 @@
+mod Inserted
+mod Chains
+mod Lines
+mod Places
+mod Answers
+pub mod Promised
