@@ -38,7 +38,7 @@ static struct filebox_answer ask(const char *line)
 }
 
 /* A granted request: so many bytes written and stores made. */
-static int granted(struct filebox_answer a, uint32_t bytes, uint32_t stores)
+static int granted(struct filebox_answer a, size_t bytes, uint32_t stores)
 {
     return a.number == FILEBOX_DONE && a.place == 0 && a.link == 0 && a.names == 1 && a.displaced == 0 && a.bytes == bytes && a.stores == stores;
 }

@@ -26,7 +26,7 @@ extern "C" {
 /* A record has 32 bytes; a table has 0 to 2,048 of them, and all bytes 0 is a table of free records. */
 #define FILEBOX_RECORD 32u
 #define FILEBOX_MOST_RECORDS 2048u
-/* The longest request line and the longest text, in bytes. A reply never has more bytes than such a text. */
+/* The longest request line and the longest text, in bytes. Of RDS and LST no reply has more bytes than such a text. */
 #define FILEBOX_MOST_LINE 256u
 #define FILEBOX_MOST_TEXT 24000u
 /* The largest user number. */
@@ -70,10 +70,11 @@ struct filebox_answer {
     uint32_t place;     /* the argument that was refused, from 1; 0 for the numbers 0..6, 10, 19, 20 and 22 */
     uint32_t link;      /* which link of that argument's chain, from 1, a supplied .W counted as link 1: for 7 and 8 the first wrong name,
                            on the way down (11, 12, 13) the link refused, at its end (13 to 18) the last; 0 where place is 0, for a lone
-                           dash, a chain that is only too long, and an argument that is no chain (a declaration, CHN's link, RDS's numbers) */
-    uint32_t names;     /* names done: all of whose stores were made; 1 for a granted RDS or LST */
+                           dash, a chain that is only too long, and an argument that is no chain (a declaration, CHN's link, the numbers of
+                           RDS and LST*) */
+    uint32_t names;     /* names done: all of whose stores were made; 1 for a granted RDS, LST or LST* */
     uint32_t displaced; /* 1 if an entry already bearing the new name was overwritten */
-    uint32_t bytes;     /* bytes written to the front of reply; the rest of it is as lent */
+    size_t bytes;       /* bytes written to the front of reply, up to reply_length; the rest of it is as lent */
     uint32_t stores;    /* stores made in table, a record each; at most the stop number */
 };
 
@@ -83,8 +84,8 @@ struct filebox_answer {
  * A chain begins in the user's own base files. Two forms begin in another's; .nnnnnn is a point and the six digits of that user's number:
  *
  *   DUP old .nnnnnn:link  a give: the file is entered in that user's .G. It never displaces: 16 where the link is taken.
- *   RDS .nnnnnn:name      a take, as the first argument of RDS, LST, CPY and DUP: the chain begins at that user's .T. Bare, .nnnnnn is the
- *                         file .T itself, in RDS, LST and CPY.
+ *   RDS .nnnnnn:name      a take, as the first argument of RDS, LST, LST*, CPY and DUP: the chain begins at that user's .T. Bare, .nnnnnn
+ *                         is the file .T itself, in RDS, LST, LST* and CPY.
  *
  * Anywhere else .nnnnnn gets 8. Who is given a file, or takes it, has an entry of his own with no less inhibited than the old one has;
  * unless that entry or the heading inhibits writing (DUP .R:SHEET .000777:SHEET .1), he may inhibit more of the file for everyone, by DPR,
@@ -93,6 +94,10 @@ struct filebox_answer {
  * RDS name first count writes a part of the text: count bytes from byte first on, counted from 0, both octal and of one to six digits. A dash
  * or nothing in their place means 0 and to the end. A count past the end gives what there is, first equal to the length no bytes; the reply
  * buffer need hold no more than what is written.
+ *
+ * LST* name digit lists a directory as LST does and, under each entry that is a readable directory, its entries, down to that depth, 1 to 8, two
+ * blanks more in front for each level. Another digit gets 9. A directory that holds itself is shown again at each level; where the lines are
+ * longer than reply, 20, told before anything is written and without counting them to their end. No reply length is enough for every tree.
  *
  * Granted (0): the whole job is done, exactly as document 01 has it, in table and reply.
  * Refused (1 to 21, 25, 27, 28): table and reply are as lent, byte for byte. Only a DEL of several names keeps what the names before the refused

@@ -6,6 +6,7 @@ use turns::nanoseconds;
 use crate::names::{of_one_length, of_other_lengths, ONE_LENGTH, OTHER_LENGTHS};
 use crate::parts::part_of_long;
 use crate::tables::{cut, hundred, long_text, with_long_file, with_room_for_another, USER};
+use crate::trees::{full_of_loops, tree};
 
 /// One call of the library.
 enum Call {
@@ -34,7 +35,7 @@ fn files(line: &str, bytes: usize) -> Call {
     Call::Request { line, text }
 }
 
-pub const OPERATIONS: [Operation; 12] = [
+pub const OPERATIONS: [Operation; 14] = [
     Operation {
         name: "rds",
         title: "RDS of 24 bytes",
@@ -83,6 +84,20 @@ pub const OPERATIONS: [Operation; 12] = [
         bar: Some(5.0),
         table: hundred,
         calls: |_| vec![asks("LST .R")],
+    },
+    Operation {
+        name: "tree",
+        title: "LST* of 126 lines on three levels",
+        bar: Some(12.0),
+        table: tree,
+        calls: |_| vec![asks("LST* .TOP 3")],
+    },
+    Operation {
+        name: "loops",
+        title: "LST* of a loop, 24,000 bytes",
+        bar: Some(300.0),
+        table: full_of_loops,
+        calls: |_| vec![asks("LST* .R 4")],
     },
     Operation {
         name: "dup",
@@ -214,6 +229,8 @@ mod tests {
                 "rds-part",
                 "rds-beside",
                 "lst",
+                "tree",
+                "loops",
                 "wrs-del",
                 "mend",
                 "walk",

@@ -24,12 +24,12 @@ pub struct Answer {
     pub argument: u32,
     /// "the link counted from 1 with the supplied `.W` as link 1", or 0.
     pub link: u32,
-    /// "names all of whose stores were made"; 1 for a granted RDS or LST.
+    /// "names all of whose stores were made"; 1 for a granted RDS, LST or LST*.
     pub names: u32,
     /// 1 if an entry was displaced, else 0.
     pub displaced: u32,
-    /// The bytes written to the front of the reply buffer.
-    pub bytes: u32,
+    /// The bytes written to the front of the reply buffer, as many as that may have.
+    pub bytes: usize,
     /// The stores made.
     pub stores: u32,
 }
@@ -49,15 +49,15 @@ impl Answer {
     }
 
     /// The seven numbers: number, argument, link, names, displaced, bytes, stores.
-    pub fn numbers(self) -> [u32; 7] {
+    pub fn numbers(self) -> [u64; 7] {
         [
-            self.number,
-            self.argument,
-            self.link,
-            self.names,
-            self.displaced,
-            self.bytes,
-            self.stores,
+            self.number.into(),
+            self.argument.into(),
+            self.link.into(),
+            self.names.into(),
+            self.displaced.into(),
+            self.bytes as u64,
+            self.stores.into(),
         ]
     }
 }
@@ -135,7 +135,7 @@ fn carry_out(outcome: &Outcome, table: &mut [u8], reply: &mut [u8], stop: u32) -
     reply[..outcome.reply.len()].copy_from_slice(&outcome.reply);
     Answer {
         displaced: outcome.displaced.into(),
-        bytes: outcome.reply.len() as u32,
+        bytes: outcome.reply.len(),
         ..counted(refusal(0, Place::NONE))
     }
 }

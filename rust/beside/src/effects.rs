@@ -2,10 +2,10 @@
 
 use crate::declarations::Guard;
 use crate::entries::{check, cleared, settle, strands_entries, NewName};
-use crate::listing::listing;
+use crate::listing::{listing, tree};
 use crate::names::Chain;
 use crate::octal::Portion;
-use crate::records::{Heading, Level, Lifetime, Record, Text, Type, BLOCK};
+use crate::records::{Entry, Heading, Level, Lifetime, Record, Text, Type, BLOCK};
 use crate::request::{refusal, Listed, Place, Refusal, Request};
 use crate::table::{blocks, List, Store, Table};
 use crate::walk::{to_directory, to_file, File, Strayed};
@@ -59,6 +59,7 @@ pub fn outcome(asked: &Asked, request: &Request) -> Outcome {
         Request::Del { names } => Ok(asked.del(names)),
         Request::Dpr { name, digit } => asked.dpr(name, *digit),
         Request::Lst { listed } => asked.lst(listed),
+        Request::Tree { listed, depth } => asked.tree(listed, *depth),
     };
     outcome.unwrap_or_else(Outcome::refused)
 }
@@ -301,23 +302,32 @@ impl Asked<'_> {
 
     /// "LST writes one line an entry".
     fn lst(&self, listed: &Listed) -> Result<Outcome, Refusal> {
+        let entries = self.listed(listed)?;
+        self.reply(listing(self.table, entries))
+    }
+
+    /// "`LST*` name digit": "the deeper ones take the same names". "The needed length is judged before anything is written."
+    fn tree(&self, listed: &Listed, depth: u8) -> Result<Outcome, Refusal> {
+        let entries = self.listed(listed)?;
+        let lines = tree(self.table, entries, depth, self.room);
+        let lines = lines.ok_or(refusal(20, Place::NONE))?;
+        Ok(Outcome::replied(lines))
+    }
+
+    /// The entries at the top of a listing, in any order: those of a directory, or "the user's base files other than `.W`."
+    fn listed(&self, listed: &Listed) -> Result<Vec<&Entry>, Refusal> {
+        let in_list = |list| self.table.entries_in(list).map(|(_, entry)| entry);
         let chain = match listed {
-            Listed::BaseList => return self.reply(self.base_listing()),
+            Listed::BaseList => {
+                let base = in_list(List::Base(self.user));
+                return Ok(base.filter(|entry| entry.name != b".W").collect());
+            }
             Listed::Directory(chain) => chain,
         };
         let (file, end) = self.old_name(1, chain)?;
         check(file.may_be_read(), 13, end)?;
         check(file.heading.file_type == Type::Directory, 15, end)?;
-        let list = List::Directory(file.entry.heading);
-        let entries = self.table.entries_in(list).map(|(_, entry)| entry);
-        self.reply(listing(self.table, entries.collect()))
-    }
-
-    /// "LST of a lone point lists the user's base files other than `.W`."
-    fn base_listing(&self) -> Vec<u8> {
-        let entries = self.table.entries_in(List::Base(self.user));
-        let other = entries.map(|(_, entry)| entry).filter(|e| e.name != b".W");
-        listing(self.table, other.collect())
+        Ok(in_list(List::Directory(file.entry.heading)).collect())
     }
 
     /// 20: "reply buffer too short".

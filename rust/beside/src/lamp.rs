@@ -177,7 +177,7 @@ impl Fixture<'_> {
         for (at, paper) in papers.iter().enumerate() {
             let line = self.line(b"RDS ", paper);
             let answer = request(table, &line, b"", back, self.user, 0);
-            let read = &back[..answer.bytes as usize];
+            let read = &back[..answer.bytes];
             if answer.number != 0 || read != paper.text {
                 return Err((at, answer.number));
             }

@@ -51,7 +51,7 @@ pub fn run(mut input: impl BufRead, mut output: impl Write) -> io::Result<()> {
         };
         let answer = request(&mut table, &line, &text, &mut reply, USER, STOP);
         print(&mut output, answer)?;
-        output.write_all(&reply[..answer.bytes as usize])?;
+        output.write_all(&reply[..answer.bytes])?;
         output.flush()?;
     }
     Ok(())

@@ -104,6 +104,10 @@ pub enum Request<'a> {
     Lst {
         listed: Listed<'a>,
     },
+    Tree {
+        listed: Listed<'a>,
+        depth: u8,
+    },
 }
 
 #[derive(Debug, Clone, Copy, PartialEq, Eq)]
@@ -117,6 +121,7 @@ enum Function {
     Del,
     Dpr,
     Lst,
+    Tree,
 }
 
 /// What an argument is to be.
@@ -136,6 +141,8 @@ enum Part {
     First,
     /// RDS's count of bytes: the same, and not 0.
     Count,
+    /// LST*'s digit.
+    Depth,
 }
 
 /// "The first word is the function."
@@ -150,18 +157,20 @@ fn function(word: &Word) -> Option<Function> {
         b"DEL" => Some(Function::Del),
         b"DPR" => Some(Function::Dpr),
         b"LST" => Some(Function::Lst),
+        b"LST*" => Some(Function::Tree),
         _ => None,
     }
 }
 
 /// The table of functions and arguments: the least count of arguments, and what each is to be.
 fn form(function: Function) -> (usize, &'static [Part]) {
-    use Part::{Count, Declaration, First, Link, Name, New, Old, Source};
+    use Part::{Count, Declaration, Depth, First, Link, Name, New, Old, Source};
     match function {
         Function::Crd => (1, &[Name, Declaration]),
         Function::Wrs => (2, &[Declaration, Name]),
         Function::Rds => (1, &[Source, First, Count]),
         Function::Lst => (1, &[Source]),
+        Function::Tree => (2, &[Source, Depth]),
         Function::Cpy => (2, &[Source, Name, Declaration]),
         Function::Dup => (2, &[Old, New, Declaration]),
         Function::Chn => (2, &[Name, Link]),
@@ -178,7 +187,7 @@ fn malformed(part: Part, word: &Word) -> Option<usize> {
     let chain = Chain::of(word);
     match part {
         Part::Link => (dash || !word.whole().is_some_and(is_link_name)).then_some(0),
-        Part::Declaration | Part::First | Part::Count => None,
+        Part::Declaration | Part::Depth | Part::First | Part::Count => None,
         _ => (dash || !chain.is_well_formed()).then(|| chain.wrong_link().unwrap_or(0)),
     }
 }
@@ -190,7 +199,9 @@ fn takes_user(part: Part, links: usize) -> bool {
         Part::Source => true,
         Part::Old => links >= 1,
         Part::New => links == 1,
-        Part::Name | Part::Link | Part::Declaration | Part::First | Part::Count => false,
+        Part::Name | Part::Link | Part::Declaration | Part::Depth | Part::First | Part::Count => {
+            false
+        }
     }
 }
 
@@ -208,8 +219,8 @@ fn illegal(function: Function, arguments: &[Word], part: Part, word: &Word) -> O
     let old_is_base_file = || Chain::of(&arguments[0]).is_base_file();
     match part {
         Part::Link => (old_is_base_file() && !is_base_name(word.last)).then_some(0),
-        Part::Declaration | Part::First | Part::Count => None,
-        _ if function == Function::Lst && lone_point => None,
+        Part::Declaration | Part::Depth | Part::First | Part::Count => None,
+        _ if matches!(function, Function::Lst | Function::Tree) && lone_point => None,
         _ => (!begins_well(part, &Chain::of(word))).then_some(1),
     }
 }
@@ -281,6 +292,10 @@ fn make<'a>(function: Function, arguments: &[Word<'a>]) -> Option<Request<'a>> {
         Function::Lst => Request::Lst {
             listed: listed(&arguments[0]),
         },
+        Function::Tree => Request::Tree {
+            listed: listed(&arguments[0]),
+            depth: depth(&arguments[1])?,
+        },
     })
 }
 
@@ -307,6 +322,14 @@ fn listed<'a>(word: &Word<'a>) -> Listed<'a> {
     match word.whole() {
         Some(b".") => Listed::BaseList,
         _ => Listed::Directory(Chain::of(word)),
+    }
+}
+
+/// "the digit's depth, 1 to 8": a word of one byte.
+fn depth(word: &Word) -> Option<u8> {
+    match word.whole()? {
+        [digit @ b'1'..=b'8'] => Some(digit - b'0'),
+        _ => None,
     }
 }
 
@@ -343,8 +366,10 @@ pub fn read(line: &[u8], text_length: usize) -> Result<Request<'_>, Refusal> {
     Ok(request)
 }
 
-/// Which argument of a function is its declaration.
+/// Which argument of a function is its declaration or its digit.
 fn declaration(parts: &[Part]) -> usize {
-    let at = parts.iter().position(|part| *part == Part::Declaration);
+    let at = parts
+        .iter()
+        .position(|part| matches!(part, Part::Declaration | Part::Depth));
     at.map_or(0, |at| at + 1)
 }

@@ -217,7 +217,7 @@ fn tables_damaged_at_random() {
                 assert!(sound(&table));
                 assert_eq!(only_cleared(&before, &table), stores as usize);
                 assert_eq!(stores == 0, sound(&before));
-                cut_everywhere(&before, &table, stores);
+                cut_everywhere(&before, &table, seen.stores);
                 *(if stores == 0 {
                     &mut untouched
                 } else {

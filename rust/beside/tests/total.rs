@@ -170,7 +170,7 @@ fn any_input_has_one_answer() {
         let mut after = before.clone();
         let answer = request(&mut after, &line, &text, &mut reply, user, stop);
         fits(answer, stop, &line, &before, &after);
-        let rest = &reply[answer.bytes as usize..];
+        let rest = &reply[answer.bytes..];
         assert!(rest.iter().all(|byte| *byte == UNTOUCHED));
         met[answer.number as usize] += 1;
     }

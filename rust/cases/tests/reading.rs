@@ -131,6 +131,14 @@ fn made_of(line: &[u8]) -> String {
         Request::Lst {
             listed: Listed::Directory(name),
         } => format!("0 LST {}", old(name)),
+        Request::Tree {
+            listed: Listed::BaseList,
+            depth,
+        } => format!("0 LST* . {depth}"),
+        Request::Tree {
+            listed: Listed::Directory(name),
+            depth,
+        } => format!("0 LST* {} {depth}", old(name)),
     }
 }
 

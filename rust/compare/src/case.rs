@@ -4,6 +4,7 @@ use crate::handed::{self, Handed};
 use crate::links::{self, Links};
 use crate::met::Met;
 use crate::parted::Parted;
+use crate::treed::{self, Treed};
 
 /// The byte that fills a reply buffer before the call.
 pub const UNTOUCHED: u8 = 0xEE;
@@ -29,18 +30,18 @@ pub struct Case {
 /// What a call answered and left: number, argument, link, names, displaced, bytes, stores; each byte of the table and of the reply.
 #[derive(Debug, Clone, PartialEq, Eq)]
 pub struct Outcome {
-    pub answer: [u32; 7],
+    pub answer: [u64; 7],
     pub table: Vec<u8>,
     pub reply: Vec<u8>,
 }
 
 impl Outcome {
     pub fn number(&self) -> u32 {
-        self.answer[0]
+        self.answer[0] as u32
     }
 
     pub fn names(&self) -> u32 {
-        self.answer[3]
+        self.answer[3] as u32
     }
 
     pub fn bytes(&self) -> usize {
@@ -48,7 +49,7 @@ impl Outcome {
     }
 
     pub fn stores(&self) -> u32 {
-        self.answer[6]
+        self.answer[6] as u32
     }
 }
 
@@ -80,7 +81,7 @@ impl Case {
     }
 
     /// The outcome of a call on a copy of the table and a fresh reply buffer.
-    fn outcome(&self, call: impl Fn(&mut [u8], &mut [u8]) -> [u32; 7]) -> Outcome {
+    fn outcome(&self, call: impl Fn(&mut [u8], &mut [u8]) -> [u64; 7]) -> Outcome {
         let mut table = self.table.clone();
         let room = self.asked.as_ref().map_or(0, |asked| asked.reply);
         let mut reply = vec![UNTOUCHED; room];
@@ -138,6 +139,8 @@ pub struct Comparison {
     pub handed: Handed,
     /// What an RDS with numbers met.
     pub parted: Parted,
+    /// What an LST* met.
+    pub treed: Treed,
     /// The requests of the stories.
     pub requests: u64,
     /// The calls made by both: these requests again and again, and mending.
@@ -162,8 +165,9 @@ impl Comparison {
             self.links.count(proved.answer);
             self.handed.count(case, proved.answer);
             self.parted.count(case, proved.answer);
-            let broken = handed::broken(case, &proved).or(links::broken(case, &proved));
-            return match broken {
+            self.treed.count(case, &proved);
+            let broken = [handed::broken, links::broken, treed::broken];
+            return match broken.iter().find_map(|broken| broken(case, &proved)) {
                 None => Ok(proved),
                 Some(wrong) => Err(must_not_be(case, wrong, &proved)),
             };

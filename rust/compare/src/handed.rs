@@ -6,9 +6,9 @@ use beside::{COUNTS, NUMBERS};
 
 use crate::case::{Asked, Case, Outcome};
 
-const ROWS: [&str; 6] = ["give", "DUP", "CPY", "RDS", "LST", "elsewhere"];
+const ROWS: [&str; 7] = ["give", "DUP", "CPY", "RDS", "LST", "LST*", "elsewhere"];
 const GIVE: usize = 0;
-const ELSEWHERE: usize = 5;
+const ELSEWHERE: usize = 6;
 /// How often each number of `NEEDED` must be met.
 const ENOUGH: u64 = 100;
 /// What is to be met by each row. Of CPY and DUP that take, what befalls the new name is not the take's.
@@ -16,6 +16,7 @@ const NEEDED: [&[usize]; ROWS.len()] = [
     &[0, 8, 11, 12, 13, 14, 16, 17, 19, 22],
     &[0, 8, 11, 12, 13, 22],
     &[0, 11, 12, 13, 15, 22],
+    &[0, 11, 12, 13, 15, 20],
     &[0, 11, 12, 13, 15, 20],
     &[0, 11, 12, 13, 15, 20],
     &[8],
@@ -31,7 +32,7 @@ fn function<'a>(words: &[beside::Word<'a>]) -> Option<&'a [u8]> {
 }
 
 /// The arguments of a line that begin with `.nnnnnn`: their place, from 1, and row.
-fn handed(line: &[u8]) -> Vec<(u32, usize)> {
+fn handed(line: &[u8]) -> Vec<(u64, usize)> {
     let words = beside::words(line);
     let function = function(&words);
     let row = |place: usize| match (function, place) {
@@ -40,16 +41,17 @@ fn handed(line: &[u8]) -> Vec<(u32, usize)> {
         (Some(b"CPY"), 1) => 2,
         (Some(b"RDS"), 1) => 3,
         (Some(b"LST"), 1) => 4,
+        (Some(b"LST*"), 1) => 5,
         _ => ELSEWHERE,
     };
     let arguments = words.iter().enumerate().skip(1);
     let named = arguments.filter(|(_, word)| beside::user_number(word.first()).is_some());
-    named.map(|(place, _)| (place as u32, row(place))).collect()
+    named.map(|(place, _)| (place as u64, row(place))).collect()
 }
 
 impl Handed {
     /// One more answer, if it is about an argument that begins with `.nnnnnn`, or about none in particular.
-    pub fn count(&mut self, case: &Case, [number, place, ..]: [u32; 7]) {
+    pub fn count(&mut self, case: &Case, [number, place, ..]: [u64; 7]) {
         let line = case.asked.as_ref().map_or(&[][..], |asked| &asked.line);
         for (at, row) in handed(line) {
             if place == 0 || place == at {
@@ -113,6 +115,7 @@ mod tests {
         assert_eq!(told("CPY .000777 .000777"), [(1, 2), (2, ELSEWHERE)]);
         assert_eq!(told("RDS .000777:A"), [(1, 3)]);
         assert_eq!(told("LST .000777"), [(1, 4)]);
+        assert_eq!(told("LST* .000777 2"), [(1, 5)]);
         assert_eq!(told("DEL .R .000777"), [(2, ELSEWHERE)]);
         assert_eq!(told("LST .00777"), []);
         assert_eq!(told("RDS .R:.000777"), []);

@@ -43,7 +43,7 @@ pub struct Links([[u64; COLUMNS]; COUNTS]);
 
 impl Links {
     /// One more answer.
-    pub fn count(&mut self, [number, argument, link, ..]: [u32; 7]) {
+    pub fn count(&mut self, [number, argument, link, ..]: [u64; 7]) {
         if argument != 0 {
             let column = (link as usize).min(COLUMNS - 1);
             self.0[number as usize][column] += 1;
@@ -69,11 +69,11 @@ impl Links {
 }
 
 /// How many links the chain of this argument has.
-fn length(case: &Case, argument: u32) -> u32 {
+fn length(case: &Case, argument: u64) -> u64 {
     let line = case.asked.as_ref().map_or(&[][..], |asked| &asked.line);
     let words = beside::words(line);
     let word = words.get(argument as usize);
-    word.map_or(0, |word| Chain::of(word).names().count() as u32)
+    word.map_or(0, |word| Chain::of(word).names().count() as u64)
 }
 
 /// What every answer's link is, by its number alone and the length of the chain: what of it is broken.

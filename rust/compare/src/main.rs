@@ -1,8 +1,9 @@
 //! The proved library against the second program, on random cases: `compare [COUNT [SEED]]`, COUNT requests on tables that
 //! grow by them. Answer, whole table and whole reply buffer are compared byte for byte, every storing request on a sound
-//! table is cut at its stop numbers and mended, every sheet read whole is read in pieces, and every table is mended. At the
-//! first difference it prints a case to paste into a test and ends with status 1; also when a reply number was met fewer than
-//! a hundred times, with a link of a chain or without, where it has the one or the other, or a branch of RDS's parts.
+//! table is cut at its stop numbers and mended, every sheet read whole is read in pieces, every tree a level less, and every table is
+//! mended. At the first difference it prints a case to paste into a test and ends with status 1; also when a reply number was met
+//! fewer than a hundred times, with a link of a chain or without, where it has the one or the other, or a branch of RDS's parts or
+//! of LST*.
 //!
 //! `compare jobs [COUNT [SEED]]`: the same with the lamp, COUNT jobs, each cut at its stop numbers and mended; ends with
 //! status 1 also when a light was met fewer than a hundred times.
@@ -16,6 +17,7 @@ mod cut;
 mod handed;
 mod job;
 mod jobs;
+mod levels;
 mod lights;
 mod links;
 mod met;
@@ -25,6 +27,7 @@ mod sheets;
 mod shown;
 mod story;
 mod tables;
+mod treed;
 
 use std::fmt::{Debug, Display};
 use std::process::ExitCode;
@@ -88,10 +91,12 @@ fn requests(count: u64, seed: u64) -> ExitCode {
     let mut comparison = Comparison::default();
     let ended = run(&mut comparison, count, seed);
     show(&comparison, seed, start);
-    let (met, links, parted) = (&comparison.met, &comparison.links, &comparison.parted);
+    let (met, links) = (&comparison.met, &comparison.links);
+    let (parted, treed) = (&comparison.parted, &comparison.treed);
     let linked = links.missed(&links::IN_REQUESTS);
-    let missed = [met.missed(), linked, parted.missed()].concat();
-    verdict(ended, format!("{met}{links}\n{parted}"), &missed)
+    let missed = [met.missed(), linked, parted.missed(), treed.missed()].concat();
+    let shown = format!("{met}{links}\n{parted}\n{treed}");
+    verdict(ended, shown, &missed)
 }
 
 fn gives(count: u64, seed: u64) -> ExitCode {

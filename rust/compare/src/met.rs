@@ -6,11 +6,11 @@ use beside::{COUNTS, NUMBERS};
 
 use crate::case::Case;
 
-const ROWS: [&str; 11] = [
-    "CRD", "WRS", "RDS", "CPY", "DUP", "CHN", "DEL", "DPR", "LST", "none", "mend",
+const ROWS: [&str; 12] = [
+    "CRD", "WRS", "RDS", "CPY", "DUP", "CHN", "DEL", "DPR", "LST", "LST*", "none", "mend",
 ];
-const NONE: usize = 9;
-const MEND: usize = 10;
+const NONE: usize = 10;
+const MEND: usize = 11;
 /// How often each number must be met.
 const ENOUGH: u64 = 100;
 

@@ -41,7 +41,7 @@ fn written(Portion { first, count }: Portion, bytes: usize) -> usize {
 }
 
 /// The branch of a line and its answer; none where it is no RDS with numbers, or some other number.
-fn branch(line: &[u8], [number, argument, _, _, _, bytes, _]: [u32; 7]) -> Option<usize> {
+fn branch(line: &[u8], [number, argument, _, _, _, bytes, _]: [u64; 7]) -> Option<usize> {
     match (number, argument) {
         (27, 2) => return Some(0),
         (27, 3) => return Some(1),
@@ -62,7 +62,7 @@ fn branch(line: &[u8], [number, argument, _, _, _, bytes, _]: [u32; 7]) -> Optio
 
 impl Parted {
     /// One more answer.
-    pub fn count(&mut self, case: &Case, answer: [u32; 7]) {
+    pub fn count(&mut self, case: &Case, answer: [u64; 7]) {
         let Some(Asked { line, .. }) = &case.asked else {
             return;
         };

@@ -1,9 +1,10 @@
 //! A story: one table, the requests of several users on it, and what befalls it on the way.
 
-use random::{requests, shelves, Random};
+use random::{requests, shelves, trees, Random};
 
 use crate::case::{must_not_be, Asked, Case, Comparison, Difference};
 use crate::cut::cut_everywhere;
+use crate::levels::in_levels;
 use crate::pieces::in_pieces;
 use crate::tables::{shuffled, spoiled, Start};
 
@@ -19,6 +20,7 @@ pub struct Story<'a> {
     table: Vec<u8>,
     long_texts: bool,
     long_chains: bool,
+    trees: bool,
     cast: Cast,
 }
 
@@ -39,6 +41,7 @@ impl<'a> Story<'a> {
             table: start.table,
             long_texts: start.long_texts,
             long_chains: start.long_chains,
+            trees: start.trees,
             cast: Cast::Anything(others),
         }
     }
@@ -84,6 +87,10 @@ impl<'a> Story<'a> {
             Cast::Anything(_) if self.long_chains && !random.once_in(4) => {
                 requests::long(random, &self.table, user)
             }
+            Cast::Anything(others) if self.trees && !random.once_in(4) => {
+                let other = random.pick(&[1, 1, others[0], others[1]]);
+                trees::line(random, &self.table, user, other)
+            }
             Cast::Anything(_) => requests::line(random, &self.table, user),
             Cast::Shelves(users) => shelves::line(random, &self.table, users, user),
         };
@@ -125,6 +132,7 @@ impl<'a> Story<'a> {
             self.in_a_tight_reply(&case, uncut.bytes())?;
         }
         in_pieces(self.comparison, self.random, &case, &uncut)?;
+        in_levels(self.comparison, &case, &uncut)?;
         if uncut.stores() > 0 {
             cut_everywhere(self.comparison, self.random, &case, &uncut)?;
         }

@@ -73,6 +73,35 @@ fn nest() -> Vec<u8> {
     table
 }
 
+/// Directories that are knotted: loops of one and of two, an empty one that is shared, and inhibited ones, by their own code and by
+/// an entry's.
+pub fn knot() -> Vec<u8> {
+    let mut table = vec![0; 64 * 32];
+    let lines = [
+        "CRD .R",
+        "CRD .R:D",
+        "DUP .R:D .R:D:D",
+        "CRD .R:E",
+        "CRD .R:E:H",
+        "WRS M .R:E:H:A",
+        "DPR .R:E:H .2",
+        "CRD .R:C",
+        "WRS L.P4 .R:C:A",
+        "DPR .R:C .5",
+        "CRD .W",
+        "DUP .R .W:BACK .1",
+        "DUP .W .R:W",
+        "CRD .G",
+        "DUP .R:D .G:C .2",
+        "WRS M.1 .G:A",
+        "CRD .T",
+        "CRD .T:S",
+        "DUP .T:S .T:U .4",
+    ];
+    grow(&mut table, lines.map(String::from), b"5.0 V");
+    table
+}
+
 /// A table to begin with.
 pub struct Start {
     pub table: Vec<u8>,
@@ -82,6 +111,8 @@ pub struct Start {
     pub long_texts: bool,
     /// Have its requests mostly long chains?
     pub long_chains: bool,
+    /// Are its requests mostly LST*?
+    pub trees: bool,
 }
 
 /// The tables that take long to grow.
@@ -89,6 +120,7 @@ pub struct Starts {
     crowded: [Vec<u8>; 4],
     long: [Vec<u8>; 3],
     nest: Vec<u8>,
+    knot: Vec<u8>,
 }
 
 impl Starts {
@@ -102,26 +134,29 @@ impl Starts {
             ],
             long: [1_020, 2_030, 2_048].map(long_file),
             nest: nest(),
+            knot: knot(),
         }
     }
 
     /// One of these, or records that are all free.
     pub fn start(&self, random: &mut Random) -> Start {
         let free = |records: usize| vec![0; records * 32];
-        let kind = random.below(72);
+        let kind = random.below(80);
         let (table, requests) = match kind {
             0 => (self.long[random.below(3)].clone(), 6),
             1..=32 => (self.crowded[random.below(4)].clone(), 12),
             33..=46 => (free(random.below(13)), 40),
             47 => (free(200 + random.below(1_849)), 20),
             48..=63 => (free(13 + random.below(50)), 160),
-            _ => (self.nest.clone(), 60),
+            64..=71 => (self.nest.clone(), 60),
+            _ => (self.knot.clone(), 40),
         };
         Start {
             table,
             requests,
             long_texts: kind == 0,
-            long_chains: kind > 63,
+            long_chains: (64..=71).contains(&kind),
+            trees: kind > 71,
         }
     }
 }
@@ -169,6 +204,7 @@ pub fn shelves(random: &mut Random, users: [u32; 3]) -> Start {
         requests: if crowd > 0 { 16 } else { 64 },
         long_texts: false,
         long_chains: false,
+        trees: false,
     }
 }
 
@@ -230,7 +266,11 @@ mod tests {
     fn every_start_is_sound_in_any_order() {
         let mut random = Random::new(1);
         let starts = Starts::new();
-        let all = [&starts.crowded[..], &starts.long, &[starts.nest]];
+        let all = [
+            &starts.crowded[..],
+            &starts.long,
+            &[starts.nest, starts.knot],
+        ];
         for table in all.concat().iter() {
             assert!(beside::sound(table));
             let other = shuffled(&mut random, table);

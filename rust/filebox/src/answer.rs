@@ -15,14 +15,14 @@ pub struct Answer {
     pub place: u32,
     /// The link of that argument's chain that was refused, from 1, the supplied `.W` counted: for 7 and 8 the first wrong name, on
     /// the way the link refused, at its end the last one. 0 where no link is: for a lone dash, a chain that is only too long,
-    /// a declaration, CHN's link, RDS's numbers, and where no argument was refused.
+    /// a declaration, CHN's link, RDS's numbers, LST*'s digit, and where no argument was refused.
     pub link: u32,
-    /// The names all of whose stores were made; 1 for a granted RDS or LST.
+    /// The names all of whose stores were made; 1 for a granted RDS, LST or LST*.
     pub names: u32,
     /// Was an entry that already bore the new name overwritten?
     pub displaced: bool,
-    /// The bytes written to the front of the reply buffer.
-    pub bytes: u32,
+    /// The bytes written to the front of the reply buffer: up to all of it, by an LST* of a loop.
+    pub bytes: usize,
     /// The stores made.
     pub stores: u32,
 }
@@ -36,7 +36,7 @@ pub(crate) struct SevenNumbers {
     link: u32,
     names: u32,
     displaced: u32,
-    bytes: u32,
+    bytes: usize,
     stores: u32,
 }
 
@@ -71,15 +71,15 @@ impl Answer {
     }
 
     /// The seven numbers: number, place, link, names, displaced as 0 or 1, bytes, stores.
-    pub fn numbers(self) -> [u32; 7] {
+    pub fn numbers(self) -> [u64; 7] {
         [
-            self.number.code(),
-            self.place,
-            self.link,
-            self.names,
+            self.number.code().into(),
+            self.place.into(),
+            self.link.into(),
+            self.names.into(),
             self.displaced.into(),
-            self.bytes,
-            self.stores,
+            self.bytes as u64,
+            self.stores.into(),
         ]
     }
 }

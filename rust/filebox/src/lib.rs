@@ -67,6 +67,8 @@
 //! }
 //! ```
 //!
+//! A tree: a directory and, two blanks further in at each level, the directories in it, to a depth of 1 to 8. See [`Table::tree`].
+//!
 //! A refusal says the number and why, the argument, and which link of its chain, the supplied `.W` counted; it leaves the table
 //! as it was:
 //!

@@ -152,6 +152,43 @@ impl<B: AsMut<[u8]>> Table<B> {
         self.reply(user, &format!("LST {name}"), LONGEST_LISTING)
     }
 
+    /// LST*: the lines of a directory and, two blanks further in, of each readable directory in it, down to so many levels, 1 to 8; with
+    /// a lone point, of the user's base files other than `.W`. They are written to the front of the buffer and handed back. A
+    /// directory that holds itself is shown again at each level, so no buffer is long enough for every tree: lines that do not fit
+    /// get 20, and the buffer is as it was. Another depth gets 9; a name with a blank in it is refused by 7, as in [`Table::file`].
+    ///
+    /// ```
+    /// use filebox::{Number, Table};
+    ///
+    /// let mut table = Table::free(16);
+    /// table.ask(1, "CRD .R").unwrap();
+    /// table.ask(1, "CRD .R:LINE1").unwrap();
+    /// table.file(1, "M", ".R:LINE1:LIMITS", b"5.0 V").unwrap();
+    /// table.ask(1, "DUP .R .R:LINE1:UP").unwrap();
+    /// let mut reply = [0; 80];
+    /// let lines = table.tree(1, ".R", 3, &mut reply).unwrap();
+    /// assert_eq!(
+    ///     lines,
+    ///     b"DM.U0    LINE1\r\n  FM.U0    LIMITS\r\n  DM.U0    UP\r\n    DM.U0    LINE1\r\n"
+    /// );
+    /// let refused = table.tree(1, ".R", 9, &mut reply).unwrap_err();
+    /// assert_eq!(refused.answer().number, Number::DeclarationUnfit);
+    /// let refused = table.tree(1, ".R", 8, &mut reply).unwrap_err();
+    /// assert_eq!(refused.answer().number, Number::ReplyTooShort);
+    /// ```
+    pub fn tree<'r>(
+        &mut self,
+        user: u32,
+        name: &str,
+        depth: usize,
+        reply: &'r mut [u8],
+    ) -> Result<&'r [u8], Refused> {
+        without_blank(name, Number::MalformedName, 1)?;
+        let line = format!("LST* {name} {depth}");
+        let answer = self.request(user, &line, b"", reply).granted()?;
+        Ok(&reply[..answer.bytes])
+    }
+
     /// Mend the table, as the first thing after the power is back.
     pub fn mend(&mut self) -> Result<Answer, Refused> {
         mend(self.as_mut(), NO_STOP).granted()
@@ -161,7 +198,7 @@ impl<B: AsMut<[u8]>> Table<B> {
     fn reply(&mut self, user: u32, line: &str, most: usize) -> Result<Vec<u8>, Refused> {
         let mut reply = vec![0; most];
         let answer = self.request(user, line, b"", &mut reply).granted()?;
-        reply.truncate(answer.bytes as usize);
+        reply.truncate(answer.bytes);
         Ok(reply)
     }
 }

@@ -135,6 +135,8 @@ fn an_argument_with_a_blank_is_refused_before_it_is_two_words() -> Result<(), Re
     for name in ["A ", " A", ". ", "A B", " "] {
         let sheet = table.sheet(1, name).unwrap_err();
         let list = table.list(1, name).unwrap_err();
+        let tree = table.tree(1, name, 2, &mut [0; 100]).unwrap_err();
+        assert_eq!(seven(tree), [7, 1, 0, 0, 0, 0, 0], "{name:?}");
         assert_eq!(seven(sheet), [7, 1, 0, 0, 0, 0, 0], "{name:?}");
         assert_eq!(seven(list), [7, 1, 0, 0, 0, 0, 0], "{name:?}");
     }

@@ -64,6 +64,6 @@ pub fn printed(answer: Answer, reply: &[u8]) -> Vec<u8> {
     let numbers = answer.numbers().map(|number| number.to_string());
     let mut printed = numbers.join(" ").into_bytes();
     printed.push(b'\n');
-    printed.extend_from_slice(&reply[..answer.bytes as usize]);
+    printed.extend_from_slice(&reply[..answer.bytes]);
     printed
 }

@@ -225,6 +225,7 @@ fn help_says_every_command_and_its_examples_work() {
         "--journal",
         "--fixture",
         "DPR",
+        "LST* name digit",
         "Status",
     ] {
         assert!(help.out().contains(word), "{word}");
@@ -239,6 +240,10 @@ fn help_says_every_command_and_its_examples_work() {
     assert_eq!(
         run(&["ask", &path, "1", "RDS .R:LIMITS"]).out(),
         "0 0 0 1 0 6 0\n5.0 V\n"
+    );
+    assert_eq!(
+        run(&["ask", &path, "1", "LST* . 2"]).out(),
+        "0 0 0 1 0 32 0\nDM.U0    .R\r\n  FM.U0    LIMITS\r\n"
     );
     assert!(run(&["show", &path]).out().contains("LIMITS"));
 }

@@ -114,7 +114,7 @@ impl Fixture<'_> {
     }
 
     /// Start the host, send it the requests and kill it a little after some of the answers, or at once; all answers that came.
-    fn run(&mut self, sent: &[Sent]) -> io::Result<Vec<[u32; 7]>> {
+    fn run(&mut self, sent: &[Sent]) -> io::Result<Vec<[u64; 7]>> {
         let mut host = Command::new(self.host)
             .arg("host")
             .arg(&self.file.0)
@@ -158,7 +158,7 @@ impl Fixture<'_> {
     fn killed_in_a_request(
         &mut self,
         sent: &[Sent],
-        answers: &[[u32; 7]],
+        answers: &[[u64; 7]],
         file: &[u8],
         mended: &[u8],
     ) -> Checked {

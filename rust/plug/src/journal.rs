@@ -13,7 +13,7 @@ const HELD_TEXT: usize = 24_001;
 pub struct Told {
     pub line: Vec<u8>,
     pub text: Vec<u8>,
-    pub answer: Option<([u32; 7], Vec<u8>)>,
+    pub answer: Option<([u64; 7], Vec<u8>)>,
 }
 
 /// A request as the journal has it.
@@ -125,7 +125,7 @@ impl Replayed {
             Some((numbers, bytes)) => {
                 self.answered += 1;
                 equal("the answer", numbers, &answer.numbers())?;
-                equal("the reply", &bytes[..], &reply[..answer.bytes as usize])?;
+                equal("the reply", &bytes[..], &reply[..answer.bytes])?;
                 vec![after]
             }
             None => crate::seen::tables(|stop| {

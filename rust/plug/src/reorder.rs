@@ -72,7 +72,7 @@ fn opened(machine: &Machine) -> Result<Kept<Machine>, String> {
 }
 
 /// The request, asked of a host.
-fn asked(host: &mut Kept<Machine>, sent: &Sent) -> Result<[u32; 7], host::Wrong> {
+fn asked(host: &mut Kept<Machine>, sent: &Sent) -> Result<[u64; 7], host::Wrong> {
     let mut reply = vec![0; filebox::LONGEST_TEXT];
     let (user, line, text) = (sent.asked.user, &sent.asked.line, &sent.asked.text);
     let answer = host.request(Request { user, line, text }, &mut reply)?;

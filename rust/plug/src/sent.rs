@@ -7,7 +7,7 @@ use crate::wire::Asked;
 /// A request that was sent, and what it must come to.
 pub struct Sent {
     pub asked: Asked,
-    pub answer: [u32; 7],
+    pub answer: [u64; 7],
     before: Vec<u8>,
     pub after: Vec<u8>,
 }

@@ -13,7 +13,7 @@ pub struct Asked {
 }
 
 /// The bytes of an answer on the pipe.
-pub const ANSWER_BYTES: usize = 28;
+pub const ANSWER_BYTES: usize = 7 * size_of::<u64>();
 
 impl Asked {
     /// The bytes of a request on the pipe: user, both lengths, line, text.
@@ -52,11 +52,14 @@ fn bytes(pipe: &mut impl Read, length: u32) -> io::Result<Vec<u8>> {
 
 /// Send an answer, by one write: a kill sends all of it or nothing.
 pub fn send(pipe: &mut impl Write, answer: Answer) -> io::Result<()> {
-    pipe.write_all(&answer.numbers().map(u32::to_le_bytes).concat())
+    pipe.write_all(&answer.numbers().map(u64::to_le_bytes).concat())
 }
 
 /// The seven numbers that were sent in so many bytes.
-pub fn received(bytes: &[u8]) -> [u32; 7] {
-    let number = |at: usize| u32::from_le_bytes([0, 1, 2, 3].map(|byte| bytes[at * 4 + byte]));
+pub fn received(bytes: &[u8]) -> [u64; 7] {
+    let number = |at: usize| {
+        let bytes = [0, 1, 2, 3, 4, 5, 6, 7].map(|byte| bytes[at * 8 + byte]);
+        u64::from_le_bytes(bytes)
+    };
     [0, 1, 2, 3, 4, 5, 6].map(number)
 }

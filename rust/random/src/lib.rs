@@ -6,6 +6,7 @@ pub mod lines;
 pub mod parts;
 pub mod requests;
 pub mod shelves;
+pub mod trees;
 
 /// A small repeatable source of numbers (xorshift), from a seed.
 pub struct Random(u64);
@@ -77,6 +78,20 @@ mod tests {
         assert!(chains.iter().all(|chain| chain.starts_with(".000007")));
         assert!(chains.iter().any(|chain| chain == ".000007"));
         assert!(chains.iter().any(|chain| chain == ".000007:A:A:A"));
+    }
+
+    #[test]
+    fn every_depth_comes_and_words_that_are_none() {
+        let mut random = Random::new(1);
+        let depths: Vec<String> = (0..1_000).map(|_| trees::depth(&mut random)).collect();
+        for depth in ["1", "2", "3", "4", "5", "6", "7", "8", "0", "9", "-", "1:2"] {
+            assert!(depths.iter().any(|word| word == depth), "{depth}");
+        }
+        let shallow: Vec<&str> = (0..1_000).map(|_| trees::shallow(&mut random)).collect();
+        assert!(["1", "2", "3", "0"]
+            .iter()
+            .all(|word| shallow.contains(word)));
+        assert!(!shallow.contains(&"4"));
     }
 
     #[test]

@@ -1,6 +1,7 @@
 //! Random request lines: mostly well-formed, over few names, so that they meet each other in a small table.
 
 use crate::parts::part;
+use crate::trees::shallow;
 use crate::Random;
 
 const GOOD: [&str; 11] = [
@@ -50,10 +51,10 @@ fn written(random: &mut Random) -> String {
     format!("WRS {lifetime} {}", name(random))
 }
 
-/// A line of one of the nine functions, now and then with one byte changed.
+/// A line of one of the functions, now and then with one byte changed.
 pub fn line(random: &mut Random) -> Vec<u8> {
     let (one, two, declared) = (name(random), name(random), declaration(random));
-    let line = match random.below(17) {
+    let line = match random.below(19) {
         0..=2 => format!("CRD {one} {declared}"),
         3..=5 => written(random),
         6 | 15 | 16 => format!("RDS {one}{}", part(random)),
@@ -69,7 +70,11 @@ pub fn line(random: &mut Random) -> Vec<u8> {
             "DPR {one} {}",
             random.pick(&[".1", ".3", ".7", ".0", "M.1", "-", ""])
         ),
-        _ => format!("LST {}", if random.once_in(3) { "." } else { one }),
+        14 => format!("LST {}", if random.once_in(3) { "." } else { one }),
+        _ => {
+            let name = if random.once_in(3) { "." } else { one };
+            format!("LST* {name} {}", shallow(random))
+        }
     };
     let mut line = line.into_bytes();
     if random.once_in(40) {

@@ -3,6 +3,7 @@
 use crate::chains::{self, base, link, new, old};
 use crate::lines;
 use crate::parts::part;
+use crate::trees::depth;
 use crate::Random;
 
 /// A declaration with this lifetime, now and then with a level, and with a digit that seldom inhibits.
@@ -19,10 +20,10 @@ pub fn declaration(random: &mut Random, lifetime: &str) -> String {
     format!("{lifetime}.{level}{digit}")
 }
 
-/// A well-formed line of one of the nine functions over chains of the table.
+/// A well-formed line of one of the functions over chains of the table.
 pub fn granted(random: &mut Random, table: &[u8], user: u32) -> String {
     let (one, other) = (old(random, table, user), new(random, table, user));
-    match random.below(42) {
+    match random.below(46) {
         0..=5 => format!("CRD {other} {}", declaration(random, "")),
         6..=10 => {
             let lifetime = random.pick(&["M", "L"]);
@@ -45,14 +46,16 @@ pub fn granted(random: &mut Random, table: &[u8], user: u32) -> String {
         }
         34..=38 => format!("RDS {one}{}", part(random)),
         39 | 40 => format!("LST {one}"),
-        _ => "LST .".to_string(),
+        41 => "LST .".to_string(),
+        42..=44 => format!("LST* {one} {}", depth(random)),
+        _ => format!("LST* . {}", depth(random)),
     }
 }
 
-/// A line of one of the nine functions with a long chain, which may be wrong at any link.
+/// A line of one of the functions with a long chain, which may be wrong at any link.
 pub fn long(random: &mut Random, table: &[u8], user: u32) -> Vec<u8> {
     let (chain, other) = (chains::long(random, table, user), old(random, table, user));
-    let line = match random.below(12) {
+    let line = match random.below(13) {
         0 => format!("CRD {chain}"),
         1 => format!("WRS M {chain}"),
         2 => format!("RDS {chain}"),
@@ -64,6 +67,7 @@ pub fn long(random: &mut Random, table: &[u8], user: u32) -> Vec<u8> {
         8 => format!("CHN {chain} {}", link(random)),
         9 => format!("DPR {chain} .4"),
         10 => format!("DEL {chain}"),
+        11 => format!("LST* {chain} {}", depth(random)),
         _ => format!("DEL {other} {chain}"),
     };
     line.into_bytes()

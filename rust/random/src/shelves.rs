@@ -3,6 +3,7 @@
 use crate::chains::{link, new, old, taken};
 use crate::parts::part;
 use crate::requests::{declaration, granted};
+use crate::trees::shallow;
 use crate::Random;
 
 /// A give to this user: mostly a link of few, so that some are taken.
@@ -58,21 +59,23 @@ fn moved(random: &mut Random, table: &[u8], user: u32) -> String {
 fn shelved(random: &mut Random, table: &[u8], user: u32, other: u32) -> String {
     let digit = random.pick(&["", "", "-", ".1", ".4", ".2"]);
     let take = taken(random, table, other);
-    match random.below(14) {
-        0..=3 => {
+    match random.below(17) {
+        0..=4 => {
             let (own, give) = (old(random, table, user), given(random, other));
             format!("DUP {own} {give} {digit}")
         }
-        4 => format!("DUP {take} {} {digit}", given(random, user)),
-        5 | 6 => format!("DUP {take} {} {digit}", new(random, table, user)),
-        7 | 8 => {
+        5 => format!("DUP {take} {} {digit}", given(random, user)),
+        6 | 7 => format!("DUP {take} {} {digit}", new(random, table, user)),
+        8 | 9 => {
             let lifetime = random.pick(&["", "", "M", "L"]);
             let declared = declaration(random, lifetime);
             format!("CPY {take} {} {declared}", new(random, table, user))
         }
-        9 | 10 => format!("RDS {take}{}", part(random)),
-        11 => format!("LST .{other:06}"),
-        _ => format!("LST {take}"),
+        10 | 11 => format!("RDS {take}{}", part(random)),
+        12 => format!("LST .{other:06}"),
+        13 | 14 => format!("LST {take}"),
+        15 => format!("LST* .{other:06} {}", shallow(random)),
+        _ => format!("LST* {take} {}", shallow(random)),
     }
 }
 

@@ -10,6 +10,7 @@ pub const UNTOUCHED: u8 = 0xEE;
 /// An answer from its seven numbers: number, argument, link, names, displaced, bytes, stores.
 pub fn answer(numbers: [u32; 7]) -> Answer {
     let [number, argument, link, names, displaced, bytes, stores] = numbers;
+    let bytes = bytes as usize;
     Answer {
         number,
         argument,
@@ -189,7 +190,7 @@ impl Bench {
         assert_eq!(seen.answer.number, 0, "{line}: {:?}", seen.answer);
         assert_eq!((seen.answer.argument, seen.answer.link), (0, 0), "{line}");
         assert!(sound(&seen.table), "{line}: not sound after");
-        let bytes = seen.answer.bytes as usize;
+        let bytes = seen.answer.bytes;
         let rest = &seen.reply[bytes..];
         assert!(rest.iter().all(|byte| *byte == UNTOUCHED), "{line}: reply");
         self.table.clone_from(&seen.table);
@@ -221,9 +222,10 @@ impl Bench {
     pub fn reply(&self, line: &str) -> Vec<u8> {
         let seen = self.ask(line, b"");
         let bytes = seen.answer.bytes;
-        assert_eq!(seen.answer, answer([0, 0, 0, 1, 0, bytes, 0]), "{line}");
+        let granted = answer([0, 0, 0, 1, 0, bytes as u32, 0]);
+        assert_eq!(seen.answer, granted, "{line}");
         assert!(seen.table == self.table, "{line}: table changed");
-        let (front, rest) = seen.reply.split_at(bytes as usize);
+        let (front, rest) = seen.reply.split_at(bytes);
         assert!(rest.iter().all(|byte| *byte == UNTOUCHED), "{line}: reply");
         front.to_vec()
     }

@@ -109,14 +109,14 @@ fn inhibits(line: &[u8]) -> bool {
 }
 
 /// An answer: its seven numbers, and as many bytes of reply as the sixth says.
-fn answer(answers: &mut impl BufRead) -> io::Result<([u32; 7], Vec<u8>)> {
+fn answer(answers: &mut impl BufRead) -> io::Result<([u64; 7], Vec<u8>)> {
     let mut line = String::new();
     answers.read_line(&mut line)?;
-    let numbers: Option<Vec<u32>> = line
+    let numbers: Option<Vec<u64>> = line
         .split_whitespace()
         .map(|word| word.parse().ok())
         .collect();
-    let numbers = numbers.and_then(|numbers| <[u32; 7]>::try_from(numbers).ok());
+    let numbers = numbers.and_then(|numbers| <[u64; 7]>::try_from(numbers).ok());
     let numbers = numbers.ok_or_else(|| io::Error::other(format!("no answer: {line}")))?;
     let mut reply = vec![0; numbers[5] as usize];
     answers.read_exact(&mut reply)?;
