@@ -21,6 +21,8 @@ pub mod Standing
 pub mod Received
 -- parts of a sheet: `parts-join`, `part-shown`, `part-read`, `dashes-whole`, `octal-asked`
 pub mod Parts
+-- a file rewritten: `rewrite-stores`, `rewrite-when`, `rewrite-read`
+pub mod Rewrites
 -- lines and texts longer than any that is read: `requested-cut`
 pub mod Long
 -- ---- what several of them stand on

@@ -12,7 +12,7 @@ use lib.Seq.{take-all, length-take-le}
 use borrow.Author.Tests.{lt-ltb, lt-leb, ltb-true, ltb-false}
 use Rattle.paper.specs.Line.{legalLine}
 use Rattle.paper.specs.Check.{Verdict, passed, refused, verdict}
-use Rattle.paper.specs.Request.{Read, request, unread, read, asked, withText, crd, wrs, rds, cpy, dup, chn, del, dpr, lst, lstBase, lstTree, lstBaseTree}
+use Rattle.paper.specs.Request.{Read, request, unread, read, asked, withText, crd, wrs, rds, cpy, dup, chn, del, dpr, lst, lstBase, lstTree, lstBaseTree, rewrite}
 use Rattle.paper.specs.Answer.{requested, entrance, admitted, acted, granted}
 use Rattle.laws.proofs.Tests.{truth}
 
@@ -54,6 +54,7 @@ module _ (t reply : List ℕ) (u k : ℕ) (text : List ℕ) (l : 24000 < length 
   acted-long (request lstBase) = refl
   acted-long (request (lstTree from name depth)) = refl
   acted-long (request (lstBaseTree depth)) = refl
+  acted-long (request (rewrite name)) = rw (lt-ltb 24000 (length text) l, lt-ltb 24000 (length (take 24001 text)) m)
 
 -- a line cut after 257 bytes
 pub line-cut : (t line text reply : List ℕ) (u k : ℕ) → requested t (take 257 line) text reply u k ≡ requested t line text reply u k

@@ -9,7 +9,7 @@ use lib.ListN.{length, take, drop, take-append-drop, drop-of-length-le}
 use lib.Seq.{take-all, take-length, take-append-seam, drop-drop}
 use lib.Dec.{eqb}
 use borrow.Author.Tests.{le-ltb, le-leb, ltb-false, not-false}
-use Rattle.paper.specs.Record.{simple}
+use Rattle.paper.specs.Record.{marked, simple}
 use Rattle.paper.specs.Table.{rec, sized}
 use Rattle.paper.specs.Declaration.{Part, given, notGiven, orElse}
 use Rattle.paper.specs.Name.{same, all, counting}
@@ -22,7 +22,7 @@ use Rattle.paper.specs.Sound.{sound}
 use Rattle.paper.specs.Walk.{State, start, file, End, arrived, astray, ended}
 use Rattle.paper.specs.Block.{fileText}
 use Rattle.paper.specs.Store.{run}
-use Rattle.paper.specs.Effect.{Plan, Planned, plan, inward, chainOf, endOf, listOf, begun, readInhibited, notSimple, tooShort, beyondEnd, part, rdsPlan}
+use Rattle.paper.specs.Effect.{Plan, Planned, plan, inward, chainOf, endOf, listOf, begun, readInhibited, notSimple, tooShort, isMarked, beyondEnd, part, rdsPlan}
 use Rattle.paper.specs.Answer.{Outcome, granting, ran, single, granted, entrance, admitted, requested}
 use Rattle.laws.proofs.Tests.{clash}
 use Rattle.laws.proofs.Lists.{Every}
@@ -91,13 +91,14 @@ octal-asked n l =
 
 -- ---- one RDS
 
--- the file that a name comes to is simple, and may be read
+-- the file that a name comes to is simple, may be read and is not marked
 pub record Readable (t : List ℕ) (u : ℕ) (name : Word) : Type 0 where
   pub directory : State
   pub end : State
   pub walk : ended t (start u) (chainOf name) ≡ arrived directory end
   pub reads : noRead (end .code) ≡ false
   pub simple : simple (rec t (file t end)) ≡ true
+  pub unmarked : marked (rec t (file t end)) ≡ false
 
 abbrev pub textOf : (t : List ℕ) (u : ℕ) (name : Word) → Readable t u name → List ℕ
 textOf t u name r = fileText t (file t (r .end))
@@ -117,7 +118,7 @@ rds-brings : (t : List ℕ) (u : ℕ) (reply : List ℕ) (k : ℕ) (name : Word)
     → single t reply k (ran k (rdsPlan t u reply name first count)) ≡ bringing t (part (textOf t u name r) first count) reply
 unfolding rdsPlan verdict run
 rds-brings t u reply k name first count r h =
-    rw (r .walk, r .reads, r .simple, le-ltb _ _ (h .fits), le-ltb _ _ (h .within), le-leb 0 k (omega arith))
+    rw (r .walk, r .reads, r .simple, le-ltb _ _ (h .fits), r .unmarked, le-ltb _ _ (h .within), le-leb 0 k (omega arith))
 
 -- and only such a part
 record Brought (t : List ℕ) (u : ℕ) (reply : List ℕ) (name : Word) (first count : Part) : Type 0 where
@@ -134,6 +135,7 @@ plan-brought t u reply name first count p v = go (ended t (start u) (chainOf nam
         readInhibited (endOf 1 name) f
         ∷ notSimple (endOf 1 name) t f
         ∷ tooShort (part (fileText t (file t f)) first count) reply
+        ∷ isMarked (endOf 1 name) t f
         ∷ beyondEnd (whole 2) first (fileText t (file t f))
         ∷ []
 
@@ -147,8 +149,8 @@ plan-brought t u reply name first count p v = go (ended t (start u) (chainOf nam
         let c : shown f ≡ p = cc in
         let i : Every Idle (checks f) = verdict-idle (checks f) (rw (← c) at (h .checks)) in
         record {
-          readable = record { directory = d; end = f; walk = e; reads = i .0; simple = not-false _ (i .1 .0) };
-          holds = record { within = ltb-false _ _ (i .1 .1 .1 .0); fits = ltb-false _ _ (i .1 .1 .0) };
+          readable = record { directory = d; end = f; walk = e; reads = i .0; simple = not-false _ (i .1 .0); unmarked = i .1 .1 .1 .0 };
+          holds = record { within = ltb-false _ _ (i .1 .1 .1 .1 .0); fits = ltb-false _ _ (i .1 .1 .0) };
         }
 
 rds-brought : (t : List ℕ) (u : ℕ) (reply : List ℕ) (k : ℕ) (name : Word) (first count : Part)

@@ -1,8 +1,10 @@
 -- Demand 3: a request cut after any number of stores and then mended is the table before or the table after, for DEL after some first
--- part of its names. What is refused changes nothing; what is granted is one plan of the right shape, or DEL, name by name.
+-- part of its names, for `WRS*` after with that one file marked and empty. What is refused changes nothing; what is granted is one plan
+-- of the right shape, or DEL, name by name, or a rewrite.
 -- the shape that a list of stores must have, and its parts
 pub mod Cut
 pub mod Littering
+pub mod Remade
 pub mod Losing
 -- each function has it, and so each cut lands
 pub mod Plans
@@ -16,24 +18,41 @@ use native.Mathlib.Omega.{arith}
 use lib.ListN.{length, take}
 use Rattle.paper.specs.Table.{sized}
 use Rattle.paper.specs.Line.{Word}
-use Rattle.paper.specs.Request.{del, request, asked}
+use Rattle.paper.specs.Request.{del, rewrite, request, asked}
 use Rattle.paper.specs.Sound.{sound}
-use Rattle.paper.specs.Effect.{Planned}
+use Rattle.paper.specs.Walk.{State, start, file, reached, toDirectory, toLast}
+use Rattle.paper.specs.Store.{run}
+use Rattle.paper.specs.Effect.{Planned, chainOf, emptied, rewritePlan}
 use Rattle.paper.specs.Mend.{mendStores, mended}
 use Rattle.paper.specs.Answer.{Outcome, ran, single, granted, requested, mending}
 use Rattle.demands.proofs.Sound.Clauses.{Sound, sound-clauses, clauses-sound}
 use Rattle.demands.proofs.Mending.Debris.{mended-sound}
 use Rattle.demands.proofs.Mending.{mendedWhole, mend-whole}
-use Rattle.demands.proofs.Tried.{Tried, lent, by-plan, by-names, ways}
-use Rattle.demands.proofs.PowerCut.Landing.{Done, single-cut, del-cut}
+use Rattle.demands.proofs.Tried.{Tried, lent, by-plan, by-names, by-rewrite, ways}
+use Rattle.demands.proofs.PowerCut.Landing.{Done, single-cut, Remakes, unmade, remade, half, rewrite-cut, del-cut}
 use Rattle.demands.proofs.Stops.{Uncut, deleting-same, stop-same}
 
--- where a cut request is once it is mended: the table before; the table after; for DEL, the table after some first part of its names
+-- `WRS*`: x is the table "after with that one file marked and empty"; so it is from the table before
+pub record Halved (t line text reply : List ℕ) (u : ℕ) (x : List ℕ) : Type 0 where
+  pub name : Word
+  pub asked : asked line text ≡ request (rewrite name)
+  pub directory : State
+  pub end : State
+  pub walked : toDirectory t 1 (start u) (chainOf name) ≡ reached directory
+  pub last : toLast t directory (chainOf name) ≡ reached end
+  pub after : List ℕ
+  pub done : Done (requested t line text reply u) after
+  pub half : x ≡ emptied after (file t end)
+  pub before : x ≡ emptied t (file t end)
+
+-- where a cut request is once it is mended: the table before; the table after; for DEL, the table after some first part of its names;
+-- for `WRS*`, after with that one file marked and empty
 pub data Lands (t line text reply : List ℕ) (u : ℕ) (x : List ℕ) : Type 0 where
   before : x ≡ t → Lands t line text reply u x
   after : Done (requested t line text reply u) x → Lands t line text reply u x
   first : (names : List Word) (n : ℕ) → asked line text ≡ request (del names) → n ≤ length names
       → Done (λ k. granted t text reply u k (del (take n names))) x → Lands t line text reply u x
+  marked : Halved t line text reply u x → Lands t line text reply u x
 
 -- a cut at k, mended, is sound and lands
 record Landed (t line text reply : List ℕ) (u k : ℕ) : Type 0 where
@@ -54,6 +73,25 @@ landed t line text reply u k c = go (ways t line text reply u)
     alone x q (inl z) = before z
     alone x q (inr d) = after (record { stop = d .stop; number = rw (q (d .stop)) (d .number); table = rw (q (d .stop)) (d .table) })
 
+    rewrites : (name : Word) → asked line text ≡ request (rewrite name) → (b : length text ≤ 24000)
+        → ((k : ℕ) → requested t line text reply u k ≡ single t reply k (ran k (rewritePlan t u text name)))
+        → {y : List ℕ} → Remakes t reply c u text name b y → Lands t line text reply u y
+    rewrites name a b q (unmade z) = before z
+    rewrites name a b q (remade d) = alone (rewritePlan t u text name) q (inr d)
+    rewrites name a b q (half p g d z e) =
+        marked (record {
+          name = name;
+          asked = a;
+          directory = g .directory;
+          end = g .end;
+          walked = g .walked;
+          last = g .last;
+          after = run t (p .stores);
+          done = record { stop = d .stop; number = rw (q (d .stop)) (d .number); table = rw (q (d .stop)) (d .table) };
+          half = e;
+          before = z;
+        })
+
     go : Tried t line text reply u → Landed t line text reply u k
     go (lent f q) =
         let z : mended (requested t line text reply u k .table) ≡ t = rw (q k) (mended-sound t c) in
@@ -64,6 +102,9 @@ landed t line text reply u k c = go (ways t line text reply u)
     go (by-names names a q) =
         let d = del-cut u reply names t c k 0 0 in
         record { sound = rw (q k) (d .sound); lands = rw (q k) (first names (d .names) a (d .most) (unfold granted in d .done)) }
+    go (by-rewrite name a b q) =
+        let s = rewrite-cut t reply c u text name b k in
+        record { sound = rw (q k) (s .0); lands = rw (q k) (rewrites name a b q (s .1)) }
 
 -- the demand: every sound table, line, text, reply, user and stop number
 pub demand-three : (t line text reply : List ℕ) (u k : ℕ) → sized t ≡ true → sound t ≡ true → Harmless t line text reply u k

@@ -15,19 +15,26 @@ pub mod Settled
 pub mod Alike
 pub mod Recoded
 pub mod Renamed
+-- a file with another text
+pub mod Retexted
+pub mod Emptied
+pub mod Refilled
 -- each function keeps it
 pub mod Kept
 pub mod Keeping
+pub mod Rewriting
 use mathlib.Core.Bool.{true}
 use mathlib.Core.List.{List}
 use mathlib.Core.Path.{_≡_}
 use Prim.Native.Nat.{ℕ}
 use Rattle.paper.specs.Table.{sized}
 use Rattle.paper.specs.Sound.{sound}
+use Rattle.paper.specs.Effect.{rewritePlan}
 use Rattle.paper.specs.Answer.{requested}
 use Rattle.demands.proofs.Sound.Clauses.{Sound, sound-clauses, clauses-sound}
 use Rattle.demands.proofs.SoundKept.Kept.{single-sound, deleting-sound}
-use Rattle.demands.proofs.Tried.{Tried, lent, by-plan, by-names, ways}
+use Rattle.demands.proofs.SoundKept.Rewriting.{rewrite-keeps}
+use Rattle.demands.proofs.Tried.{Tried, lent, by-plan, by-names, by-rewrite, ways}
 use Rattle.demands.proofs.Stops.{Uncut}
 
 pub sound-kept : (t line text reply : List ℕ) (u k : ℕ) → sized t ≡ true → sound t ≡ true → Uncut (requested t line text reply u k)
@@ -41,3 +48,5 @@ sound-kept t line text reply u k s e a = clauses-sound (requested t line text re
     go (lent f q) = rw (q k) c
     go (by-plan x safe keeps q) = rw (q k) (single-sound t reply k c x keeps (rw (q k) at a))
     go (by-names names d q) = rw (q k) (deleting-sound names t u reply k 0 0 c (rw (q k) at a))
+    go (by-rewrite name d b q) =
+        rw (q k) (single-sound t reply k c (rewritePlan t u text name) (rewrite-keeps t c u text name b) (rw (q k) at a))

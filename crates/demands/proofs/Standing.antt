@@ -9,19 +9,19 @@ use native.Mathlib.Omega.{arith}
 use lib.ListN.{length, take, drop}
 use borrow.Author.Tests.{ltb-false}
 use Rattle.paper.specs.Scan.{Found, at, nowhere}
-use Rattle.paper.specs.Record.{byte, headingNamed, blank, level, lifetime, entryCode, headingRecord}
+use Rattle.paper.specs.Record.{byte, headingNamed, blank, level, lifetime, entryCode, headingRecord, rewritten}
 use Rattle.paper.specs.Table.{rooms, rec, frees, room, textRoom}
 use Rattle.paper.specs.Name.{dotG, pointed, chain}
 use Rattle.paper.specs.Declaration.{Part, orElse}
 use Rattle.paper.specs.Line.{Word}
 use Rattle.paper.specs.Check.{Check, passed, verdict}
-use Rattle.paper.specs.Request.{Begin, own, takeOf, giveTo, Request, crd, wrs, rds, cpy, dup, chn, del, dpr, lst, lstBase, lstTree, lstBaseTree, request, asked}
+use Rattle.paper.specs.Request.{Begin, own, takeOf, giveTo, Request, crd, wrs, rds, cpy, dup, chn, del, dpr, lst, lstBase, lstTree, lstBaseTree, rewrite, request, asked}
 use Rattle.paper.specs.Code.{joined}
 use Rattle.paper.specs.Entry.{Holder, baseList, stands}
 use Rattle.paper.specs.Block.{blocksOf, fileText}
 use Rattle.paper.specs.Walk.{State, start, file, reached, toDirectory, lastName}
 use Rattle.paper.specs.Store.{Store, clear, run}
-use Rattle.paper.specs.Effect.{listOf, begun, Plan, Planned, plan, halted, chainOf, Making, borne, placing, needed, freed, lost, settled, writeInhibited, linking, making, entryIn, filing, recoded, crdPlan, wrsPlan, cpyPlan, dupPlan, chnPlan, dprPlan, delPlan, rdsPlan, lstPlan, lstBasePlan, lstTreePlan, lstBaseTreePlan}
+use Rattle.paper.specs.Effect.{listOf, begun, Plan, Planned, plan, halted, chainOf, Making, borne, placing, needed, freed, lost, settled, writeInhibited, linking, making, entryIn, filing, recoded, crdPlan, wrsPlan, cpyPlan, dupPlan, chnPlan, dprPlan, delPlan, rdsPlan, lstPlan, lstBasePlan, lstTreePlan, lstBaseTreePlan, rewriting, rewritePlan}
 use Rattle.paper.specs.Answer.{Outcome, ran, single, oneName, deleting, granted, requested}
 use Rattle.laws.proofs.Tests.{either}
 use Rattle.laws.proofs.Lists.{Every, every-append, every-each, every-imp, every-parts, every-take}
@@ -46,6 +46,9 @@ use Rattle.demands.proofs.SoundKept.Recoded.{recoded-like, length-recod
 use Rattle.demands.proofs.SoundKept.Renamed.{renamed-like, length-renamed}
 use Rattle.demands.proofs.SoundKept.Kept.{passed-sound, del-keeps}
 use Rattle.demands.proofs.SoundKept.Keeping.{entered}
+use Rattle.demands.proofs.SoundKept.Retexted.{Mine, mine-not}
+use Rattle.demands.proofs.SoundKept.Emptied.{Medium, head-kind}
+use Rattle.demands.proofs.SoundKept.Rewriting.{Rewrites, head-again, mine-now, each-rewrites, Grants, rewrite-grants}
 use Rattle.demands.proofs.Mending.Debris as loose
 use Rattle.demands.proofs.Mending.Debris.{Loose}
 use Rattle.demands.proofs.PowerCut.Cut.{Litters}
@@ -303,6 +306,36 @@ module _ (t : List ℕ) (c : Sound t) where
           );
         })
 
+    -- a rewrite lays no entry, and over none
+    rewrite-sets : (body : List ℕ) (name : Word) → length body ≤ 24000 → Sets t u (mine name) (rewritePlan t u body name)
+    rewrite-sets body name short = go (rewritePlan t u body name) (rewrite-grants t c u body name short)
+      where
+        free-not : (h : ℕ) (r : List ℕ) → Mine h r → byte r 0 ≢ 2
+        free-not h r m = mine-not h r 2 m (omega arith) (omega arith)
+
+        laid : (d : Holder) (e h i : ℕ) (r : List ℕ) → Medium t h → Rewrites t h i r → Laid t d e i r
+        laid d e h i r f (head-again q mark n b z) =
+            other (λ k. let y : byte (rec t h) 0 ≡ 2 = rw q at k in omega (arith, f .kind))
+            (λ k. let y : byte (rewritten (rec t h) mark n) 0 ≡ 2 = rw z at k in omega (arith, head-kind t h c f mark n b))
+        laid d e h i r f (mine-now a b) = other (free-not h (rec t i) a) (free-not h r b)
+
+        go : (x : Planned) → Grants t u body name x → Sets t u (mine name) x
+        go (halted f) h = tt
+        go (plan p) h = λ v.
+            let g = h v in
+            let d : State = g .directory in
+            let hd : ℕ = file t (g .end) in
+            record {
+              holder = d .holder;
+              entry = g .end .entry;
+              comes = walked d (g .walked) refl;
+              each =
+                  rw (g .stores) (every-imp _ _ (rewriting t hd body)
+                  (λ s l.
+                  record { within = l .within; size = l .size; holds = laid (d .holder) (g .end .entry) hd (s .at) (s .bytes) (g .fit .file) (l .holds) })
+                  (each-rewrites t hd body c (g .fit)));
+            }
+
     del-sets : (place : ℕ) (name : Word) → Sets t u (mine name) (delPlan t u place name)
     unfolding delPlan
     del-sets place name =
@@ -426,6 +459,7 @@ By (lst from name) w = ⊥
 By lstBase w = ⊥
 By (lstTree from name depth) w = ⊥
 By (lstBaseTree depth) w = ⊥
+By (rewrite name) w = w ≡ mine name
 
 -- as lent; or a step by the request's one name; or a DEL, name by name
 pub data Stood (t line body : List ℕ) (u : ℕ) (s : List ℕ) : Type 0 where
@@ -476,6 +510,8 @@ entry-stood t line body reply u k = go (course t line body reply u)
         shows (lstTreePlan t (listOf u from) reply (begun from name) depth)
         (end-by Shows 1 (λ _ _ _. tt) t (listOf u from) (begun from name) _ (λ _ _ _ _. refl))
     grants c l (lstBaseTree depth) q h = shows (lstBaseTreePlan t u reply depth) refl
+    grants c l (rewrite name) q h =
+        one _ q (mine name) refl (rewritePlan t u body name) c (rewrite-sets t c u l body name (h .text))
 
     go : Course t line body reply u → Stood t line body u (requested t line body reply u k .table)
     go (untried f h e) = rw (e k) (lent refl)

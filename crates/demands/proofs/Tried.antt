@@ -1,12 +1,13 @@
 -- A request that is tried on a sound table is one plan, which keeps soundness and has the shape of the power cut, or DEL, a plan for
--- each name: each function is told what it needs, and a name that was read fits its field.
+-- each name, or `WRS*`, whose shape is its own: each function is told what it needs, and a name that was read fits its field.
 use mathlib.Core.List.{List}
 use mathlib.Core.Path.{_≡_}
 use Prim.Native.Nat.{ℕ, _≤_}
+use lib.ListN.{length}
 use Rattle.paper.specs.Line.{Word}
 use Rattle.paper.specs.Check.{Refusal}
-use Rattle.paper.specs.Request.{Request, crd, wrs, rds, cpy, dup, chn, del, dpr, lst, lstBase, lstTree, lstBaseTree, request, asked}
-use Rattle.paper.specs.Effect.{listOf, begun, Planned, crdPlan, wrsPlan, rdsPlan, cpyPlan, dupPlan, chnPlan, dprPlan, lstPlan, lstBasePlan, lstTreePlan, lstBaseTreePlan}
+use Rattle.paper.specs.Request.{Request, crd, wrs, rds, cpy, dup, chn, del, dpr, lst, lstBase, lstTree, lstBaseTree, rewrite, request, asked}
+use Rattle.paper.specs.Effect.{listOf, begun, Planned, crdPlan, wrsPlan, rdsPlan, cpyPlan, dupPlan, chnPlan, dprPlan, lstPlan, lstBasePlan, lstTreePlan, lstBaseTreePlan, rewritePlan}
 use Rattle.paper.specs.Answer.{refusing, ran, single, deleting, granted, requested}
 use Rattle.laws.proofs.Entries.{link-short}
 use Rattle.demands.proofs.Sound.Clauses.{Sound, sound-clauses}
@@ -24,6 +25,8 @@ pub data Tried (t line text reply : List ℕ) (u : ℕ) : Type 0 where
       → ((k : ℕ) → requested t line text reply u k ≡ single t reply k (ran k x)) → Tried t line text reply u
   by-names : (names : List Word) → asked line text ≡ request (del names)
       → ((k : ℕ) → requested t line text reply u k ≡ deleting t u reply k 0 0 names) → Tried t line text reply u
+  by-rewrite : (name : Word) → asked line text ≡ request (rewrite name) → length text ≤ 24000
+      → ((k : ℕ) → requested t line text reply u k ≡ single t reply k (ran k (rewritePlan t u text name))) → Tried t line text reply u
 
 module _ (t line text reply : List ℕ) (u : ℕ) where
   tries : Sound t → u ≤ 999999 → (r : Request) → asked line text ≡ request r → Told text r
@@ -60,6 +63,7 @@ module _ (t line text reply : List ℕ) (u : ℕ) where
       (lstTree-keeps t (listOf u from) reply (begun from name) depth c)
   tries c m (lstBaseTree depth) a h =
       by-plan (lstBaseTreePlan t u reply depth) (lst-base-tree-safe t c u reply depth) (lstBaseTree-keeps t u reply depth c)
+  tries c m (rewrite name) a h = by-rewrite name a (h .text)
 
   pub ways : Tried t line text reply u
   ways = go (course t line text reply u)

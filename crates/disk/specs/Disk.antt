@@ -1,21 +1,37 @@
 -- What a disk may hold when the power fails, the phases written in order: any part of the one that was not flushed yet.
+-- A rewrite has phases of its own: the heading marked, all text, the heading unmarked.
 use mathlib.Core.List.{List, [], _∷_}
 use mathlib.Core.Logic.{_⊎_}
 use mathlib.Core.Path.{_≡_}
-use Prim.Native.Nat.{ℕ, _<_}
+use Prim.Native.Nat.{ℕ, _-_, _<_}
 use lib.ListN.{length}
 use Rattle.paper.specs.Table.{rooms, rec}
 use Rattle.paper.specs.Line.{Word}
-use Rattle.paper.specs.Request.{del, request, asked}
+use Rattle.paper.specs.Request.{del, rewrite, request, asked}
 use Rattle.paper.specs.Answer.{requested, deleting}
 use Rattle.disk.specs.Phase.{first, entry, last, phase}
 
 -- u is "the table after a granted request" on t, or, "for DEL: after one name", whichever of its names that is
 pub data Granted (t u : List ℕ) : Type 0 where
   whole : (line text reply : List ℕ) (user stop : ℕ) → ((names : List Word) → asked line text ≡ request (del names) → ⊥)
+      → ((name : Word) → asked line text ≡ request (rewrite name) → ⊥)
       → requested t line text reply user stop .answer .number ≡ 0 → u ≡ requested t line text reply user stop .table → Granted t u
   name : (user stop done made : ℕ) (w : Word) → deleting t user [] stop done made (w ∷ []) .answer .number ≡ 0
       → u ≡ deleting t user [] stop done made (w ∷ []) .table → Granted t u
+
+-- document 02, `WRS*`: the tables a, b and u after the first of its n stores, after all but the last, and after all
+pub record Rewritten (t a b u : List ℕ) : Type 0 where
+  pub line : List ℕ
+  pub text : List ℕ
+  pub reply : List ℕ
+  pub user : ℕ
+  pub name : Word
+  pub asked : asked line text ≡ request (rewrite name)
+  pub stop : ℕ
+  pub granted : requested t line text reply user stop .answer .number ≡ 0
+  pub marked : a ≡ requested t line text reply user 1 .table
+  pub texts : b ≡ requested t line text reply user (requested t line text reply user stop .answer .stores - 1) .table
+  pub after : u ≡ requested t line text reply user stop .table
 
 -- tables one after the other, each granted on the one before, the first on t; and the last of them
 abbrev pub Steps : List ℕ → List (List ℕ) → Type 0

@@ -7,11 +7,11 @@ use Prim.Native.Nat.{ℕ, _+_}
 use native.Mathlib.Omega.{arith}
 use lib.ListN.{length}
 use Rattle.paper.specs.Line.{Word}
-use Rattle.paper.specs.Request.{Request, del, request, asked}
+use Rattle.paper.specs.Request.{del, request, asked}
 use Rattle.paper.specs.Store.{run}
 use Rattle.paper.specs.Effect.{Plan, Planned, delPlan}
 use Rattle.paper.specs.Answer.{Outcome, ran, oneName, deleting, granted, requested}
-use Rattle.demands.proofs.Request.Course.{Course, untried, tried, course}
+use Rattle.demands.proofs.Request.Course.{Course, untried, tried, course, same-request}
 use Rattle.demands.proofs.Request.Ended.{Passed, ran-by, passes}
 use Rattle.disk.specs.Disk.{Granted, name, Steps, ending}
 
@@ -55,9 +55,6 @@ deleting-steps (w ∷ ws) t u reply k n made = one (λ t₁. deleting-steps ws t
         (λ _ _ _. stays t t refl)
         (λ p v _ d. one-more t (run t (p .stores)) _ (name-granted t u n made w p v) (rest (run t (p .stores)) _ _ _ d))
         (λ _ _ _ d. absurd (d refl))
-
-same-request : {r s : Request} → request r ≡ request s → r ≡ s
-same-request e = cc
 
 -- every DEL whose stop number is not reached
 pub del-steps : (t line text reply : List ℕ) (u k : ℕ) (names : List Word) → asked line text ≡ request (del names)

@@ -13,9 +13,12 @@ use Rattle.paper.specs.Answer.{requested}
 use Rattle.paper.proofs.Cases.{hold}
 use Rattle.disk.specs.Phase.{first, entry, phaseOf, phase}
 
--- `WRS M .R` and `DEL .R`
+-- `WRS M .R`, `WRS* M .R` and `DEL .R`
 abbrev wrs : List ℕ
 wrs = 87 ∷ 82 ∷ 83 ∷ 32 ∷ 77 ∷ 32 ∷ 46 ∷ 82 ∷ []
+
+abbrev rewrite : List ℕ
+rewrite = 87 ∷ 82 ∷ 83 ∷ 42 ∷ 32 ∷ 77 ∷ 32 ∷ 46 ∷ 82 ∷ []
 
 abbrev del : List ℕ
 del = 68 ∷ 69 ∷ 76 ∷ 32 ∷ 46 ∷ 82 ∷ []
@@ -45,3 +48,19 @@ entry-flush = refl
 pub del-flush : torn (after (replicate 96 0) wrs) del 2 entry ≡ true
 unfolding torn
 del-flush = refl
+
+-- a rewrite of the file in the records 0 and 1, cut after its text is cleared; the table after the stop number k, with record i of
+-- another: not to be mended
+unfoldable pub mixed : List ℕ → ℕ → ℕ → (List ℕ → List ℕ) → Bool
+unfolding hold phaseOf phase
+mixed t k i other = not (sound (mended (lay (requested t rewrite (65 ∷ []) [] 1 k .table) i (rec (other t) i))))
+
+-- the mark and the text together: the old text is cleared, and its heading as before
+pub mark-flush : mixed (after (replicate 96 0) wrs) 2 0 (λ t. t) ≡ true
+unfolding mixed
+mark-flush = refl
+
+-- the text and the unmarking together: the heading is unmarked, and the new text is not there yet
+pub unmark-flush : mixed (after (replicate 96 0) wrs) 4 1 (λ t. requested t rewrite (65 ∷ []) [] 1 2 .table) ≡ true
+unfolding mixed
+unmark-flush = refl

@@ -3,9 +3,11 @@
 pub mod OnDisk
 -- DEL of several names, "name by name": `del-steps`
 pub mod ByName
+-- `WRS*` has phases of its own: `rewrite-on-disk`
+pub mod Rewriting
 -- "The same for mending itself: any part of its stores, in any order, mended again, ends as the whole": `mend-any`
 pub mod MendAny
--- fewer flushes fail, computed: `first-flush`, `entry-flush`, `del-flush`
+-- fewer flushes fail, computed: `first-flush`, `entry-flush`, `del-flush`, `mark-flush`, `unmark-flush`
 pub mod Flushes
 -- ---- what they stand on
 -- each record's turn, and its phase

@@ -21,7 +21,7 @@ use Rattle.demands.proofs.SoundKept.Kept.{Keeps, passed-sound, del-keeps}
 use Rattle.demands.proofs.Mending.{mendedWhole, mend-whole}
 use Rattle.demands.proofs.PowerCut.Plans.{Safe, del-safe}
 use Rattle.demands.proofs.PowerCut.Landing.{passed-shaped}
-use Rattle.demands.proofs.Tried.{Tried, lent, by-plan, by-names, ways}
+use Rattle.demands.proofs.Tried.{Tried, lent, by-plan, by-names, by-rewrite, ways}
 use Rattle.disk.specs.Phase.{entry, phase}
 use Rattle.disk.specs.Disk.{Granted, whole, name, InOrder}
 use Rattle.disk_demands.proofs.Turns.{kept, Turns, shaped-turns}
@@ -65,12 +65,13 @@ name-turned t u k n made w c =
 
 pub granted-turned : (t u : List ℕ) → Sound t → Granted t u → Turned t u
 granted-turned t u c (name user stop n made w z e) = rw e (name-turned t user stop n made w c z)
-granted-turned t u c (whole line text reply user stop alone z e) = rw e (go (ways t line text reply user))
+granted-turned t u c (whole line text reply user stop alone whole-file z e) = rw e (go (ways t line text reply user))
   where
     go : Tried t line text reply user → Turned t (requested t line text reply user stop .table)
     go (lent f q) = rw (q stop) (unturned t t c refl)
     go (by-plan x safe keeps q) = rw (q stop) (single-turned t reply stop c x safe keeps (rw (q stop) at z))
     go (by-names names a q) = absurd (alone names a)
+    go (by-rewrite w a b q) = absurd (whole-file w a)
 
 -- "mending x answers 0 and gives t or" u, "byte for byte, and it is" u "once the entry is there"
 pub record Mends (t u x : List ℕ) : Type 0 where

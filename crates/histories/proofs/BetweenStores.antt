@@ -1,5 +1,6 @@
 -- Between two stores: a call with stop number k leaves the table after the first k of one list of stores, so the tables between the
--- stores of a call are those after it is cut. What lays records comes first and what clears them last: no heading is cleared and laid again.
+-- stores of a call are those after it is cut. What lays records comes first and what clears files last; a rewrite clears text alone: no heading is cleared and
+-- laid again.
 use mathlib.Core.Bool.{Bool, true, false, cond}
 use mathlib.Core.List.{List, [], _∷_, _++_, append-nil}
 use mathlib.Core.Logic.{_⊎_, inl, inr, by-cases}
@@ -22,14 +23,14 @@ use Rattle.paper.specs.Mend.{orphan, stray, mendFirst, mendSecond, mendStores, 
 use Rattle.paper.specs.Answer.{Outcome, done, cut, ran, single, oneName, deleting, requested, mending}
 use Rattle.laws.proofs.Tests.{not-both}
 use Rattle.laws.proofs.Lists.{Every, every-take, every-drop, every-append, every-imp, take-past}
-use Rattle.laws.proofs.Lay.{within}
+use Rattle.laws.proofs.Lay.{within, kind-blank}
 use Rattle.laws.proofs.Runs.{run-each, run-append, length-run, rooms-run}
 use Rattle.demands.proofs.Sound.Clauses.{Sound, clauses-sound}
 use Rattle.demands.proofs.SoundKept.Kept.{Keeps, del-keeps}
 use Rattle.demands.proofs.Mending.Wipe.{every-clears}
 use Rattle.demands.proofs.MendAnswered.{MendCame, unsized, unsound, whole, cutOff, mend-came}
 use Rattle.histories.specs.History.{Call, asks, mends, called, cutAt, heads}
-use Rattle.histories.proofs.Calls.Stores.{kind-blank, Puts, Put, Shaped, plain, freeing}
+use Rattle.histories.proofs.Calls.Stores.{Puts, Put, Shaped, plain, freeing}
 use Rattle.histories.proofs.Calls.Shapes.{Shape}
 use Rattle.histories.proofs.Calls.Ways.{Way, lent, by-plan, by-names, ways}
 use Rattle.histories.proofs.Calls.Moved.{put-over}

@@ -1,5 +1,5 @@
 -- "Copies must not drop a level": the one heading that a CPY lays has the level of its source, or a declared one that 25 lets through; a
--- heading that stays keeps its level, since only its code is laid anew. So from copy to copy, over any history, the level never falls.
+-- heading that stays keeps its level, since only its code, mark and length are laid anew. So from copy to copy, over any history, the level never falls.
 use mathlib.Core.Bool.{true, false}
 use mathlib.Core.List.{List, [], _∷_}
 use mathlib.Core.Logic.{_⊎_, inl, inr, _≢_, by-cases}
@@ -26,7 +26,8 @@ use Rattle.paper.specs.Answer.{ran, single, granted, requested}
 use Rattle.laws.proofs.Tests.{not-both, either}
 use Rattle.laws.proofs.Lists.{Every, every-append, every-take, every-each, every-parts, every-both, take-past}
 use Rattle.laws.proofs.Fields.{text-record-kind, entry-record-kind}
-use Rattle.laws.proofs.Lay.{within}
+use Rattle.laws.proofs.Rewritten.{rewritten-byte}
+use Rattle.laws.proofs.Lay.{within, kind-blank}
 use Rattle.laws.proofs.Runs.{Lays, run-each, run-append, length-run, rooms-run}
 use Rattle.demands.proofs.Sound.Clauses.{Sound, sound-clauses}
 use Rattle.demands.proofs.Request.Fair.{verdict-idle}
@@ -35,9 +36,10 @@ use Rattle.demands.proofs.Request.Course.{Admitted, Course, untried, tried, cou
 use Rattle.demands.proofs.Request.Ended.{Passed, ran-by}
 use Rattle.demands.proofs.Request.Steps.{holder-by}
 use Rattle.demands.proofs.Request.Formed.{named-last}
+use Rattle.demands.proofs.SoundKept.Retexted.{mine-not}
 use Rattle.histories.specs.History.{Call, asks, mends, called, cutAt, after, heads}
 use Rattle.histories.specs.Copy.{CopyOf, Copies, Descends}
-use Rattle.histories.proofs.Calls.Stores.{kind-blank, Put, heading, text, entry, cleared, recodes, Shaped, plain, freeing, Kept}
+use Rattle.histories.proofs.Calls.Stores.{Put, heading, text, entry, cleared, recodes, rewrites, retexts, Shaped, plain, freeing, Kept}
 use Rattle.histories.proofs.Calls.Shapes.{Shape, cpy-shape}
 use Rattle.histories.proofs.Calls.Requests.{passed-shaped, freed-clears}
 use Rattle.histories.proofs.Calls.Mendable.{Mendable, mendable-whole, sound-mendable, called-mendable}
@@ -54,6 +56,8 @@ put-level t h r k (entry (inl a) b) = let z : ⊥ = omega arith in absurd z
 put-level t h r k (entry (inr a) b) = let z : ⊥ = omega arith in absurd z
 put-level t h r k (cleared a b) = let z : ⊥ = omega arith in absurd z
 put-level t h r k (recodes code b a w x q) = rw q (getD-set-other (rec t h) 3 2 code 0 (omega arith))
+put-level t h r k (rewrites mark n b a w q) = rw q (rewritten-byte (rec t h) mark n 2 (omega arith, inl (omega arith)))
+put-level t h r k (retexts g a w m n) = absurd (mine-not g (rec t h) 1 m (omega arith) (omega arith) k)
 
 -- after any stores of a call a record is as it was, laid, or cleared
 stored-each : (t : List ℕ) (o : ℕ → List ℕ) → Stored t o → (k i : ℕ) → i < rooms t → Kept t (o k) i ⊎ (rec (o k) i ≡ blank)
@@ -132,7 +136,7 @@ copy-raises t v u old new life lev code d s e =
     let body : List ℕ = fileText t (file t s) in
     let head : List ℕ = headingRecord 1 (orElse lev (level source)) (orElse code 0) (orElse life (lifetime source)) (length body) in
     let m : Making = filing t 2 new q (orElse code 0) head body in
-    placing-raises _ t m (file-raises _ t head body (ltb-false _ _ (verdict-idle _ x .1 .1 .1 .1 .1 .1 .0)))
+    placing-raises _ t m (file-raises _ t head body (ltb-false _ _ (verdict-idle _ x .1 .1 .1 .1 .1 .1 .1 .0)))
     (entry-record-kind (orElse code 0) (q .holder .heading) (room t 0) (q .holder .user) (lastName (chainOf new))) (borne t m)))
 
 -- stores that lay what they should where they may

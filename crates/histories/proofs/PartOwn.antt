@@ -5,6 +5,7 @@ use mathlib.Core.List.{List}
 use mathlib.Core.Logic.{_≢_}
 use mathlib.Core.Path.{_≡_, refl, _∙_}
 use Prim.Native.Nat.{ℕ}
+use native.Mathlib.Omega.{arith}
 use Rattle.paper.specs.Table.{sized}
 use Rattle.paper.specs.Declaration.{Part}
 use Rattle.paper.specs.Line.{Word}
@@ -18,7 +19,7 @@ use Rattle.laws.proofs.Tests.{clash}
 use Rattle.demands.proofs.Sound.Clauses.{Sound, sound-clauses}
 use Rattle.demands.proofs.Request.Walked.{Reached, walk-reached}
 use Rattle.demands.proofs.Parts.{Readable, Granted, bringing, part-read, part-shown}
-use Rattle.histories.proofs.SealStays.Veils.{Veil, named-veil, simple-veil}
+use Rattle.histories.proofs.SealStays.Veils.{Veil, byte-veil, named-veil, simple-veil}
 use Rattle.histories.proofs.SealStays.Walks.{to-directory-veil, to-last-veil, file-text-veil}
 
 module _ (h : ℕ) (t s : List ℕ) (v : Veil h t s) where
@@ -55,6 +56,7 @@ module _ (h : ℕ) (t s : List ℕ) (v : Veil h t s) where
         walk = ended-veil (start u) (chainOf name) ∙ r .walk;
         reads = r .reads;
         simple = rw (named-veil h t s v (r .end .entry), simple-veil h t s v (file t (r .end))) (r .simple);
+        unmarked = rw (named-veil h t s v (r .end .entry), byte-veil h t s v (file t (r .end)) 5 (omega arith)) (r .unmarked);
       }
 
 -- whatever part is asked for, of a file other than h: the text of h is not in it, byte for byte

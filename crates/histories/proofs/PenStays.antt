@@ -1,5 +1,5 @@
--- "The pen stays capped": only DPR lays a heading again, and asks write of the joined code; only a heading that no entry names is cleared,
--- and text goes after its heading alone. So a capped heading that is one after every call is held with its text, call by call.
+-- "The pen stays capped": only DPR and `WRS*` lay a heading again, and ask write of the joined code; only a heading that no entry names is
+-- cleared, and text goes after its heading alone. So a capped heading that is one after every call is held with its text, call by call.
 use mathlib.Core.Bool.{true}
 use mathlib.Core.List.{List, [], _∷_}
 use mathlib.Core.Logic.{_⊎_, inl, inr, _≢_}
@@ -8,28 +8,30 @@ use Prim.Native.Nat.{ℕ, _≤_}
 use native.Mathlib.Omega.{arith}
 use lib.ListN.{length}
 use borrow.Author.Tests.{eqb-true}
-use Rattle.paper.specs.Record.{byte, level, headingCode, textLength, simple, headingOf}
+use Rattle.paper.specs.Record.{byte, level, headingCode, textLength}
 use Rattle.paper.specs.Table.{sized, rec}
 use Rattle.paper.specs.Code.{noWrite}
 use Rattle.paper.specs.Block.{fileText}
 use Rattle.paper.specs.Sound.{sound}
+use Rattle.paper.specs.Mend.{keepsText}
 use Rattle.paper.specs.Answer.{requested, mending}
 use Rattle.laws.proofs.Tests.{and-left, and-right}
 use Rattle.laws.proofs.Lay.{within}
 use Rattle.demands.proofs.Sound.Clauses.{Sound, sound-clauses}
 use Rattle.demands.proofs.SoundKept.Freed.{textOf}
+use Rattle.demands.proofs.Mending.Debris.{sound-keeps}
 use Rattle.histories.specs.History.{Call, asks, mends, called, cutAt, after, heads, remains}
 use Rattle.histories.proofs.Calls.Stores.{less-stays}
-use Rattle.histories.proofs.Calls.Held.{Held, held-refl, held-trans, held-kind, held-simple, held-level, held-code, held-length, held-text}
+use Rattle.histories.proofs.Calls.Held.{Held, held-refl, held-trans, held-kind, held-keeps, held-level, held-code, held-length, held-text}
 use Rattle.histories.proofs.Calls.Moved.{text-of}
 use Rattle.histories.proofs.Calls.Requests.{request-moved}
 use Rattle.histories.proofs.Calls.Mends.{Tidied, mend-tidied}
 use Rattle.histories.proofs.Calls.Mendable.{Mendable, mendable-whole, sound-mendable, Asked, refused, entered, how-asked, called-mendable, after-mendable}
 use Rattle.histories.proofs.BetweenStores.{heads-between}
 
--- only a simple file has text
+-- only a heading that keeps text has any
 abbrev Owned : ℕ → List ℕ → Type 0
-Owned h t = (i : ℕ) → textOf h (rec t i) ≡ true → simple (rec t h) ≡ true
+Owned h t = (i : ℕ) → textOf h (rec t i) ≡ true → keepsText (rec t h) ≡ true
 
 tidied-held : (h : ℕ) (t s : List ℕ) → Mendable t → Tidied t s → Owned h t → byte (rec t h) 0 ≡ 1 → byte (rec s h) 0 ≡ 1 → Held h t s
 tidied-held h t s m d o k z = record { long = d .less .long; front = rw same-h; back = rw same-h; texts = texts }
@@ -66,15 +68,15 @@ pub record Capped (h : ℕ) (t s : List ℕ) : Type 0 where
   pub inhibited : noWrite (headingCode (rec s h)) ≡ true
 
 module _ (h : ℕ) (t : List ℕ) (c : Sound t) (k : heads h t ≡ true) (w : noWrite (headingCode (rec t h)) ≡ true) where
-  -- in a sound table text has a simple file's heading
+  -- in a sound table text has a heading that keeps it
   owns : Owned h t
   owns i x =
       let y = text-of h (rec t i) x in
       let l = within t i (c .whole) (omega (arith, y .0)) in
-      rw (y .1) at (and-left (simple (rec t (headingOf (rec t i)))) _ (c .texts i l (y .0)))
+      rw (y .1) at (sound-keeps t c .texts i l (y .0))
 
   owned : (s : List ℕ) → Held h t s → Owned h s
-  owned s d i x = rw (held-simple h t s d) (owns i (rw (d .texts i (inr x)) at x))
+  owned s d i x = rw (held-keeps h t s d) (owns i (rw (d .texts i (inr x)) at x))
 
   -- from any table of the history on
   held-on : (cs : List Call) (s : List ℕ) → Mendable s → Held h t s → remains h s cs ≡ true → Held h t (after s cs)

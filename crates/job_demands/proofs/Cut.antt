@@ -13,7 +13,7 @@ use Rattle.paper.specs.Table.{sized}
 use Rattle.paper.specs.Name.{linkName}
 use Rattle.paper.specs.Line.{Word}
 use Rattle.paper.specs.Check.{Verdict, passed, refused}
-use Rattle.paper.specs.Request.{del, request, asked}
+use Rattle.paper.specs.Request.{del, rewrite, request, asked}
 use Rattle.paper.specs.Sound.{sound}
 use Rattle.paper.specs.Mend.{mendStores, mended}
 use Rattle.paper.specs.Answer.{Outcome, requested, mending}
@@ -30,7 +30,7 @@ use Rattle.demands.proofs.Answered.{refusal-lends}
 use Rattle.demands.proofs.Sound.Clauses.{sound-clauses}
 use Rattle.demands.proofs.Mending.Debris.{mended-sound}
 use Rattle.demands.proofs.Mending.{mendedWhole, mend-whole}
-use Rattle.demands.proofs.PowerCut.{Lands, before, after, first, demand-three}
+use Rattle.demands.proofs.PowerCut.{Lands, before, after, first, marked, demand-three}
 use Rattle.demands.proofs.SoundKept.{sound-kept}
 use Rattle.job_demands.proofs.Still.{still}
 use Rattle.job_demands.proofs.Lines.{wrs-names}
@@ -61,6 +61,13 @@ wrs-no-del chain x l ws q =
     let z : _≡_ {A = ℕ} 0 1 = cc (w .1) in
     omega arith
 
+-- .. and no rewrite's
+wrs-no-rewrite : (chain : List ℕ) (x : Sheet) → linkName (x .link) ≡ true → (w : Word) → asked (wrsLine chain (x .link)) (x .text) ≡ request (rewrite w) → ⊥
+wrs-no-rewrite chain x l v q =
+    let w = wrs-names chain (x .link) (x .text) (rewrite v) l q in
+    let z : _≡_ {A = ℕ} 0 1 = cc (w .1) in
+    omega arith
+
 module _ (chain : List ℕ) (u : ℕ) where
   -- a sound table as it is
   first-none : (t : List ℕ) (xs : List Sheet) → sized t ≡ true → sound t ≡ true → FirstFiled chain u t xs t
@@ -85,6 +92,7 @@ module _ (chain : List ℕ) (u : ℕ) where
       go a (after d) =
           record { sheets = 1; most = omega arith; mended = rw (d .table) (more (d .stop) (d .number) none); answers = a }
       go a (first ws n q m d) = absurd (wrs-no-del chain x l ws q)
+      go a (marked h) = absurd (wrs-no-rewrite chain x l (h .name) (h .asked))
 
   -- one sheet filed, and then the first n of the others
   first-more : (t : List ℕ) (k : ℕ) (x : Sheet) (xs : List Sheet) (z : List ℕ) → filed t chain u k x .answer .number ≡ 0

@@ -1,6 +1,6 @@
 -- A sheet filed changes free records, the one entry of its name, and the file that this displaced, if no entry names it now.
 -- So every other entry, the heading it names and that heading's text stay; names stand once, so each is found where it was.
-use mathlib.Core.Bool.{true}
+use mathlib.Core.Bool.{true, false}
 use mathlib.Core.List.{List}
 use mathlib.Core.Logic.{_⊎_, inl, inr, _≢_}
 use mathlib.Core.Path.{_≡_, sym, ap, _∙_}
@@ -8,7 +8,7 @@ use Prim.Native.Nat.{ℕ, _<_}
 use native.Mathlib.Omega.{arith}
 use lib.ListN.{length}
 use Rattle.paper.specs.Scan.{at}
-use Rattle.paper.specs.Record.{byte, simple, headingNamed, headingOf, nameOf, held}
+use Rattle.paper.specs.Record.{byte, marked, simple, headingNamed, headingOf, nameOf, held}
 use Rattle.paper.specs.Table.{rooms, rec, textRoom}
 use Rattle.paper.specs.Entry.{Holder, bears, find}
 use Rattle.paper.specs.Block.{blocksOf, fileText}
@@ -35,14 +35,16 @@ pub record Filed (t f : List ℕ) (d : Holder) (n text : List ℕ) : Type 0 wher
   pub bears : bears d n (rec f entry) ≡ true
   pub code : applies f entry ≡ 0
   pub simple : simple (rec f (headingNamed (rec f entry))) ≡ true
+  pub unmarked : marked (rec f (headingNamed (rec f entry))) ≡ false
   pub reads : fileText f (headingNamed (rec f entry)) ≡ text
 
--- under the name n in d stands a simple file with this text, which nothing inhibits
+-- under the name n in d stands a simple file with this text, which nothing inhibits and no mark is on
 pub record Stood (t : List ℕ) (d : Holder) (n text : List ℕ) : Type 0 where
   pub entry : ℕ
   pub found : find t d n ≡ at entry
   pub code : applies t entry ≡ 0
   pub simple : simple (rec t (headingNamed (rec t entry))) ≡ true
+  pub unmarked : marked (rec t (headingNamed (rec t entry))) ≡ false
   pub reads : fileText t (headingNamed (rec t entry)) ≡ text
 
 -- no name stands twice in one place, so an entry that bears it is the one found
@@ -60,7 +62,7 @@ module _ (t f : List ℕ) (d : Holder) (n text : List ℕ) (c : Sound t) (s : So
   found-new = found-by 65535 f d n (x .entry) s (rw (x .long) (x .inside)) (x .bears)
 
   pub stood : Stood f d n text
-  stood = record { entry = x .entry; found = found-new; code = x .code; simple = x .simple; reads = x .reads }
+  stood = record { entry = x .entry; found = found-new; code = x .code; simple = x .simple; unmarked = x .unmarked; reads = x .reads }
 
   -- an entry found under another name, or elsewhere, is another
   pub other-entry : (h : Holder) (m : List ℕ) (e : ℕ) → find t h m ≡ at e → e ≢ x .entry → find f h m ≡ at e
@@ -110,6 +112,7 @@ module _ (t f : List ℕ) (d : Holder) (n text : List ℕ) (c : Sound t) (s : So
         found = other-entry d m (z .entry) (z .found) apart;
         code = same-code (z .entry) (g .0) k apart ∙ z .code;
         simple = rw (x .entries (z .entry) k apart, same-heading (z .entry) (g .0) k apart) (z .simple);
+        unmarked = rw (x .entries (z .entry) k apart, same-heading (z .entry) (g .0) k apart) (z .unmarked);
         reads =
             rw (x .entries (z .entry) k apart)
             (same-text (headingNamed (rec t (z .entry))) (c .targets (z .entry) (g .0) k) (same-heading (z .entry) (g .0) k apart) ∙ z .reads);

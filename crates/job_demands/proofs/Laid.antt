@@ -4,15 +4,12 @@ use mathlib.Core.Bool.{true, false}
 use mathlib.Core.List.{List}
 use mathlib.Core.Logic.{_⊎_, inl, inr, _≢_, by-cases}
 use mathlib.Core.Path.{_≡_, refl, sym, ap, _∙_}
-use Prim.Native.Nat.{ℕ, zero, suc, _+_, _*_, _^_, _≤_, _<_}
+use Prim.Native.Nat.{ℕ, _+_, _^_, _≤_, _<_}
 use native.Mathlib.Omega.{arith}
-use native.Mathlib.Nat.{suc-mul}
 use native.Mathlib.Decide.{ℕ-discrete}
-use lib.ListN.{length, take}
-use lib.Seq.{take-all, take-add}
+use lib.ListN.{length}
 use lib.Dec.{eqb}
 use borrow.Author.Tests.{eq-eqb, ne-eqb}
-use Rattle.paper.specs.Scan.{joinBelow}
 use Rattle.paper.specs.Record.{byte, isKind, headingType, entryCode, headingNamed, headingOf, nameOf, held, blank, headingRecord}
 use Rattle.paper.specs.Table.{rooms, rec, lay, room, textRoom}
 use Rattle.paper.specs.Entry.{Holder, holder, bears}
@@ -20,7 +17,8 @@ use Rattle.paper.specs.Block.{blocks, block, blocksOf, fileText}
 use Rattle.paper.specs.Walk.{applies}
 use Rattle.laws.proofs.Tests.{and-no-left, and-no-right, or-none}
 use Rattle.laws.proofs.Lists.{join-cong}
-use Rattle.laws.proofs.Fields.{heading-type, heading-code, text-heading, text-position, text-held}
+use Rattle.laws.proofs.Fields.{heading-type, heading-code, heading-mark, text-heading, text-position, text-held}
+use Rattle.laws.proofs.Blocks.{join-blocks}
 use Rattle.laws.proofs.Entries.{bears-by, bears-stands, typed-by, text-by}
 use Rattle.laws.proofs.Lay.{lay-same, lay-other, length-lay, rooms-lay, within, kinds-apart}
 use Rattle.demands.proofs.Sound.Clauses.{Sound}
@@ -30,17 +28,6 @@ use Rattle.demands.proofs.SoundKept.FiledSound.{NewFile}
 use Rattle.demands.proofs.SoundKept.Cleared.{Cleared}
 use Rattle.demands.proofs.SoundKept.Freed.{room-only, textOf, fileOf}
 use Rattle.job_demands.proofs.Kept.{Filed}
-
--- the blocks of a text, joined, are the text
-join-take : (text : List ℕ) (n : ℕ) → joinBelow (block text) n ≡ take (n * 24) text
-unfolding joinBelow block
-join-take text zero = refl
-join-take text (suc n) =
-    let e : suc n * 24 ≡ n * 24 + 24 = suc-mul n 24 in
-    rw (e, take-add (n * 24) 24 text, join-take text n)
-
-pub join-blocks : (text : List ℕ) → joinBelow (block text) (blocks (length text)) ≡ text
-join-blocks text = join-take text (blocks (length text)) ∙ take-all (blocks (length text) * 24) text (omega arith)
 
 -- nothing more is cleared, or heading h of t and its text are
 abbrev pub Tidied : List ℕ → ℕ → List ℕ → List ℕ → Type 0
@@ -221,5 +208,6 @@ module _ (t text : List ℕ) (d : Holder) (n r : List ℕ) (e h : ℕ) (f : List
             (sym (y .name)));
         code = rw (entry-there, y .names, new-heading, y .code, heading-code 1 0 0 1 (length text));
         simple = rw (entry-there, y .names, new-heading) (typed-by 1 (sheetHeading text) (y .new .laid .kind) (heading-type 1 0 0 1 (length text)));
+        unmarked = rw (entry-there, y .names, new-heading, heading-mark 1 0 0 1 (length text));
         reads = rw (entry-there, y .names) reads;
       }

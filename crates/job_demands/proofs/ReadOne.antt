@@ -44,6 +44,7 @@ module _ (t reply : List ℕ) (u k : ℕ) (w : Word) (pre : List (List ℕ)) (n 
         s .found,
         s .code,
         s .simple,
+        s .unmarked,
         s .reads,
         part-whole text,
         le-ltb (length reply) (length text) l,

@@ -15,7 +15,7 @@ use Rattle.judge_laws.specs.Shapes.{plainTest, headingRight, baseRight, 
 use Rattle.paper.specs.Name.{linkName, legalBase}
 use Rattle.paper.specs.Number.{numberAt}
 use Rattle.paper.specs.Record.{byte, isKind, headingType, level, headingCode, lifetime, textLength, directory, entryCode, holderOf, headingNamed, userOf, nameLength, nameOf, bytesHeld, zeros}
-use Rattle.paper.specs.Sound.{implies, textAsAbove, isBase}
+use Rattle.paper.specs.Sound.{implies, markRight, textAsAbove, isBase}
 use Rattle.paper.specs.Table.{rec}
 use Rattle.laws.proofs.Numbers.{number-zeros}
 use Rattle.laws.proofs.Scans.{all-true}
@@ -74,7 +74,8 @@ pub record Heading (r : List ℕ) : Type 0 where
   pub code : headingCode r ≤ 7
   pub some : 1 ≤ lifetime r
   pub most : lifetime r ≤ 2
-  pub gap : zeros 5 5 r ≡ true
+  pub mark : markRight r ≡ true
+  pub gap : zeros 6 4 r ≡ true
   pub rest : zeros 12 20 r ≡ true
   pub plain : headingType r ≡ 0 → (lifetime r ≡ 1) × (textLength r ≡ 0)
 
@@ -87,16 +88,17 @@ pub heading-view : (r : List ℕ) → headingRight r ≡ true → Heading r
 unfolding headingRight joined
 heading-view r e =
     let a = leb (headingType r) 1 in
-    let s = leb (level r) 3 ∷ leb (headingCode r) 7 ∷ leb 1 (lifetime r) ∷ leb (lifetime r) 2 ∷ zeros 5 5 r ∷ zeros 12 20 r ∷ plainTest r ∷ [] in
+    let s = leb (level r) 3 ∷ leb (headingCode r) 7 ∷ leb 1 (lifetime r) ∷ leb (lifetime r) 2 ∷ markRight r ∷ zeros 6 4 r ∷ zeros 12 20 r ∷ plainTest r ∷ [] in
     record {
       type = leb-true _ _ (joined-first a s e);
       grade = leb-true _ _ (joined-part a s 0 e);
       code = leb-true _ _ (joined-part a s 1 e);
       some = leb-true _ _ (joined-part a s 2 e);
       most = leb-true _ _ (joined-part a s 3 e);
-      gap = joined-part a s 4 e;
-      rest = joined-part a s 5 e;
-      plain = plain-use r (joined-part a s 6 e);
+      mark = joined-part a s 4 e;
+      gap = joined-part a s 5 e;
+      rest = joined-part a s 6 e;
+      plain = plain-use r (joined-part a s 7 e);
     }
 
 -- a text record, part by part
@@ -179,11 +181,11 @@ base-place t r p u n = go (truth (isBase r))
 pub heading-not : (r : List ℕ) → (Heading r → ⊥) → headingRight r ≡ false
 heading-not r n = false-by (headingRight r) (λ e. n (heading-view r e))
 
-pub heading-left : (r : List ℕ) → headingType r ≤ 1 → level r ≤ 3 → headingCode r ≤ 7 → 1 ≤ lifetime r → lifetime r ≤ 2 → zeros 5 5 r ≡ true
-    → zeros 12 20 r ≡ true → headingRight r ≡ plainTest r
+pub heading-left : (r : List ℕ) → headingType r ≤ 1 → level r ≤ 3 → headingCode r ≤ 7 → 1 ≤ lifetime r → lifetime r ≤ 2 → markRight r ≡ true
+    → zeros 6 4 r ≡ true → zeros 12 20 r ≡ true → headingRight r ≡ plainTest r
 unfolding headingRight
-heading-left r a b d e f g h =
-    rw (le-leb (headingType r) 1 a, le-leb (level r) 3 b, le-leb (headingCode r) 7 d, le-leb 1 (lifetime r) e, le-leb (lifetime r) 2 f, g, h)
+heading-left r a b d e f m g h =
+    rw (m, le-leb (headingType r) 1 a, le-leb (level r) 3 b, le-leb (headingCode r) 7 d, le-leb 1 (lifetime r) e, le-leb (lifetime r) 2 f, g, h)
 
 pub text-not : (r : List ℕ) → (Texted r → ⊥) → textAsAbove 0 r ≡ false
 text-not r n = false-by (textAsAbove 0 r) (λ e. n (text-view r e))

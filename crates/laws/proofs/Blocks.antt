@@ -3,12 +3,15 @@
 use mathlib.Core.Bool.{true, false, cond}
 use mathlib.Core.List.{List}
 use mathlib.Core.Logic.{_⊎_, inl, inr}
-use mathlib.Core.Path.{_≡_}
-use Prim.Native.Nat.{ℕ, _+_, _-_, _*_, _≤_, _<_, min}
+use mathlib.Core.Path.{_≡_, refl, _∙_}
+use Prim.Native.Nat.{ℕ, zero, suc, _+_, _-_, _*_, _≤_, _<_, min}
 use native.Mathlib.Omega.{arith}
-use lib.ListN.{length, length-take, length-drop}
+use native.Mathlib.Nat.{suc-mul}
+use lib.ListN.{length, take, length-take, length-drop}
+use lib.Seq.{take-all, take-add}
 use lib.Dec.{ltb}
 use borrow.Author.Tests.{ltb-true, ltb-false}
+use Rattle.paper.specs.Scan.{joinBelow}
 use Rattle.paper.specs.Record.{held}
 use Rattle.paper.specs.Table.{rec, textRoom}
 use Rattle.paper.specs.Block.{blocks, share, block, blocksOf, fileText}
@@ -51,3 +54,14 @@ held-most t i = rw (length-take, length-drop, length-take) (omega arith)
 pub file-most : (t : List ℕ) (h : ℕ) → length (fileText t h) ≤ blocksOf t h * 24
 unfolding fileText
 file-most t h = join-most _ (blocksOf t h) 24 (λ p. held-most t (textRoom t h p))
+
+-- the blocks of a text, joined, are the text
+join-take : (text : List ℕ) (n : ℕ) → joinBelow (block text) n ≡ take (n * 24) text
+unfolding joinBelow block
+join-take text zero = refl
+join-take text (suc n) =
+    let e : suc n * 24 ≡ n * 24 + 24 = suc-mul n 24 in
+    rw (e, take-add (n * 24) 24 text, join-take text n)
+
+pub join-blocks : (text : List ℕ) → joinBelow (block text) (blocks (length text)) ≡ text
+join-blocks text = join-take text (blocks (length text)) ∙ take-all (blocks (length text) * 24) text (omega arith)

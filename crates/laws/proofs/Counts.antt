@@ -1,6 +1,6 @@
 -- Laws of counting, by induction on the bound: one more number adds one where it passes and else nothing.
 -- Two tests that differ at one number differ by one in their counts.
-use mathlib.Core.Bool.{Bool, true, false, cond}
+use mathlib.Core.Bool.{Bool, true, false, _||_, cond}
 use mathlib.Core.Logic.{_≢_, by-cases}
 use mathlib.Core.Path.{_≡_, refl, sym, ap, _∙_}
 use Prim.Native.Nat.{ℕ, zero, suc, _+_, _≤_, _<_}
@@ -11,7 +11,7 @@ use lib.Dec.{eqb}
 use borrow.Author.Tests.{eqb-true, eq-eqb, ne-eqb}
 use Rattle.paper.specs.Scan.{anyBelow, countBelow}
 use Rattle.laws.proofs.Tests.{true-by}
-use Rattle.laws.proofs.Scans.{any-false}
+use Rattle.laws.proofs.Scans.{any-false, any-none}
 
 pub count-cong : (p q : ℕ → Bool) (n : ℕ) → ((i : ℕ) → i < n → p i ≡ q i) → countBelow p n ≡ countBelow q n
 unfolding countBelow
@@ -102,3 +102,28 @@ once-only p n i j e l m x y =
     let b : 1 ≤ countBelow others n = count-least others n j m (rw (ne-eqb j i (λ z. q (sym z))) y) in
     let z : ⊥ = omega arith in
     absurd z)
+
+-- two tests that never both pass: the counts add up
+pub count-either : (p q : ℕ → Bool) (n : ℕ) → ((i : ℕ) → i < n → p i ≡ true → q i ≡ false)
+    → countBelow (λ i. p i || q i) n ≡ countBelow p n + countBelow q n
+unfolding countBelow
+count-either p q zero h = refl
+count-either p q (suc n) h = go (p n) refl (q n) refl (count-either p q n (λ i l. h i (omega arith)))
+  where
+    go : (a : Bool) → p n ≡ a → (b : Bool) → q n ≡ b → countBelow (λ i. p i || q i) n ≡ countBelow p n + countBelow q n
+        → cond (a || b) (countBelow (λ i. p i || q i) n + 1) (countBelow (λ i. p i || q i) n)
+        ≡ cond a (countBelow p n + 1) (countBelow p n) + cond b (countBelow q n + 1) (countBelow q n)
+    go true e b f r = rw (sym f ∙ h n (omega arith) e) (omega arith)
+    go false e true f r = omega arith
+    go false e false f r = r
+
+-- n places that differ are n
+pub count-places : (f : ℕ → ℕ) (n m : ℕ) → ((p : ℕ) → p < n → f p < m) → ((p q : ℕ) → p < n → q < n → f p ≡ f q → p ≡ q)
+    → countBelow (λ i. anyBelow (λ p. eqb i (f p)) n) m ≡ n
+unfolding anyBelow
+count-places f zero m w d = count-none _ m (λ i l. refl)
+count-places f (suc n) m w d =
+    count-more-at (λ i. anyBelow (λ p. eqb i (f p)) n) (λ i. anyBelow (λ p. eqb i (f p)) (suc n)) m (f n) (w n (omega arith))
+    (any-none _ n (λ p l. ne-eqb _ _ (λ q. let z : n ≡ p = d n p (omega arith) (omega arith) q in omega arith))) (rw (eq-eqb (f n) (f n) refl))
+    (λ i l q. rw (ne-eqb i (f n) q))
+    ∙ rw (count-places f n m (λ p l. w p (omega arith)) (λ p q a b. d p q (omega arith) (omega arith))) (add-one n)

@@ -13,7 +13,7 @@ use lib.Dec.{eqb}
 use borrow.Author.Tests.{eq-eqb}
 use Rattle.paper.specs.Number.{numberAt, bytesOf}
 use Rattle.paper.specs.Scan.{allBelow}
-use Rattle.paper.specs.Record.{byte, headingType, headingCode, textLength, entryCode, holderOf, headingNamed, userOf, nameLength, nameOf, bytesHeld, headingOf, position, held, zeros, padded, headingRecord, nameField, entryRecord, textRecord}
+use Rattle.paper.specs.Record.{byte, headingType, headingCode, mark, textLength, entryCode, holderOf, headingNamed, userOf, nameLength, nameOf, bytesHeld, headingOf, position, held, zeros, padded, headingRecord, nameField, entryRecord, textRecord}
 use Rattle.laws.proofs.Numbers.{number-drop, number-bytes}
 use Rattle.laws.proofs.Scans.{all-here}
 
@@ -35,7 +35,7 @@ pub length-padded : (n : ℕ) (s : List ℕ) → length s ≤ n → length (padd
 length-padded n s l = rw (length-append, length-replicate) (omega arith)
 
 -- the number in w bytes at place j of r, where r has from j on those of n
-number-field : (w n j : ℕ) (r rest : List ℕ) → n < 256 ^ w → drop j r ≡ bytesOf w n ++ rest → numberAt w r j ≡ n
+pub number-field : (w n j : ℕ) (r rest : List ℕ) → n < 256 ^ w → drop j r ≡ bytesOf w n ++ rest → numberAt w r j ≡ n
 number-field w n j r rest l e =
     let p : j + 0 ≡ j = omega arith in
     let q : numberAt w r j ≡ numberAt w (drop j r) 0 = ap (numberAt w r) (sym p) ∙ sym (number-drop w r j 0) in
@@ -59,6 +59,10 @@ module _ (type lev code life n : ℕ) where
   pub heading-code : headingCode (headingRecord type lev code life n) ≡ code
   unfolding headingRecord
   heading-code = refl
+
+  pub heading-mark : mark (headingRecord type lev code life n) ≡ 0
+  unfolding headingRecord
+  heading-mark = refl
 
   pub heading-length : n < 256 ^ 2 → textLength (headingRecord type lev code life n) ≡ n
   unfolding headingRecord bytesOf

@@ -11,6 +11,7 @@ pub mod Entries
 pub mod Blocks
 -- a table: one store, a list of stores, its free records
 pub mod Lay
+pub mod Rewritten
 pub mod Runs
 pub mod Rooms
 -- soundness taken apart, and the order of a listing

@@ -7,10 +7,10 @@ use lib.ListN.{length, take, drop}
 use Rattle.paper.specs.Table.{sized}
 use Rattle.paper.specs.Line.{Word}
 use Rattle.paper.specs.Check.{Place, whole, Refusal, check, Verdict, passed, refused, verdict}
-use Rattle.paper.specs.Request.{Request, crd, wrs, rds, cpy, dup, chn, del, dpr, lst, lstBase, lstTree, lstBaseTree, Read, request, unread, asked}
+use Rattle.paper.specs.Request.{Request, crd, wrs, rds, cpy, dup, chn, del, dpr, lst, lstBase, lstTree, lstBaseTree, rewrite, Read, request, unread, asked}
 use Rattle.paper.specs.Sound.{sound}
 use Rattle.paper.specs.Store.{Store, run}
-use Rattle.paper.specs.Effect.{Plan, Planned, plan, halted, crdPlan, wrsPlan, rdsPlan, cpyPlan, dupPlan, chnPlan, delPlan, dprPlan, lstPlan, lstBasePlan, lstTreePlan, lstBaseTreePlan, listOf, begun}
+use Rattle.paper.specs.Effect.{Plan, Planned, plan, halted, crdPlan, wrsPlan, rdsPlan, cpyPlan, dupPlan, chnPlan, delPlan, dprPlan, lstPlan, lstBasePlan, lstTreePlan, lstBaseTreePlan, rewritePlan, listOf, begun}
 use Rattle.paper.specs.Mend.{mendStores, mended}
 
 -- "An answer has: number; place ..; names done; displaced or not; bytes written; stores made." The place is two numbers
@@ -105,6 +105,7 @@ granted t text reply u k lstBase = single t reply k (ran k (lstBasePlan t u repl
 granted t text reply u k (lstTree from name depth) =
     single t reply k (ran k (lstTreePlan t (listOf u from) reply (begun from name) depth))
 granted t text reply u k (lstBaseTree depth) = single t reply k (ran k (lstBaseTreePlan t u reply depth))
+granted t text reply u k (rewrite name) = single t reply k (ran k (rewritePlan t u text name))
 
 -- numbers 1, 2 and 3: "table length no multiple of 32, or above 65,536", "table not sound", "user above 999,999"
 unfoldable pub entrance : List ℕ → ℕ → Verdict

@@ -176,6 +176,38 @@ lineF = 70 ∷ 77 ∷ 46 ∷ 80 ∷ 49 ∷ 32 ∷ 32 ∷ 32 ∷ 32 ∷ 70 ∷ 13
 abbrev pub loop : List ℕ
 loop = headingR ++ entryR ++ within 0 68 0 0
 
+-- `WRS* `, a declaration and ` .R`; `CPY .R .G`; `DPR .R .1`
+abbrev pub wrsStar : List ℕ → List ℕ
+wrsStar decl = 87 ∷ 82 ∷ 83 ∷ 42 ∷ 32 ∷ decl ++ 32 ∷ dotR
+
+abbrev pub cpyToG : List ℕ
+cpyToG = 67 ∷ 80 ∷ 89 ∷ 32 ∷ dotR ++ 32 ∷ 46 ∷ 71 ∷ []
+
+abbrev pub dprR : List ℕ
+dprR = 68 ∷ 80 ∷ 82 ∷ 32 ∷ dotR ++ 32 ∷ 46 ∷ 49 ∷ []
+
+-- a simple file's heading of this code, lifetime, mark and length; its text at this position: a letter, n times
+abbrev pub limits : (code lifetime mark n : ℕ) → List ℕ
+limits code lifetime mark n = 1 ∷ 1 ∷ 0 ∷ code ∷ lifetime ∷ mark ∷ 0 ∷ 0 ∷ 0 ∷ 0 ∷ n ∷ replicate 21 0
+
+abbrev pub written : (position letter n : ℕ) → List ℕ
+written position letter n = 3 ∷ n ∷ 0 ∷ 0 ∷ position ∷ 0 ∷ 0 ∷ 0 ∷ replicate n letter ++ replicate (24 - n) 0
+
+-- the file `.R` of user 1, its text `A`, and a free record; the same with 25 times `B`; marked, and what is left of its text
+abbrev pub oldLimits : List ℕ
+oldLimits = limits 0 1 0 1 ++ entryR ++ written 0 65 1 ++ blank
+
+abbrev pub newLimits : List ℕ
+newLimits = limits 0 1 0 25 ++ entryR ++ written 0 66 24 ++ written 1 66 1
+
+abbrev pub half : List ℕ → List ℕ → List ℕ
+half one other = limits 0 1 1 0 ++ entryR ++ one ++ other
+
+-- `WRS* M .R` with 25 times `B`, on a table, with this stop number: the number, the names done, the stores, and the table after
+abbrev pub rewrites : (table : List ℕ) (stop number names stores : ℕ) → List ℕ → Case
+rewrites table stop number names stores after =
+    asks table (wrsStar (77 ∷ [])) (replicate 25 66) [] 1 stop (answer number 0 0 names 0 0 stores) after []
+
 unfoldable pub cases : List Case
 cases =
     -- "code 1 joined with 4 is 5; 2 with 6 is 6"
@@ -289,4 +321,43 @@ cases =
     ∷ asks [] (lstStar dotR 48) [] [] 1 9 (answer 9 2 0 0 0 0 0) [] []
     ∷ asks [] (lstStar dotR 57) [] [] 1 9 (answer 9 2 0 0 0 0 0) [] []
     ∷ asks [] (lstStar (46 ∷ 49 ∷ []) 57) [] [] 1 9 (answer 8 1 1 0 0 0 0) [] []
+    -- "`WRS*` decl name, with a text, rewrites an existing simple file of lifetime M": 2 stores, 1 for the old text and 2 for the new,
+    -- "new text into the lowest records then free", which are the old text's and the one after it
+    ∷ rewrites oldLimits 5 0 1 5 newLimits
+    -- "19 by the room above": 49 bytes take three records, and so where the file is long
+    ∷ asks oldLimits (wrsStar (77 ∷ [])) (replicate 49 66) [] 1 9 (answer 19 0 0 0 0 0 0) oldLimits []
+    ∷ asks (limits 0 2 0 0 ++ entryR) (wrsStar (77 ∷ [])) (66 ∷ []) [] 1 9 (answer 19 0 0 0 0 0 0) (limits 0 2 0 0 ++ entryR) []
+    -- store by store: "the heading marked (byte 5 is 1) with length 0, old text cleared by position, new text .., heading unmarked"
+    ∷ rewrites oldLimits 1 22 0 1 (half (written 0 65 1) blank)
+    ∷ rewrites oldLimits 2 22 0 2 (half blank blank)
+    ∷ rewrites oldLimits 3 22 0 3 (half (written 0 66 24) blank)
+    ∷ rewrites oldLimits 4 22 0 4 (half (written 0 66 24) (written 1 66 1))
+    -- "Mending a marked file clears its text and leaves the mark"
+    ∷ mends (half (written 0 65 1) blank) 9 (answer 0 0 0 0 0 0 1) (half blank blank)
+    ∷ mends (half blank blank) 9 (answer 0 0 0 0 0 0 0) (half blank blank)
+    ∷ mends (half (written 0 66 24) (written 1 66 1)) 9 (answer 0 0 0 0 0 0 2) (half blank blank)
+    -- "RDS and CPY refuse it, and a second rewrite repairs it"; "23 .. after 21": 19 before it
+    ∷ asks (half blank blank) (rds dotR) [] [] 1 9 (answer 23 1 1 0 0 0 0) (half blank blank) []
+    ∷ asks (half blank blank) cpyToG [] [] 1 9 (answer 23 1 1 0 0 0 0) (half blank blank) []
+    ∷ asks (limits 0 1 1 0 ++ entryR) cpyToG [] [] 1 9 (answer 19 0 0 0 0 0 0) (limits 0 1 1 0 ++ entryR) []
+    ∷ rewrites (half blank blank) 4 0 1 4 newLimits
+    -- 0 bytes onto 0
+    ∷ asks (limits 0 1 0 0 ++ entryR) (wrsStar (77 ∷ 46 ∷ [])) [] [] 1 9 (answer 0 0 0 1 0 0 2) (limits 0 1 0 0 ++ entryR) []
+    -- "same heading": another store of it keeps the mark
+    ∷ asks (half blank blank) dprR [] [] 1 9 (answer 0 0 0 1 0 0 1) (limits 1 1 1 0 ++ entryR ++ pair) []
+    -- "It needs write on the file", "15 for a directory", "24 lifetime L"; "the declaration may be only M": `L`, `M.0`, `-`
+    ∷ asks (limits 1 1 0 0 ++ entryR) (wrsStar (77 ∷ [])) [] [] 1 9 (answer 14 2 1 0 0 0 0) (limits 1 1 0 0 ++ entryR) []
+    ∷ asks (headingR ++ entryR) (wrsStar (77 ∷ [])) [] [] 1 9 (answer 15 2 1 0 0 0 0) (headingR ++ entryR) []
+    ∷ asks (limits 0 2 0 0 ++ entryR) (wrsStar (77 ∷ [])) [] [] 1 9 (answer 24 2 1 0 0 0 0) (limits 0 2 0 0 ++ entryR) []
+    ∷ asks [] (wrsStar (76 ∷ [])) [] [] 1 9 (answer 9 1 0 0 0 0 0) [] []
+    ∷ asks [] (wrsStar (77 ∷ 46 ∷ 48 ∷ [])) [] [] 1 9 (answer 9 1 0 0 0 0 0) [] []
+    ∷ asks [] (wrsStar (45 ∷ [])) [] [] 1 9 (answer 9 1 0 0 0 0 0) [] []
+    -- "11 for a name not there"; a text of 24,001 bytes
+    ∷ asks [] (wrsStar (77 ∷ [])) (replicate 24000 66) [] 1 9 (answer 11 2 1 0 0 0 0) [] []
+    ∷ asks [] (wrsStar (77 ∷ [])) (replicate 24001 66) [] 1 9 (answer 10 0 0 0 0 0 0) [] []
+    -- "A marked file, simple, M, length 0, is sound": not a long one, not a directory
+    ∷ asks (limits 0 2 1 0 ++ entryR) delR [] [] 1 9 (answer 2 0 0 0 0 0 0) (limits 0 2 1 0 ++ entryR) []
+    ∷ asks (1 ∷ 0 ∷ drop 2 (limits 0 1 1 0) ++ entryR) delR [] [] 1 9 (answer 2 0 0 0 0 0 0) (1 ∷ 0 ∷ drop 2 (limits 0 1 1 0) ++ entryR) []
+    ∷ asks (limits 0 1 2 0 ++ entryR) delR [] [] 1 9 (answer 2 0 0 0 0 0 0) (limits 0 1 2 0 ++ entryR) []
+    ∷ asks (limits 0 1 1 0 ++ entryR) delR [] [] 1 9 (answer 0 0 0 1 0 0 2) pair []
     ∷ []

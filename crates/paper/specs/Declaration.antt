@@ -125,6 +125,14 @@ fitWrs p = not (isGiven (p .type)) && mediumOrLong (p .lifetime)
 abbrev pub wrsLifetime : Declared → Part
 wrsLifetime = taking fitWrs (λ p. p .lifetime)
 
+-- document 02: `WRS*`, "so the declaration may be only M"
+abbrev pub medium : Part → Bool
+medium (given n) = eqb n 1
+medium notGiven = false
+
+abbrev pub fitRewrite : Parts → Bool
+fitRewrite p = not (isGiven (p .type)) && (medium (p .lifetime) && (not (isGiven (p .level)) && not (isGiven (p .code))))
+
 -- "CPY may have M or L"
 abbrev pub fitCpy : Parts → Bool
 fitCpy p = not (isGiven (p .type)) && (not (isGiven (p .lifetime)) || mediumOrLong (p .lifetime))

@@ -2,10 +2,10 @@
 use mathlib.Core.Bool.{Bool, true, false, _&&_, not, cond}
 use mathlib.Core.List.{List, [], _∷_, _++_}
 use Prim.Native.Nat.{ℕ, _+_}
-use lib.Dec.{ltb}
+use lib.Dec.{eqb, ltb}
 use lib.ListN.{length, take, drop, set}
 use Rattle.paper.specs.Scan.{Found, at, nowhere, eachBelow}
-use Rattle.paper.specs.Record.{level, headingCode, lifetime, entryCode, headingNamed, directory, simple, blank, headingRecord, nameField, entryRecord, textRecord}
+use Rattle.paper.specs.Record.{level, headingCode, lifetime, marked, entryCode, headingNamed, directory, simple, blank, headingRecord, rewritten, nameField, entryRecord, textRecord}
 use Rattle.paper.specs.Table.{rec, lay, frees, room, textRoom}
 use Rattle.paper.specs.Name.{dotG, dotT, chain}
 use Rattle.paper.specs.Declaration.{Part, orElse}
@@ -16,7 +16,7 @@ use Rattle.paper.specs.Code.{joined, noRead, noWrite, lacks}
 use Rattle.paper.specs.Entry.{find, full, named, peopled}
 use Rattle.paper.specs.Block.{blocks, block, blocksOf, fileText}
 use Rattle.paper.specs.Walk.{State, start, file, Walked, reached, stopped, toDirectory, lastName, End, arrived, astray, ended}
-use Rattle.paper.specs.Store.{Store, puts, clear}
+use Rattle.paper.specs.Store.{Store, puts, clear, run}
 use Rattle.paper.specs.Listing.{directoryLines, baseLines, directoryTree, baseTree}
 
 -- what a request does where its walks end: its end checks, its stores, whether an entry is displaced, and what it writes
@@ -68,9 +68,13 @@ toHolder t u argument w f = onward argument (toDirectory t 1 (start u) (chainOf 
 abbrev pub toEnd : List ℕ → ℕ → ℕ → Word → (State → State → Planned) → Planned
 toEnd t u argument w g = inward argument (ended t (start u) (chainOf w)) g
 
+-- the text of heading h cleared "by position"
+abbrev pub bared : List ℕ → ℕ → List Store
+bared t h = eachBelow (λ p. clear (textRoom t h p)) (blocksOf t h)
+
 -- "After an entry is displaced or cleared": heading h cleared, "then its text by position"
 unfoldable pub freed : List ℕ → ℕ → List Store
-freed t h = clear h ∷ eachBelow (λ p. clear (textRoom t h p)) (blocksOf t h)
+freed t h = clear h ∷ bared t h
 
 -- entry e of t once r is laid in its place: its file "is now named by no entry"
 unfoldable pub lost : List ℕ → ℕ → List ℕ → Bool
@@ -150,6 +154,13 @@ tooShort out reply = check (ltb (length reply) (length out)) 20 (whole 0)
 abbrev pub lacking : Place → ℕ → ℕ → Check
 lacking place new old = check (lacks new old) 21 place
 
+-- 23 and 24: "23 marked, 24 lifetime L"
+abbrev pub isMarked : Place → List ℕ → State → Check
+isMarked place t s = check (marked (rec t (file t s))) 23 place
+
+abbrev pub isLong : Place → List ℕ → State → Check
+isLong place t s = check (eqb (lifetime (rec t (file t s))) 2) 24 place
+
 -- 25: "level too low": "With U lowest, then P, A, S, a copy's level must be at least its source's"
 abbrev pub tooLow : Place → Part → List ℕ → Check
 tooLow place lev source = check (ltb (orElse lev (level source)) (level source)) 25 place
@@ -219,7 +230,8 @@ cpyPlan t v u old new life lev code =
     (λ d.
     let text = fileText t (file t f) in
     making t (filing t 2 new d (orElse code 0) (copyHeading (rec t (file t f)) life lev code (length text)) text)
-    (readInhibited (endOf 1 old) f ∷ []) (notSimple (endOf 1 old) t f ∷ []) (tooLow (whole 3) lev (rec t (file t f)) ∷ [])))
+    (readInhibited (endOf 1 old) f ∷ []) (notSimple (endOf 1 old) t f ∷ [])
+    (isMarked (endOf 1 old) t f ∷ tooLow (whole 3) lev (rec t (file t f)) ∷ [])))
 
 -- the entry of DUP, in d, of the file that f came to
 abbrev pub linking : List ℕ → State → State → Word → Part → Making
@@ -301,7 +313,8 @@ rdsPlan t u reply name first count =
     toEnd t u 1 name
     (λ _ f.
     let text = fileText t (file t f) in
-    showing (readInhibited (endOf 1 name) f ∷ notSimple (endOf 1 name) t f ∷ []) (part text first count) reply (beyondEnd (whole 2) first text ∷ []))
+    showing (readInhibited (endOf 1 name) f ∷ notSimple (endOf 1 name) t f ∷ []) (part text first count) reply
+    (isMarked (endOf 1 name) t f ∷ beyondEnd (whole 2) first text ∷ []))
 
 -- "LST writes one line an entry"
 unfoldable pub lstPlan : List ℕ → ℕ → List ℕ → Word → Planned
@@ -322,3 +335,31 @@ lstTreePlan t u reply name depth =
 -- ".. a lone point .. included"
 unfoldable pub lstBaseTreePlan : List ℕ → ℕ → List ℕ → ℕ → Planned
 lstBaseTreePlan t u reply depth = writing [] (baseTree t depth u) reply
+
+-- document 02, `WRS*`: "the heading marked (byte 5 is 1) with length 0, old text cleared by position"
+unfoldable pub emptying : List ℕ → ℕ → List Store
+emptying t h = puts h (rewritten (rec t h) 1 0) ∷ bared t h
+
+-- the table "with that one file marked and empty"
+abbrev pub emptied : List ℕ → ℕ → List ℕ
+emptied t h = run t (emptying t h)
+
+-- "new text into the lowest records then free", by position
+unfoldable pub laying : List ℕ → ℕ → List ℕ → List Store
+laying t h text = eachBelow (λ p. puts (room t p) (textRecord h p (block text p))) (blocks (length text))
+
+-- ".. heading unmarked with the new length"
+unfoldable pub rewriting : List ℕ → ℕ → List ℕ → List Store
+rewriting t h text = emptying t h ++ laying (emptied t h) h text ++ puts h (rewritten (rec t h) 0 (length text)) ∷ []
+
+-- 19: "Room is free records plus the old text's."
+abbrev pub noRoomFor : List ℕ → ℕ → List ℕ → Check
+noRoomFor t h text = check (ltb (length (frees t) + blocksOf t h) (blocks (length text))) 19 (whole 0)
+
+-- "`WRS*` decl name, with a text, rewrites an existing simple file of lifetime M .. It needs write on the file."
+abbrev pub rewriteAt : List ℕ → List ℕ → Place → State → Planned
+rewriteAt t text place f =
+    storing (writeInhibited place f ∷ notSimple place t f ∷ noRoomFor t (file t f) text ∷ isLong place t f ∷ []) (rewriting t (file t f) text)
+
+unfoldable pub rewritePlan : List ℕ → ℕ → List ℕ → Word → Planned
+rewritePlan t u text name = toEnd t u 2 name (λ _ f. rewriteAt t text (endOf 2 name) f)

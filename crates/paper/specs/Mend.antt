@@ -1,9 +1,9 @@
--- "Mending, with kind and type read from bytes 0 and 1 alone", as a list of stores.
+-- "Mending, with kind and type read from bytes 0 and 1 alone", and the mark from byte 5, as a list of stores.
 use mathlib.Core.Bool.{Bool, _&&_, not}
 use mathlib.Core.List.{List, _++_, map}
 use Prim.Native.Nat.{ℕ}
 use Rattle.paper.specs.Scan.{listBelow}
-use Rattle.paper.specs.Record.{isKind, simple, headingOf}
+use Rattle.paper.specs.Record.{isKind, simple, marked, headingOf}
 use Rattle.paper.specs.Table.{rooms, rec}
 use Rattle.paper.specs.Entry.{named}
 use Rattle.paper.specs.Store.{Store, clear, run}
@@ -12,9 +12,13 @@ use Rattle.paper.specs.Store.{Store, clear, run}
 abbrev pub orphan : List ℕ → ℕ → Bool
 orphan t i = isKind 1 (rec t i) && not (named t i)
 
--- a "text record whose heading is not a simple-file heading"
+-- document 02: "Mending a marked file clears its text": a simple-file heading that is not marked
+unfoldable pub keepsText : List ℕ → Bool
+keepsText r = simple r && not (marked r)
+
+-- a "text record whose heading is not a simple-file heading", or is marked
 abbrev pub stray : List ℕ → ℕ → Bool
-stray t i = isKind 3 (rec t i) && not (simple (rec t (headingOf (rec t i))))
+stray t i = isKind 3 (rec t i) && not (keepsText (rec t (headingOf (rec t i))))
 
 -- the records below n that pass the test cleared, "each by record number"
 unfoldable pub clears : (ℕ → Bool) → ℕ → List Store
@@ -28,7 +32,7 @@ wiped p t = run t (clears p (rooms t))
 abbrev pub mendFirst : List ℕ → List Store
 mendFirst t = clears (orphan t) (rooms t)
 
--- "then every text record whose heading is not a simple-file heading"
+-- "then every text record whose heading is not a simple-file heading", and a marked file's
 abbrev pub mendSecond : List ℕ → List Store
 mendSecond t = clears (stray t) (rooms t)
 

@@ -5,7 +5,7 @@ use Prim.Native.Nat.{ℕ, suc, _+_, _-_}
 use lib.Dec.{eqb, leb, ltb}
 use lib.ListN.{length, getD, take, drop}
 use Rattle.paper.specs.Name.{linkName, pointed, chain, alone, dash, lonePoint, wellFormed, legalBase, baseName, userName, userNumber}
-use Rattle.paper.specs.Declaration.{Part, given, notGiven, Parts, Declared, right, nothing, declared, partsOf, fits, fitCrd, fitCpy, fitDup, wrsLifetime, dprCode}
+use Rattle.paper.specs.Declaration.{Part, given, notGiven, Parts, Declared, right, nothing, declared, partsOf, fits, fitCrd, fitRewrite, fitCpy, fitDup, wrsLifetime, dprCode}
 use Rattle.paper.specs.Octal.{Octal, number, octal, partOf, isNumber, isCount}
 use Rattle.paper.specs.Line.{Word, words, word, legalLine}
 use Rattle.paper.specs.Check.{atLink, whole, Refusal, refusalAt, Check, check, Verdict, passed, refused, verdict}
@@ -30,6 +30,7 @@ pub data Request : Type 0 where
   lstBase : Request
   lstTree : (from : Begin) (name : Word) (depth : ℕ) → Request
   lstBaseTree : (depth : ℕ) → Request
+  rewrite : (name : Word) → Request
 
 pub data Read : Type 0 where
   request : Request → Read
@@ -242,13 +243,21 @@ readTree line =
     (after (verdict (miscounted 2 2 line ∷ malformed 1 (word line 1) ∷ illegalBut isTake 1 (word line 1) ∷ []))
     (needed 2 (depthGiven (word line 2 .names)) (λ depth. lstTree (oldFrom (word line 1)) (word line 1) depth)))
 
+-- document 02: "`WRS*` decl name"
+unfoldable pub readRewrite : List ℕ → Read
+readRewrite line =
+    readAs (rewrite (word line 2)) (verdict (miscounted 2 2 line ∷ misnamed 2 3 line ++ unfit 1 (fits fitRewrite (declaredAt line 1)) ∷ []))
+
 -- the first word is the function of these three letters
 abbrev pub isFunction : ℕ → ℕ → ℕ → List ℕ → Bool
 isFunction a b c line = alone (a ∷ b ∷ c ∷ []) (word line 0 .names)
 
--- .. or `LST*`, one word
+-- .. or `LST*` or `WRS*`, one word
 abbrev pub isTree : List ℕ → Bool
 isTree line = alone (76 ∷ 83 ∷ 84 ∷ 42 ∷ []) (word line 0 .names)
+
+abbrev pub isRewrite : List ℕ → Bool
+isRewrite line = alone (87 ∷ 82 ∷ 83 ∷ 42 ∷ []) (word line 0 .names)
 
 -- 5: "no such function, empty line"
 unfoldable pub readFunction : List ℕ → Read
@@ -263,13 +272,14 @@ readFunction line =
     (cond (isFunction 68 80 82 line) (readDpr line)
     (cond (isFunction 76 83 84 line) (readLst line)
     (cond (isTree line) (readTree line)
-    (unread (refusalAt 5 (whole 0))))))))))))
+    (cond (isRewrite line) (readRewrite line)
+    (unread (refusalAt 5 (whole 0)))))))))))))
 
 -- 4: "line too long, or a byte outside 32..95"
 unfoldable pub read : List ℕ → Read
 read line = cond (legalLine line) (readFunction line) (unread (refusalAt 4 (whole 0)))
 
--- 10: "WRS text above 24,000 bytes"
+-- 10: "WRS text above 24,000 bytes", and that of `WRS*`
 abbrev pub textTooLong : Request → List ℕ → Bool
 textTooLong (crd name level code) text = false
 textTooLong (wrs lifetime level code name) text = ltb 24000 (length text)
@@ -283,6 +293,7 @@ textTooLong (lst from name) text = false
 textTooLong lstBase text = false
 textTooLong (lstTree from name depth) text = false
 textTooLong (lstBaseTree depth) text = false
+textTooLong (rewrite name) text = ltb 24000 (length text)
 
 abbrev pub withText : List ℕ → Read → Read
 withText text (request r) = readAs r (verdict (check (textTooLong r text) 10 (whole 0) ∷ []))

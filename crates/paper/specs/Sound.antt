@@ -4,7 +4,7 @@ use mathlib.Core.List.{List}
 use Prim.Native.Nat.{ℕ, _+_, _-_}
 use lib.Dec.{eqb, leb, ltb}
 use Rattle.paper.specs.Scan.{allBelow, anyBelow, countBelow}
-use Rattle.paper.specs.Record.{byte, isKind, headingType, level, headingCode, lifetime, textLength, directory, simple, entryCode, holderOf, headingNamed, userOf, nameLength, nameOf, bytesHeld, headingOf, position, textAt, zeros}
+use Rattle.paper.specs.Record.{byte, isKind, headingType, level, headingCode, lifetime, textLength, mark, directory, simple, entryCode, holderOf, headingNamed, userOf, nameLength, nameOf, bytesHeld, headingOf, position, textAt, zeros}
 use Rattle.paper.specs.Table.{rooms, rec}
 use Rattle.paper.specs.Name.{linkName, legalBase}
 use Rattle.paper.specs.Entry.{holder, bears, crowd, limit, named}
@@ -23,10 +23,14 @@ every k test t = allBelow (λ i. implies (isKind k (rec t i)) (test i (rec t i))
 abbrev pub freeAsAbove : ℕ → List ℕ → Bool
 freeAsAbove i r = zeros 0 32 r
 
+-- document 02: "A marked file, simple, M, length 0, is sound": byte 5 is 0, or 1 in such a heading
+abbrev pub markRight : List ℕ → Bool
+markRight r = eqb (mark r) 0 || (eqb (mark r) 1 && (eqb (headingType r) 1 && (eqb (lifetime r) 1 && eqb (textLength r) 0)))
+
 abbrev pub headingAsAbove : ℕ → List ℕ → Bool
 headingAsAbove i r =
     leb (headingType r) 1 && leb (level r) 3 && leb (headingCode r) 7 && leb 1 (lifetime r) && leb (lifetime r) 2
-    && zeros 5 5 r && zeros 12 20 r
+    && markRight r && zeros 6 4 r && zeros 12 20 r
 
 abbrev pub entryAsAbove : ℕ → List ℕ → Bool
 entryAsAbove i r = leb (entryCode r) 7 && leb (nameLength r) 10 && zeros 20 12 r

@@ -13,7 +13,7 @@ use Rattle.paper.specs.Line.{Word}
 use Rattle.paper.specs.Check.{atLink, Refusal, refusalAt, Check}
 use Rattle.paper.specs.Request.{Begin, own, takeOf, giveTo}
 use Rattle.paper.specs.Walk.{State}
-use Rattle.paper.specs.Effect.{Plan, Planned, plan, halted, chainOf, endOf, toHolder, toEnd, Making, making, linkTaken, linking, showing, readInhibited, notSimple, noDirectory, writeInhibited, tooShort, crdPlan, wrsPlan, rdsPlan, cpyPlan, dupPlan, chnPlan, delPlan, dprPlan, lstPlan, lstBasePlan, lstTreePlan, lstBaseTreePlan}
+use Rattle.paper.specs.Effect.{Plan, Planned, plan, halted, chainOf, endOf, toHolder, toEnd, Making, making, linkTaken, linking, showing, readInhibited, notSimple, noDirectory, writeInhibited, tooShort, isMarked, crdPlan, wrsPlan, rdsPlan, cpyPlan, dupPlan, chnPlan, delPlan, dprPlan, lstPlan, lstBasePlan, lstTreePlan, lstBaseTreePlan, rewritePlan}
 use Rattle.laws.proofs.Lists.{Every, every-append, every-parts}
 use Rattle.demands.proofs.Request.Fair.{Idle, Fair, FairCheck, Chained, ofChain, verdict-fair, fair-line, fair-linked, fair-end, fair-whole}
 use Rattle.demands.proofs.Request.Steps.{Walks, Halts, holder-within, end-within}
@@ -85,7 +85,7 @@ module _ (names : ℕ → List (List ℕ)) (t reply : List ℕ) (u : ℕ) where
       fair-toEnd names reply 1 old c t v _ (λ _ f.
       fair-toHolder names reply 2 new d t u _ (λ _.
       fair-making _ _ _ _ (λ n e. fair-end names n 2 new e d) (fair-end names 13 1 old refl c, tt) (fair-end names 15 1 old refl c, tt)
-      (fair-whole names 25 3 refl (omega arith) z, tt)))
+      (fair-end names 23 1 old refl c, (fair-whole names 25 3 refl (omega arith) z, tt))))
 
   -- a give: 16 at its place
   fair-taken : (to : Begin) (m : Making) → Fair names (refusalAt 16 (m .place)) → Every (FairCheck names) (linkTaken t to m)
@@ -135,12 +135,13 @@ module _ (names : ℕ → List (List ℕ)) (t reply : List ℕ) (u : ℕ) where
   fair-reading w c s fifteen late out h l =
       fair-showing (readInhibited (endOf 1 w) s ∷ fifteen ∷ []) late out (fair-end names 13 1 w refl c, (h, tt)) l
 
-  -- .. and 28
+  -- .. and 23 and 28
   pub fair-rdsPlan : (w : Word) (first count : Part) → Chained names 1 w → names 2 ≡ [] → FairPlanned names reply (rdsPlan t u reply w first count)
   unfolding rdsPlan
   fair-rdsPlan w first count c z =
       fair-toEnd names reply 1 w c t u _ (λ _ f.
-      fair-reading w c f (notSimple (endOf 1 w) t f) _ _ (fair-end names 15 1 w refl c) (fair-whole names 28 2 refl (omega arith) z, tt))
+      fair-reading w c f (notSimple (endOf 1 w) t f) _ _ (fair-end names 15 1 w refl c)
+      (fair-end names 23 1 w refl c, (fair-whole names 28 2 refl (omega arith) z, tt)))
 
   pub fair-lstPlan : (w : Word) → Chained names 1 w → FairPlanned names reply (lstPlan t u reply w)
   unfolding lstPlan
@@ -159,3 +160,16 @@ module _ (names : ℕ → List (List ℕ)) (t reply : List ℕ) (u : ℕ) where
   pub fair-lstBaseTreePlan : (depth : ℕ) → FairPlanned names reply (lstBaseTreePlan t u reply depth)
   unfolding lstBaseTreePlan
   fair-lstBaseTreePlan depth = fair-showing [] [] _ tt tt
+
+  -- a plan of four checks that writes nothing
+  pub fair-rewritePlan : (text : List ℕ) (w : Word) → Chained names 2 w → FairPlanned names reply (rewritePlan t u text w)
+  unfolding rewritePlan
+  fair-rewritePlan text w c =
+      fair-toEnd names reply 2 w c t u _ (λ _ _.
+      record {
+        checks = (
+          fair-end names 14 2 w refl c,
+          (fair-end names 15 2 w refl c, (fair-line names 19 refl, (fair-end names 24 2 w refl c, tt))),
+        );
+        fits = λ h. omega arith;
+      })

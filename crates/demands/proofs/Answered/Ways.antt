@@ -1,19 +1,19 @@
 -- The three ways of a request: refused before it is tried, tried by one plan, or a DEL name by name; each the same for every stop number.
--- What is tried is one of ten requests, and its plan is fair.
+-- What is tried is one of eleven requests, and its plan is fair.
 use mathlib.Core.Bool.{Bool, true, false}
 use mathlib.Core.List.{List}
 use mathlib.Core.Path.{_≡_, refl}
 use Prim.Native.Nat.{ℕ}
 use Rattle.paper.specs.Line.{Word}
 use Rattle.paper.specs.Check.{Refusal}
-use Rattle.paper.specs.Request.{Request, crd, wrs, rds, cpy, dup, chn, del, dpr, lst, lstBase, lstTree, lstBaseTree, request, asked}
-use Rattle.paper.specs.Effect.{listOf, begun, Planned, crdPlan, wrsPlan, rdsPlan, cpyPlan, dupPlan, chnPlan, dprPlan, lstPlan, lstBasePlan, lstTreePlan, lstBaseTreePlan}
+use Rattle.paper.specs.Request.{Request, crd, wrs, rds, cpy, dup, chn, del, dpr, lst, lstBase, lstTree, lstBaseTree, rewrite, request, asked}
+use Rattle.paper.specs.Effect.{listOf, begun, Planned, crdPlan, wrsPlan, rdsPlan, cpyPlan, dupPlan, chnPlan, dprPlan, lstPlan, lstBasePlan, lstTreePlan, lstBaseTreePlan, rewritePlan}
 use Rattle.paper.specs.Answer.{refusing, ran, single, deleting, granted, requested}
 use Rattle.demands.proofs.Request.Fair.{Fair}
 use Rattle.demands.proofs.Request.Chains.{namesAt}
 use Rattle.demands.proofs.Request.Spoken.{Spoken}
 use Rattle.demands.proofs.Request.Course.{Course, untried, tried, course}
-use Rattle.demands.proofs.Answered.Numbered.{FairPlanned, fair-crdPlan, fair-wrsPlan, fair-rdsPlan, fair-cpyPlan, fair-dupPlan, fair-chnPlan, fair-dprPlan, fair-lstPlan, fair-lstBasePlan, fair-lstTreePlan, fair-lstBaseTreePlan}
+use Rattle.demands.proofs.Answered.Numbered.{FairPlanned, fair-crdPlan, fair-wrsPlan, fair-rdsPlan, fair-cpyPlan, fair-dupPlan, fair-chnPlan, fair-dprPlan, fair-lstPlan, fair-lstBasePlan, fair-lstTreePlan, fair-lstBaseTreePlan, fair-rewritePlan}
 
 abbrev pub isDel : Request → Bool
 isDel (crd w level code) = false
@@ -28,6 +28,7 @@ isDel (lst from w) = false
 isDel lstBase = false
 isDel (lstTree from w depth) = false
 isDel (lstBaseTree depth) = false
+isDel (rewrite w) = false
 
 -- the three ways of a request, each the same for every stop number
 pub data Came (t line text reply : List ℕ) (u : ℕ) : Type 0 where
@@ -72,6 +73,7 @@ came t line text reply u = go (course t line text reply u)
         planned (lstTree from w depth) q refl (lstTreePlan t (listOf u from) reply (begun from w) depth)
         (fair-lstTreePlan names t reply (listOf u from) (begun from w) depth s)
     grants (lstBaseTree depth) q s = planned (lstBaseTree depth) q refl (lstBaseTreePlan t u reply depth) (fair-lstBaseTreePlan names t reply u depth)
+    grants (rewrite w) q s = planned (rewrite w) q refl (rewritePlan t u text w) (fair-rewritePlan names t reply u text w s)
 
     go : Course t line text reply u → Came t line text reply u
     go (untried f h e) = lent f h e

@@ -8,20 +8,28 @@ use Prim.Native.Nat.{ℕ, _<_}
 use native.Mathlib.Omega.{arith}
 use native.Mathlib.Decide.{decLt}
 use lib.ListN.{length}
-use borrow.Author.Tests.{eqb-true}
-use Rattle.paper.specs.Record.{byte, isKind, simple, names, headingNamed, headingOf, blank}
+use borrow.Author.Tests.{eqb-true, ltb-true}
+use Rattle.paper.specs.Record.{byte, isKind, marked, textLength, simple, names, headingNamed, headingOf, position, blank}
 use Rattle.paper.specs.Table.{rooms, rec}
 use Rattle.paper.specs.Entry.{named}
-use Rattle.paper.specs.Mend.{orphan, stray, mendStores, mended}
-use Rattle.laws.proofs.Tests.{and-left, not-both, false-by}
+use Rattle.paper.specs.Block.{blocks}
+use Rattle.paper.specs.Sound.{textInPlace}
+use Rattle.paper.specs.Mend.{keepsText, orphan, stray, mendStores, mended}
+use Rattle.laws.proofs.Tests.{and-left, and-right, and-both, not-both, false-by}
 use Rattle.laws.proofs.Scans.{any-true}
 use Rattle.laws.proofs.Entries.{names-kind, names-heading}
-use Rattle.laws.proofs.Lay.{Whole, rec-past}
-use Rattle.demands.proofs.Sound.Clauses.{Sound, named-by}
+use Rattle.laws.proofs.Lay.{Whole, rec-past, within}
+use Rattle.demands.proofs.Sound.Clauses.{Sound, heading-marked, named-by}
+use Rattle.demands.proofs.Sound.Points.{text-points}
 use Rattle.demands.proofs.Mending.Wipe.{rec-wiped}
 use Rattle.demands.proofs.Mending.Part.{Alike, equal, heading, text, Part, own, loose, Parts, Kept, Below, free, stays, Less}
-use Rattle.demands.proofs.Mending.Less.{alike-is, alike-sym, below-trans, less-free, up-simple, after₁, in-steps, less₁, less₂, mended-less}
+use Rattle.demands.proofs.Mending.Less.{alike-is, alike-sym, below-trans, less-free, up-keeps, after₁, in-steps, less₁, less₂, mended-less}
 use Rattle.demands.proofs.Mending.Squeeze.{quiet, still, squeeze}
+
+-- a free record keeps no text
+pub keeps-none : keepsText blank ≡ false
+unfolding blank keepsText
+keeps-none = refl
 
 -- ---- a table that keeps the clauses has nothing to mend
 
@@ -35,7 +43,7 @@ no-orphan t k i l = go (isKind 1 (rec t i)) refl
 no-stray : (t : List ℕ) → Kept t → (i : ℕ) → i < rooms t → stray t i ≡ false
 no-stray t k i l = go (isKind 3 (rec t i)) refl
   where
-    go : (b : Bool) → isKind 3 (rec t i) ≡ b → (b && not (simple (rec t (headingOf (rec t i))))) ≡ false
+    go : (b : Bool) → isKind 3 (rec t i) ≡ b → (b && not (keepsText (rec t (headingOf (rec t i))))) ≡ false
     go true e = rw (k .texts i l (eqb-true _ _ e))
     go false e = refl
 
@@ -45,10 +53,29 @@ nothing-to-mend t k = quiet t (no-orphan t k) (no-stray t k)
 pub mended-kept : (t : List ℕ) → Kept t → mended t ≡ t
 mended-kept t k = still t (nothing-to-mend t k)
 
--- as a sound table does
+-- as a sound table does: a marked file has no text
+keeps-by : (t : List ℕ) → Sound t → (i : ℕ) → i < rooms t → byte (rec t i) 0 ≡ 3 → keepsText (rec t (headingOf (rec t i))) ≡ true
+unfolding keepsText
+keeps-by t c i l k =
+    let e : textInPlace t i (rec t i) ≡ true = c .texts i l k in
+    let s : simple h ≡ true = and-left _ _ e in
+    let b : position (rec t i) < blocks (textLength h) = ltb-true _ _ (and-left _ _ (and-right (simple h) _ e)) in
+    and-both (simple h) _ s (rw (unmarked b))
+  where
+    h : List ℕ
+    h = rec t (headingOf (rec t i))
+
+    unmarked : position (rec t i) < blocks (textLength h) → marked h ≡ false
+    unmarked b =
+        false-by (marked h) (λ m.
+        let g = text-points 65535 t c i l k in
+        let n : textLength h ≡ 0 =
+        heading-marked h (c .own (headingOf (rec t i)) (within t (headingOf (rec t i)) (c .whole) (omega arith)) .heading g) (eqb-true _ _ m) .length in
+        omega arith)
+
 pub sound-keeps : (t : List ℕ) → Sound t → Kept t
 sound-keeps t c =
-    record { headings = named-by t c; entries = λ i l k. rw (c .targets i l k); texts = λ i l k. and-left _ _ (c .texts i l k) }
+    record { headings = named-by t c; entries = λ i l k. rw (c .targets i l k); texts = keeps-by t c }
 
 pub mended-sound : (t : List ℕ) → Sound t → mended t ≡ t
 mended-sound t c = mended-kept t (sound-keeps t c)
@@ -57,7 +84,7 @@ mended-sound t c = mended-kept t (sound-keeps t c)
 
 -- what the first step leaves of it is text
 abbrev Text : (f r : List ℕ) → Type 0
-Text f r = (byte r 0 ≡ 3) × (simple (rec f (headingOf r)) ≡ false)
+Text f r = (byte r 0 ≡ 3) × (keepsText (rec f (headingOf r)) ≡ false)
 
 module _ (f s : List ℕ) (w : Whole f) (p : Parts f s) where
   whole : Whole s
@@ -80,19 +107,19 @@ module _ (f s : List ℕ) (w : Whole f) (p : Parts f s) where
   under₁ i l (loose z (heading k n)) = inl (free (unfold after₁ in rec-wiped s (orphan s) i (inside i l) ∙ rw (k, n)))
   under₁ i l (loose z (text k n)) = inr (k, n)
 
-  -- what is no simple file's heading in f is none here
-  simple₁ : (h : ℕ) → simple (rec f h) ≡ false → simple (rec (after₁ s) h) ≡ false
-  simple₁ h n = by-cases (decLt h (rooms f)) (λ (l : h < rooms f). go l (under₁ h l (p .each h l))) past
+  -- what keeps no text in f keeps none here
+  keeps₁ : (h : ℕ) → keepsText (rec f h) ≡ false → keepsText (rec (after₁ s) h) ≡ false
+  keeps₁ h n = by-cases (decLt h (rooms f)) (λ (l : h < rooms f). go l (under₁ h l (p .each h l))) past
     where
-      no : ((simple (rec (after₁ s) h) ≡ true) → ⊥) → simple (rec (after₁ s) h) ≡ false
-      no = false-by (simple (rec (after₁ s) h))
+      no : ((keepsText (rec (after₁ s) h) ≡ true) → ⊥) → keepsText (rec (after₁ s) h) ≡ false
+      no = false-by (keepsText (rec (after₁ s) h))
 
-      go : h < rooms f → Below (rec f h) (rec (after₁ s) h) ⊎ Text f (rec s h) → simple (rec (after₁ s) h) ≡ false
-      go l (inl b) = no (λ e. not-both (up-simple (rec f h) (rec (after₁ s) h) b e) n)
-      go l (inr q) = no (λ e. not-both (up-simple (rec s h) (rec (after₁ s) h) (less₁ s .each h (inside h l)) e) (rw (q .0)))
+      go : h < rooms f → Below (rec f h) (rec (after₁ s) h) ⊎ Text f (rec s h) → keepsText (rec (after₁ s) h) ≡ false
+      go l (inl b) = no (λ e. not-both (up-keeps (rec f h) (rec (after₁ s) h) b e) n)
+      go l (inr q) = no (λ e. not-both (up-keeps (rec s h) (rec (after₁ s) h) (less₁ s .each h (inside h l)) e) (unfold keepsText in rw (q .0)))
 
-      past : ¬ (h < rooms f) → simple (rec (after₁ s) h) ≡ false
-      past o = rw (rec-past (after₁ s) h (rw (less₁ s .long) whole) (rw (less₁ s .long, p .long) (omega arith)))
+      past : ¬ (h < rooms f) → keepsText (rec (after₁ s) h) ≡ false
+      past o = unfold keepsText in rw (rec-past (after₁ s) h (rw (less₁ s .long) whole) (rw (less₁ s .long, p .long) (omega arith)))
 
   -- after the second
   under₂ : (i : ℕ) → i < rooms f → Below (rec f i) (rec (after₁ s) i) ⊎ Text f (rec s i) → Below (rec f i) (rec (mended s) i)
@@ -105,7 +132,7 @@ module _ (f s : List ℕ) (w : Whole f) (p : Parts f s) where
       goes q (free e) = less-free (after₁ s) (mended s) (less₂ s) i l₁ e
       goes q (stays y) =
           rw (in-steps s)
-          (rec-wiped (after₁ s) (stray (after₁ s)) i l₁ ∙ rw (alike-is (rec s i) (rec (after₁ s) i) y, q .0, simple₁ (headingOf (rec s i)) (q .1)))
+          (rec-wiped (after₁ s) (stray (after₁ s)) i l₁ ∙ rw (alike-is (rec s i) (rec (after₁ s) i) y, q .0, keeps₁ (headingOf (rec s i)) (q .1)))
 
       go : Below (rec f i) (rec (after₁ s) i) ⊎ Text f (rec s i) → Below (rec f i) (rec (mended s) i)
       go (inl b) = below-trans (rec f i) (rec (after₁ s) i) (rec (mended s) i) b (less₂ s .each i l₁)
@@ -120,10 +147,10 @@ module _ (f s : List ℕ) (w : Whole f) (p : Parts f s) where
 
 -- ---- the debris of one request
 
--- r is a heading, or text without a simple file's heading in f
+-- r is a heading, or text without a heading in f that keeps it
 pub data Loose (f r : List ℕ) : Type 0 where
   head : byte r 0 ≡ 1 → Loose f r
-  body : byte r 0 ≡ 3 → simple (rec f (headingOf r)) ≡ false → Loose f r
+  body : byte r 0 ≡ 3 → keepsText (rec f (headingOf r)) ≡ false → Loose f r
 
 pub data Left (f x r : List ℕ) : Type 0 where
   ours : Alike x r → Left f x r

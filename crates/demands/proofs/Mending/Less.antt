@@ -7,10 +7,10 @@ use mathlib.Core.Path.{_≡_, refl, sym, _∙_}
 use Prim.Native.Nat.{ℕ, _<_}
 use native.Mathlib.Omega.{arith}
 use native.Mathlib.Decide.{decLt}
-use Rattle.paper.specs.Record.{isKind, simple, names, headingOf, blank}
+use Rattle.paper.specs.Record.{isKind, names, headingOf, blank}
 use Rattle.paper.specs.Table.{rooms, rec}
 use Rattle.paper.specs.Entry.{named}
-use Rattle.paper.specs.Mend.{orphan, stray, wiped, mended}
+use Rattle.paper.specs.Mend.{keepsText, orphan, stray, wiped, mended}
 use Rattle.laws.proofs.Tests.{truth, not-both, and-left, and-right, and-both, either}
 use Rattle.laws.proofs.Scans.{any-true, any-here}
 use Rattle.laws.proofs.Lay.{Whole, rec-past}
@@ -71,8 +71,8 @@ up : (q : List ℕ → Bool) → q blank ≡ false → (x r : List ℕ) → Belo
 up q z x r (free e) t = absurd (not-both t (rw e z))
 up q z x r (stays (equal e)) t = rw e at t
 
-pub up-simple : (x r : List ℕ) → Below x r → simple r ≡ true → simple x ≡ true
-up-simple = up simple (unfold blank in refl)
+pub up-keeps : (x r : List ℕ) → Below x r → keepsText r ≡ true → keepsText x ≡ true
+up-keeps = up keepsText (unfold blank keepsText in refl)
 
 up-names : (h : ℕ) (x r : List ℕ) → Below x r → names h r ≡ true → names h x ≡ true
 up-names h = up (names h) (unfold blank in refl)
@@ -106,7 +106,7 @@ module _ (s a : List ℕ) (w : Whole s) (d : Less s a) where
   stray-still i x g =
       let h : ℕ = headingOf (rec s i) in
       rw (alike-is (rec s i) (rec a i) x) (and-both (isKind 3 (rec s i)) _ (and-left (isKind 3 (rec s i)) _ g)
-      (not-down (simple (rec a h)) (simple (rec s h)) (up-simple (rec s h) (rec a h) (below h)) (and-right (isKind 3 (rec s i)) _ g)))
+      (not-down (keepsText (rec a h)) (keepsText (rec s h)) (up-keeps (rec s h) (rec a h) (below h)) (and-right (isKind 3 (rec s i)) _ g)))
 
 -- ---- a step
 

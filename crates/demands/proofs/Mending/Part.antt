@@ -5,9 +5,10 @@ use mathlib.Core.List.{List}
 use mathlib.Core.Path.{_≡_}
 use Prim.Native.Nat.{ℕ, _<_}
 use lib.ListN.{length}
-use Rattle.paper.specs.Record.{byte, isKind, simple, headingNamed, headingOf, blank}
+use Rattle.paper.specs.Record.{byte, isKind, headingNamed, headingOf, blank}
 use Rattle.paper.specs.Table.{rooms, rec}
 use Rattle.paper.specs.Entry.{named}
+use Rattle.paper.specs.Mend.{keepsText}
 
 -- r is x, as far as mending leaves it
 pub data Alike (x r : List ℕ) : Type 0 where
@@ -16,7 +17,7 @@ pub data Alike (x r : List ℕ) : Type 0 where
 -- r, in record i of s, is debris over f: mending takes it away
 pub data Goes (f s : List ℕ) (i : ℕ) (r : List ℕ) : Type 0 where
   heading : byte r 0 ≡ 1 → named s i ≡ false → Goes f s i r
-  text : byte r 0 ≡ 3 → simple (rec f (headingOf r)) ≡ false → Goes f s i r
+  text : byte r 0 ≡ 3 → keepsText (rec f (headingOf r)) ≡ false → Goes f s i r
 
 -- record i holds f's own x, or debris r where f has a free record
 pub data Part (f s : List ℕ) (i : ℕ) (x r : List ℕ) : Type 0 where
@@ -31,7 +32,7 @@ pub record Parts (f s : List ℕ) : Type 0 where
 pub record Kept (f : List ℕ) : Type 0 where
   pub headings : (i : ℕ) → i < rooms f → byte (rec f i) 0 ≡ 1 → named f i ≡ true
   pub entries : (i : ℕ) → i < rooms f → byte (rec f i) 0 ≡ 2 → isKind 1 (rec f (headingNamed (rec f i))) ≡ true
-  pub texts : (i : ℕ) → i < rooms f → byte (rec f i) 0 ≡ 3 → simple (rec f (headingOf (rec f i))) ≡ true
+  pub texts : (i : ℕ) → i < rooms f → byte (rec f i) 0 ≡ 3 → keepsText (rec f (headingOf (rec f i))) ≡ true
 
 -- a is s with some records cleared: what mending may have done to it
 pub data Below (x r : List ℕ) : Type 0 where

@@ -8,11 +8,11 @@ use Prim.Native.Nat.{ℕ, _<_}
 use native.Mathlib.Omega.{arith}
 use native.Mathlib.Decide.{decLt}
 use borrow.Author.Tests.{eqb-true}
-use Rattle.paper.specs.Record.{byte, isKind, simple, names, headingOf, blank}
+use Rattle.paper.specs.Record.{byte, isKind, names, headingOf, blank}
 use Rattle.paper.specs.Table.{rooms, rec}
 use Rattle.paper.specs.Entry.{named}
 use Rattle.paper.specs.Store.{run}
-use Rattle.paper.specs.Mend.{orphan, stray, clears, wiped, mendStores, mended}
+use Rattle.paper.specs.Mend.{keepsText, orphan, stray, clears, wiped, mendStores, mended}
 use Rattle.laws.proofs.Tests.{and-left}
 use Rattle.laws.proofs.Scans.{any-cong}
 use Rattle.laws.proofs.Lay.{Whole, ext-table, rec-past}
@@ -66,10 +66,11 @@ module _ (s : List ℕ) (w : Whole s) where
       wiped-named (after₁ s) (stray (after₁ s)) (λ g i q. rw (stray-kind (after₁ s) i q)) h
       ∙ (unfold after₁ in wiped-named s (orphan s) (λ g i q. rw (orphan-kind s i q)) h)
 
-  simple-end : (h : ℕ) → simple (rec e h) ≡ simple (rec a h)
+  keeps-end : (h : ℕ) → keepsText (rec e h) ≡ keepsText (rec a h)
   unfolding e
-  simple-end h =
-      by-cases (decLt h (rooms a)) (wiped-passes simple (unfold blank in refl) a (stray a) (λ i q. rw (stray-kind a i q)) h)
+  keeps-end h =
+      by-cases (decLt h (rooms a))
+      (wiped-passes keepsText (unfold blank keepsText in refl) a (stray a) (λ i q. unfold keepsText in rw (stray-kind a i q)) h)
       (λ (o : ¬ (h < rooms a)).
       rw (rec-past a h whole-a (omega arith), rec-past (wiped (stray a) a) h (rw (length-run a _) whole-a) (rw (rooms-run a _) (omega arith))))
 
@@ -87,13 +88,13 @@ module _ (s : List ℕ) (w : Whole s) where
       go true q z = unfold blank in rw z
       go false q z = rw z q
 
-  -- and no text without a simple-file heading
+  -- and no text without a heading that keeps it
   no-stray : (i : ℕ) → i < rooms a → stray e i ≡ false
   no-stray i l = go (stray a i) refl (unfold e in rec-wiped a (stray a) i l)
     where
       go : (b : Bool) → stray a i ≡ b → rec e i ≡ cond b blank (rec a i) → stray e i ≡ false
       go true q z = unfold blank in rw z
-      go false q z = rw (z, simple-end (headingOf (rec a i))) q
+      go false q z = rw (z, keeps-end (headingOf (rec a i))) q
 
 -- where no test passes there is nothing to mend
 pub quiet : (t : List ℕ) → ((i : ℕ) → i < rooms t → orphan t i ≡ false) → ((i : ℕ) → i < rooms t → stray t i ≡ false) → mendStores t ≡ []

@@ -2,20 +2,24 @@
 -- that is cut, and a name whose stores are all made leaves a sound table: in all, the table after some first part of the names.
 use mathlib.Core.List.{List, [], _∷_}
 use mathlib.Core.Logic.{_⊎_, inl, inr}
-use mathlib.Core.Path.{_≡_, refl, _∙_}
-use Prim.Native.Nat.{ℕ, suc, _+_, _-_, _≤_}
+use mathlib.Core.Path.{_≡_, refl, sym, _∙_}
+use Prim.Native.Nat.{ℕ, zero, suc, _+_, _-_, _≤_, _<_}
 use native.Mathlib.Omega.{arith}
 use lib.ListN.{length, take}
 use Rattle.paper.specs.Line.{Word}
+use Rattle.paper.specs.Walk.{file}
 use Rattle.paper.specs.Store.{run}
-use Rattle.paper.specs.Effect.{Plan, Planned, plan, delPlan}
+use Rattle.paper.specs.Effect.{Plan, Planned, plan, delPlan, emptied, rewritePlan}
 use Rattle.paper.specs.Mend.{mended}
 use Rattle.paper.specs.Answer.{Outcome, Ran, ran, single, oneName, deleting}
 use Rattle.demands.proofs.Sound.Clauses.{Sound}
 use Rattle.demands.proofs.Request.Ended.{Passed, ran-by, passes}
 use Rattle.demands.proofs.SoundKept.Kept.{Keeps, passed-sound, del-keeps}
+use Rattle.demands.proofs.SoundKept.Emptied.{emptied-sound}
+use Rattle.demands.proofs.SoundKept.Rewriting.{Granted, rewrite-granted, rewrite-keeps}
 use Rattle.demands.proofs.Mending.Debris.{sound-keeps, mended-sound}
 use Rattle.demands.proofs.PowerCut.Cut.{Shaped, Cut, power-cut}
+use Rattle.demands.proofs.PowerCut.Remade.{cut-first, cut-half, emptied-again}
 use Rattle.demands.proofs.PowerCut.Plans.{Safe, del-safe}
 
 -- x is the table after, of outcomes by stop number: at some stop number the answer is 0 and the table x
@@ -33,7 +37,7 @@ passed-cut t c x p h g v = power-cut t (p .stores) (c .whole) (sound-keeps t c) 
 
 -- ---- one plan
 
-module _ (t reply : List ℕ) (c : Sound t) (x : Planned) (safe : Safe t x) (sure : Keeps t x) where
+module _ (t reply : List ℕ) (x : Planned) where
   -- the outcome by stop number
   abbrev run-to : ℕ → Outcome
   run-to k = single t reply k (ran k x)
@@ -43,20 +47,56 @@ module _ (t reply : List ℕ) (c : Sound t) (x : Planned) (safe : Safe t x) (sur
       let q = passes (length (p .stores)) x p v (omega arith) in
       record { stop = length (p .stores); number = rw q; table = rw q }
 
+module _ (t reply : List ℕ) (c : Sound t) (x : Planned) (safe : Safe t x) (sure : Keeps t x) where
   -- the table before, or the table after; sound in either case
   abbrev Either : List ℕ → Type 0
-  Either y = Sound y × ((y ≡ t) ⊎ Done run-to y)
+  Either y = Sound y × ((y ≡ t) ⊎ Done (run-to t reply x) y)
 
   landed : (y : List ℕ) (p : Plan) → Passed x p → (y ≡ t) ⊎ (y ≡ run t (p .stores)) → Either y
   landed y p v (inl q) = (rw q c, inl q)
-  landed y p v (inr q) = (rw q (passed-sound t x p sure v), inr (rw q (at-once p v)))
+  landed y p v (inr q) = (rw q (passed-sound t x p sure v), inr (rw q (at-once t reply x p v)))
 
-  pub single-cut : (k : ℕ) → Either (mended (run-to k .table))
+  pub single-cut : (k : ℕ) → Either (mended (run-to t reply x k .table))
   single-cut k =
       ran-by (λ y. Either (mended (single t reply k y .table))) k x
       (λ f _. let z : mended t ≡ t = mended-sound t c in (rw z c, inl z))
       (λ p v l. landed _ p v (inr (mended-sound (run t (p .stores)) (passed-sound t x p sure v))))
       (λ p v l. landed _ p v (passed-cut t c x p safe sure v k))
+
+-- ---- `WRS*`
+
+module _ (t reply : List ℕ) (c : Sound t) (u : ℕ) (text : List ℕ) (name : Word) (short : length text ≤ 24000) where
+  abbrev rewriter : Planned
+  rewriter = rewritePlan t u text name
+
+  -- y is the table before; the table after; or, of a plan whose checks pass, the table with the file marked and empty
+  pub data Remakes (y : List ℕ) : Type 0 where
+    unmade : y ≡ t → Remakes y
+    remade : Done (run-to t reply rewriter) y → Remakes y
+    half : (p : Plan) (g : Granted t u text name p) → Done (run-to t reply rewriter) (run t (p .stores)) → y ≡ emptied t (file t (g .end))
+        → y ≡ emptied (run t (p .stores)) (file t (g .end)) → Remakes y
+
+  cut-off : (k : ℕ) (p : Plan) → Passed rewriter p → (g : Granted t u text name p) → k < length (p .stores)
+      → Sound (mended (run t (take k (p .stores)))) × Remakes (mended (run t (take k (p .stores))))
+  cut-off zero p v g l =
+      let z : mended (run t (take 0 (p .stores))) ≡ t = cut-first t (file t (g .end)) text c (g .fit) in
+      (rw z c, unmade z)
+  cut-off (suc k) p v g l =
+      let h : ℕ = file t (g .end) in
+      let z : mended (run t (take (suc k) (p .stores))) ≡ emptied t h =
+      rw (g .stores) (cut-half t h text c (g .fit) (suc k) (omega arith) (rw (g .stores) at l)) in
+      let e : emptied (run t (p .stores)) h ≡ emptied t h = rw (g .stores) (emptied-again t h text c (g .fit)) in
+      (rw z (emptied-sound t h c (g .fit .file)), half p g (at-once t reply rewriter p v) z (z ∙ sym e))
+
+  pub rewrite-cut : (k : ℕ) → Sound (mended (run-to t reply rewriter k .table)) × Remakes (mended (run-to t reply rewriter k .table))
+  rewrite-cut k =
+      ran-by (λ y. Sound (mended (single t reply k y .table)) × Remakes (mended (single t reply k y .table))) k rewriter
+      (λ f _. let z : mended t ≡ t = mended-sound t c in (rw z c, unmade z))
+      (λ p v l.
+      let s = passed-sound t rewriter p (rewrite-keeps t c u text name short) v in
+      let z = mended-sound (run t (p .stores)) s in
+      (rw z s, remade (rw z (at-once t reply rewriter p v))))
+      (λ p v l. cut-off k p v (rewrite-granted t c u text name short p v) l)
 
 -- ---- DEL, name by name
 

@@ -18,7 +18,7 @@ use Rattle.laws.proofs.Runs.{Lays}
 use Rattle.laws.proofs.Rooms.{room-below, room-kind, free-blank}
 use Rattle.demands.proofs.Sound.Clauses.{Sound}
 use Rattle.demands.proofs.SoundKept.Filed.{Roomy, Laid, each-laid, text-kind, small}
-use Rattle.demands.proofs.Mending.Debris.{Loose, head, body}
+use Rattle.demands.proofs.Mending.Debris.{keeps-none, Loose, head, body}
 use Rattle.demands.proofs.PowerCut.Cut.{Litters}
 
 module _ (t : List ℕ) (c : Sound t) where
@@ -37,7 +37,7 @@ module _ (t : List ℕ) (c : Sound t) where
       debris i r (inr (p, l, e, q)) = (
         rw e (at-room (p + 1) (omega arith)),
         body (rw q (text-kind t heading text n p))
-            (rw (q, text-heading (room t 0) p (block text p) (small t heading text n (c .few)), at-room 0 (omega arith))),
+            (rw (q, text-heading (room t 0) p (block text p) (small t heading text n (c .few)), at-room 0 (omega arith)) keeps-none),
       )
 
       one : (s : Store) → Lays (Laid t heading text n) (rooms t) s → Litters t s

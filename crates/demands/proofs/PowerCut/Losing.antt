@@ -20,7 +20,7 @@ use Rattle.laws.proofs.Lay.{Whole, lay-same, lay-other, rooms-lay, length-blank
 use Rattle.laws.proofs.Runs.{Lays, run-each, rooms-run}
 use Rattle.demands.proofs.Sound.Clauses.{Sound}
 use Rattle.demands.proofs.SoundKept.Freed.{text-found}
-use Rattle.demands.proofs.Mending.Debris.{Loose, head, body}
+use Rattle.demands.proofs.Mending.Debris.{keeps-none, Loose, head, body}
 use Rattle.demands.proofs.PowerCut.Cut.{Litters, Sweeps, counted, run-counted, rooms-counted, over, Shaped, phased}
 
 -- what is not free is left by stores of debris
@@ -106,7 +106,7 @@ module _ (t : List ℕ) (c : Sound t) (pre : List Store) (lit : Every (Litters t
           record {
             within = rw rooms-m (g .0);
             size = length-blank;
-            holds = (refl, rw s (body (g .1 .kind) (rw (g .1 .heading, blank-h))));
+            holds = (refl, rw s (body (g .1 .kind) (rw (g .1 .heading, blank-h) keeps-none)));
           }
 
 -- what follows is nothing, or the lost file freed

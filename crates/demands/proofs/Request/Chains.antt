@@ -13,12 +13,12 @@ use Rattle.laws.proofs.Tests.{either}
 use Rattle.laws.proofs.Lists.{Every}
 use Rattle.laws.proofs.Entries.{same-true}
 
--- "any argument that is no chain", by the first word's names: "CRD name [decl]", "CHN old link", "DPR name decl"; "WRS decl name";
--- "CPY, DUP old new [decl]"; "RDS name first count"; "`LST*` name digit"
+-- "any argument that is no chain", by the first word's names: "CRD name [decl]", "CHN old link", "DPR name decl"; "WRS decl name",
+-- "`WRS*` decl name"; "CPY, DUP old new [decl]"; "RDS name first count"; "`LST*` name digit"
 abbrev pub noChain : (function : List (List ℕ)) (argument : ℕ) → Bool
 noChain function argument =
     (alone (67 ∷ 82 ∷ 68 ∷ []) function || alone (67 ∷ 72 ∷ 78 ∷ []) function || alone (68 ∷ 80 ∷ 82 ∷ []) function) && eqb argument 2
-    || alone (87 ∷ 82 ∷ 83 ∷ []) function && eqb argument 1
+    || (alone (87 ∷ 82 ∷ 83 ∷ []) function || alone (87 ∷ 82 ∷ 83 ∷ 42 ∷ []) function) && eqb argument 1
     || (alone (67 ∷ 80 ∷ 89 ∷ []) function || alone (68 ∷ 85 ∷ 80 ∷ []) function) && eqb argument 3
     || alone (82 ∷ 68 ∷ 83 ∷ []) function && (eqb argument 2 || eqb argument 3)
     || alone (76 ∷ 83 ∷ 84 ∷ 42 ∷ []) function && eqb argument 2

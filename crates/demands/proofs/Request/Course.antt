@@ -62,3 +62,7 @@ course t line text reply u = enters (entrance t u) refl
     enters passed p = reads p (asked line text) refl (read-right line text) (said line text)
     enters (refused f) p =
         untried f (entrance-fair (namesAt line) t u f p) (λ k. rw p)
+
+-- what was read is one request
+pub same-request : {r s : Request} → request r ≡ request s → r ≡ s
+same-request e = cc

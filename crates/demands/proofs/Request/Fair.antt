@@ -77,9 +77,9 @@ wrong-none (n ∷ ns) = go (pointed n)
 abbrev pub placeless : ℕ → Bool
 placeless n = leb n 6 || eqb n 10 || eqb n 19 || eqb n 20 || eqb n 22
 
--- the numbers that refuse: 1 to 21 of document 01, then 25, 27 and 28
+-- the numbers that refuse: 1 to 21 of document 01, then 23 to 25, 27 and 28
 abbrev pub later : ℕ → Bool
-later n = eqb n 25 || eqb n 27 || eqb n 28
+later n = leb 23 n && leb n 25 || eqb n 27 || eqb n 28
 
 abbrev pub refuses : ℕ → Bool
 refuses n = leb 1 n && leb n 21 || later n
@@ -91,17 +91,17 @@ answers n = eqb n 0 || (refuses n || eqb n 22)
 refuses-some : (n : ℕ) → refuses n ≡ true → 1 ≤ n
 refuses-some n e = go (or-cases (leb 1 n && leb n 21) (later n) e)
   where
-    one : (eqb n 25 ≡ true) ⊎ (eqb n 27 ≡ true) → 1 ≤ n
-    one (inl f) = omega (arith, eqb-true n 25 f)
+    one : ((leb 23 n && leb n 25) ≡ true) ⊎ (eqb n 27 ≡ true) → 1 ≤ n
+    one (inl f) = omega (arith, leb-true 23 n (and-left (leb 23 n) _ f))
     one (inr f) = omega (arith, eqb-true n 27 f)
 
-    late : ((eqb n 25 || eqb n 27) ≡ true) ⊎ (eqb n 28 ≡ true) → 1 ≤ n
-    late (inl f) = one (or-cases (eqb n 25) (eqb n 27) f)
+    late : ((leb 23 n && leb n 25 || eqb n 27) ≡ true) ⊎ (eqb n 28 ≡ true) → 1 ≤ n
+    late (inl f) = one (or-cases (leb 23 n && leb n 25) (eqb n 27) f)
     late (inr f) = omega (arith, eqb-true n 28 f)
 
     go : ((leb 1 n && leb n 21) ≡ true) ⊎ (later n ≡ true) → 1 ≤ n
     go (inl f) = leb-true _ _ (and-left (leb 1 n) _ f)
-    go (inr f) = late (or-cases (eqb n 25 || eqb n 27) (eqb n 28) f)
+    go (inr f) = late (or-cases (leb 23 n && leb n 25 || eqb n 27) (eqb n 28) f)
 
 -- "0 for a lone dash, a chain only too long, any argument that is no chain, and place 0", where an argument that is no chain has no names:
 -- a malformed chain each name of which is a link name is a lone dash, or only too long

@@ -15,7 +15,7 @@ use Rattle.paper.specs.Declaration.{Part, given, notGiven, isGiven, Parts, fits
 use Rattle.paper.specs.Line.{Word, words, word, legalLine}
 use Rattle.paper.specs.Octal.{partOf}
 use Rattle.paper.specs.Check.{whole, Check, check, Verdict, passed, refused, verdict}
-use Rattle.paper.specs.Request.{declaredAt, octalAt, partsAt, Begin, oldFrom, isTake, isTakeWithin, illegalBut, Request, crd, wrs, rds, cpy, dup, chn, del, dpr, lst, lstBase, lstTree, lstBaseTree, Read, request, unread, after, needed, readAs, counted, miscounted, malformed, illegal, unfit, each, between, misnamed, readCrd, readWrs, readRds, readLst, readCpy, readDup, linkAlone, readChn, readDpr, readDel, depthOf, depthGiven, readTree, isFunction, isTree, readFunction, read, textTooLong, withText, asked}
+use Rattle.paper.specs.Request.{declaredAt, octalAt, partsAt, Begin, oldFrom, isTake, isTakeWithin, illegalBut, Request, crd, wrs, rds, cpy, dup, chn, del, dpr, lst, lstBase, lstTree, lstBaseTree, rewrite, Read, request, unread, after, needed, readAs, counted, miscounted, malformed, illegal, unfit, each, between, misnamed, readCrd, readWrs, readRds, readLst, readCpy, readDup, linkAlone, readChn, readDpr, readDel, depthOf, depthGiven, readTree, readRewrite, isFunction, isTree, isRewrite, readFunction, read, textTooLong, withText, asked}
 use Rattle.paper.specs.Walk.{lastName}
 use Rattle.paper.specs.Effect.{begun}
 use Rattle.laws.proofs.Tests.{and-left, and-right, and-parts, either}
@@ -73,6 +73,10 @@ pub record TreeRead (w : Word) (d : ℕ) : Type 0 where
   pub name : Named w
   pub depth : Depth d
 
+pub record RewriteRead (s : List ℕ) (w : Word) : Type 0 where
+  pub name : Named w
+  pub text : length s ≤ 24000
+
 abbrev pub Told : List ℕ → Request → Type 0
 Told text (crd name level code) = CrdRead name level code
 Told text (wrs lifetime level code name) = WrsRead text lifetime level code name
@@ -86,6 +90,7 @@ Told text (lst from name) = Named (begun from name)
 Told text lstBase = Unit {0}
 Told text (lstTree from name depth) = TreeRead (begun from name) depth
 Told text (lstBaseTree depth) = Depth depth
+Told text (rewrite name) = RewriteRead text name
 
 -- ---- what the checks give
 
@@ -318,6 +323,12 @@ module _ (line text : List ℕ) where
       let l : Within 0 7 (given code) = rw (t .1) at (lettered-at line 2 .code) in
       record { name = name-at 2 1 2 1 line refl n w; code = l .1 }))
 
+  heard-rewrite : Heard text (readRewrite line)
+  unfolding readRewrite
+  heard-rewrite =
+      reader 2 2 2 3 _ _ (λ n m w g short.
+      record { name = name-at 2 2 3 2 line refl n w; text = ltb-false _ _ short })
+
   heard-function : Heard text (readFunction line)
   unfolding readFunction
   heard-function =
@@ -331,7 +342,8 @@ module _ (line text : List ℕ) where
       (either (Heard text) (isFunction 68 80 82 line) _ _ heard-dpr
       (either (Heard text) (isFunction 76 83 84 line) _ _ heard-lst
       (either (Heard text) (isTree line) _ _ heard-tree
-      tt)))))))))
+      (either (Heard text) (isRewrite line) _ _ heard-rewrite
+      tt))))))))))
 
   heard : Heard text (read line)
   unfolding read

@@ -14,7 +14,7 @@ use Rattle.paper.specs.Declaration.{Part, given, notGiven, wrsLifetime, dprCode
 use Rattle.paper.specs.Octal.{partOf}
 use Rattle.paper.specs.Line.{Word, words, word, legalLine}
 use Rattle.paper.specs.Check.{atLink, whole, refusalAt, Check, check, Verdict, passed, refused, verdict}
-use Rattle.paper.specs.Request.{Request, crd, wrs, rds, cpy, dup, chn, del, dpr, lst, lstBase, lstTree, lstBaseTree, Read, request, unread, after, readAs, needed, miscounted, firstWrong, firstLink, malformed, illegal, isTake, illegalBut, each, between, misnamed, oldFrom, declaredAt, octalAt, readCrd, readWrs, readRds, readLst, readCpy, readDup, readChn, readDpr, readDel, depthGiven, readTree, isFunction, isTree, readFunction, read, textTooLong, withText, asked}
+use Rattle.paper.specs.Request.{Request, crd, wrs, rds, cpy, dup, chn, del, dpr, lst, lstBase, lstTree, lstBaseTree, rewrite, Read, request, unread, after, readAs, needed, miscounted, firstWrong, firstLink, malformed, illegal, isTake, illegalBut, each, between, misnamed, oldFrom, declaredAt, octalAt, readCrd, readWrs, readRds, readLst, readCpy, readDup, readChn, readDpr, readDel, depthGiven, readTree, readRewrite, isFunction, isTree, isRewrite, readFunction, read, textTooLong, withText, asked}
 use Rattle.paper.specs.Effect.{begun}
 use Rattle.laws.proofs.Tests.{either}
 use Rattle.laws.proofs.Lists.{Every, every-append}
@@ -37,6 +37,7 @@ Spoken names (lst from name) = Chained names 1 (begun from name)
 Spoken names lstBase = Unit {0}
 Spoken names (lstTree from name depth) = Chained names 1 (begun from name)
 Spoken names (lstBaseTree depth) = Unit {0}
+Spoken names (rewrite name) = Chained names 2 name
 
 abbrev pub Said : (ℕ → List (List ℕ)) → Read → Type 0
 Said names (request r) = Spoken names r
@@ -237,6 +238,18 @@ module _ (line : List ℕ) where
       let q : (k : ℕ) → IsChain line k = λ k. names-by line (68 ∷ 69 ∷ 76 ∷ []) k e in
       said-after names _ _ (six 1 8, fair-misnamed 1 (length (words line)) (omega arith) (λ k _ _. q k)) (next-chained q)
 
+  said-rewrite : isRewrite line ≡ true → Said names (readRewrite line)
+  unfolding readRewrite same
+  said-rewrite e =
+      let q : IsChain line 2 = names-by line (87 ∷ 82 ∷ 83 ∷ 42 ∷ []) 2 e in
+      let z : IsNone line 1 = names-by line (87 ∷ 82 ∷ 83 ∷ 42 ∷ []) 1 e in
+      said-after names _ _ (
+        six 2 2,
+        every-append (FairCheck names) (misnamed 2 3 line) _ (fair-misnamed 2 3 (omega arith) (λ k l m. let y : k ≡ 2 = omega arith in rw y q))
+            (fair-whole names 9 1 refl (omega arith) z, tt),
+      )
+      (chained 2 (omega arith) q)
+
   -- ---- the line
 
   by : (b : Bool) (x y : Read) → (b ≡ true → Said names x) → Said names y → Said names (cond b x y)
@@ -256,7 +269,8 @@ module _ (line : List ℕ) where
       (by (isFunction 68 80 82 line) _ _ said-dpr
       (by (isFunction 76 83 84 line) _ _ said-lst
       (by (isTree line) _ _ said-tree
-      (fair-line names 5 refl))))))))))
+      (by (isRewrite line) _ _ said-rewrite
+      (fair-line names 5 refl)))))))))))
 
   said-read : Said names (read line)
   unfolding read

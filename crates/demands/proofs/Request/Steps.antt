@@ -199,3 +199,29 @@ module _ (X : Planned → Type 0) (argument : ℕ) (stop : (n link : ℕ) → Wa
       → ((d s : State) → toDirectory t 1 (start u) (chainOf w) ≡ reached d → toLast t d (chainOf w) ≡ reached s → X (f d s))
       → X (toEnd t u argument w f)
   end-by = end-within X argument w (λ n link h. stop n link (h .number)) t u
+
+-- ---- walks on two tables
+
+-- where each link is followed alike, and the last looked up alike, walks end alike
+module _ (t f : List ℕ) (looks : (s : State) (n : List ℕ) → look f s n ≡ look t s n) (follows : (s : State) (n : List ℕ) → follow f s n ≡ follow t s n) where
+  pub directory-same : (k : ℕ) (s : State) (ns : List (List ℕ)) → toDirectory f k s ns ≡ toDirectory t k s ns
+  unfolding toDirectory
+  directory-same k s [] = refl
+  directory-same k s (n ∷ []) = refl
+  directory-same k s (n ∷ m ∷ ns) = rw (follows s n) (go (follow t s n) (λ x. directory-same (suc k) x (m ∷ ns)))
+    where
+      go : (x : Step) → ((y : State) → toDirectory f (suc k) y (m ∷ ns) ≡ toDirectory t (suc k) y (m ∷ ns))
+          → linked k x (λ y. toDirectory f (suc k) y (m ∷ ns)) ≡ linked k x (λ y. toDirectory t (suc k) y (m ∷ ns))
+      go (on y) r = r y
+      go (off number) r = refl
+
+  pub last-same : (s : State) (ns : List (List ℕ)) → toLast f s ns ≡ toLast t s ns
+  last-same s ns = rw (looks s (lastName ns))
+
+  pub end-same : (s : State) (ns : List (List ℕ)) → ended f s ns ≡ ended t s ns
+  unfolding ended
+  end-same s ns = rw (directory-same 1 s ns) (go (toDirectory t 1 s ns))
+    where
+      go : (x : Walked) → endFrom f ns x ≡ endFrom t ns x
+      go (reached y) = rw (last-same y ns)
+      go (stopped number link) = refl

@@ -11,11 +11,11 @@ use lib.ListN.{length}
 use lib.Dec.{eqb, leb}
 use borrow.Author.Tests.{eqb-true, eq-eqb, leb-true, le-leb, not-true}
 use Rattle.paper.specs.Scan.{allBelow, anyBelow, countBelow}
-use Rattle.paper.specs.Record.{byte, headingType, level, headingCode, lifetime, textLength, directory, simple, entryCode, headingNamed, nameLength, nameOf, textAt, zeros}
+use Rattle.paper.specs.Record.{byte, headingType, level, headingCode, lifetime, mark, textLength, directory, simple, entryCode, headingNamed, nameLength, nameOf, textAt, zeros}
 use Rattle.paper.specs.Table.{sized, rooms, rec}
 use Rattle.paper.specs.Entry.{Holder, holder, stands, bears, crowd, limit, named}
 use Rattle.paper.specs.Block.{blocks}
-use Rattle.paper.specs.Sound.{freeAsAbove, headingAsAbove, entryAsAbove, textAsAbove, asAbove, holderThere, holdersThere, headingThere, headingsThere, userRight, usersRight, namePadded, namesPadded, notTwice, noneTwice, isNamed, allNamed, notCrowded, noneCrowded, directoryPlain, directoriesPlain, once, textWhole, textsWhole, textInPlace, noOtherText, nameLegal, namesLegal, sound}
+use Rattle.paper.specs.Sound.{freeAsAbove, markRight, headingAsAbove, entryAsAbove, textAsAbove, asAbove, holderThere, holdersThere, headingThere, headingsThere, userRight, usersRight, namePadded, namesPadded, notTwice, noneTwice, isNamed, allNamed, notCrowded, noneCrowded, directoryPlain, directoriesPlain, once, textWhole, textsWhole, textInPlace, noOtherText, nameLegal, namesLegal, sound}
 use Rattle.laws.proofs.Tests.{truth, and-left, and-right, and-both, and-parts, implies-use, implies-by, false-by, not-both, joined, joined-first, joined-part}
 use Rattle.laws.proofs.Scans.{all-true, all-here, any-here, any-true, any-false}
 use Rattle.laws.proofs.Counts.{count-none}
@@ -73,17 +73,37 @@ pub record HeadingFields (r : List ℕ) : Type 0 where
   pub level : level r ≤ 3
   pub code : headingCode r ≤ 7
   pub lifetime : (1 ≤ lifetime r) × (lifetime r ≤ 2)
+  pub mark : markRight r ≡ true
+  pub rest : (zeros 6 4 r ≡ true) × (zeros 12 20 r ≡ true)
 
 pub heading-fields : (r : List ℕ) → HeadingOwn r → HeadingFields r
 unfolding joined
 heading-fields r h =
     let a = leb (headingType r) 1 in
-    let s = leb (level r) 3 ∷ leb (headingCode r) 7 ∷ leb 1 (lifetime r) ∷ leb (lifetime r) 2 ∷ zeros 5 5 r ∷ zeros 12 20 r ∷ [] in
+    let s = leb (level r) 3 ∷ leb (headingCode r) 7 ∷ leb 1 (lifetime r) ∷ leb (lifetime r) 2 ∷ markRight r ∷ zeros 6 4 r ∷ zeros 12 20 r ∷ [] in
     record {
       type = leb-true _ _ (joined-first a s (h .shape));
       level = leb-true _ _ (joined-part a s 0 (h .shape));
       code = leb-true _ _ (joined-part a s 1 (h .shape));
       lifetime = (leb-true _ _ (joined-part a s 2 (h .shape)), leb-true _ _ (joined-part a s 3 (h .shape)));
+      mark = joined-part a s 4 (h .shape);
+      rest = (joined-part a s 5 (h .shape), joined-part a s 6 (h .shape));
+    }
+
+-- "A marked file, simple, M, length 0"
+pub record Marked (r : List ℕ) : Type 0 where
+  pub type : headingType r ≡ 1
+  pub lifetime : lifetime r ≡ 1
+  pub length : textLength r ≡ 0
+
+pub heading-marked : (r : List ℕ) → HeadingOwn r → mark r ≡ 1 → Marked r
+heading-marked r h m =
+    let a : (eqb (headingType r) 1 && (eqb (lifetime r) 1 && eqb (textLength r) 0)) ≡ true = rw m at (heading-fields r h .mark) in
+    let b = and-right (eqb (headingType r) 1) _ a in
+    record {
+      type = eqb-true _ _ (and-left (eqb (headingType r) 1) _ a);
+      lifetime = eqb-true _ _ (and-left (eqb (lifetime r) 1) _ b);
+      length = eqb-true _ _ (and-right (eqb (lifetime r) 1) _ b);
     }
 
 pub entry-code : (r : List ℕ) → EntryOwn r → entryCode r ≤ 7

@@ -63,7 +63,7 @@ module _ (o : ℕ) (t : List ℕ) (h : ℕ) (c : SoundBut o t) (k : byte (rec t 
   text-found p b = let g = room-there t h p (once-at p b) in (g .0, text-true h p (rec t (textRoom t h p)) (g .1))
 
   -- the text of heading h is what is found by position
-  by-position : (i : ℕ) → i < rooms t → anyBelow (λ p. eqb i (textRoom t h p)) (blocksOf t h) ≡ textOf h (rec t i)
+  pub by-position : (i : ℕ) → i < rooms t → anyBelow (λ p. eqb i (textRoom t h p)) (blocksOf t h) ≡ textOf h (rec t i)
   by-position i l = same-truth _ _ found finds
     where
       found : anyBelow (λ p. eqb i (textRoom t h p)) (blocksOf t h) ≡ true → textOf h (rec t i) ≡ true

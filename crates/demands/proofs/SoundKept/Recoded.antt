@@ -57,8 +57,8 @@ module _ (r : List ℕ) (code : ℕ) (s : length r ≡ 32) (k : byte r 0 ≡ 1) 
         heading = λ _.
             record {
               shape =
-                  rw (byte-same 1 (omega arith), byte-same 2 (omega arith), code-new, byte-same 4 (omega arith))
-                  (rw (zeros-same 5 5 (omega arith), zeros-same 12 20 (omega arith), le-leb code 7 b) (rw code-old at (o .shape)));
+                  rw (byte-same 1 (omega arith), byte-same 2 (omega arith), code-new, byte-same 4 (omega arith), byte-same 5 (omega arith), length-same)
+                  (rw (zeros-same 6 4 (omega arith), zeros-same 12 20 (omega arith), le-leb code 7 b) (rw code-old at (o .shape)));
               directory = rw (byte-same 1 (omega arith), byte-same 4 (omega arith), length-same) (o .directory);
               simple = rw (byte-same 1 (omega arith), length-same) (o .simple);
             };

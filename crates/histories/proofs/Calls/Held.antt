@@ -10,9 +10,10 @@ use lib.Dec.{eqb}
 use lib.ListN.{length, take, drop}
 use lib.Seq.{getD-take}
 use Rattle.paper.specs.Scan.{Found, at, nowhere, firstBelow}
-use Rattle.paper.specs.Record.{byte, isKind, level, headingCode, textLength, simple, headingOf, textAt, held}
+use Rattle.paper.specs.Record.{byte, isKind, level, headingCode, textLength, headingOf, textAt, held}
 use Rattle.paper.specs.Table.{rooms, rec, place, textRoom}
 use Rattle.paper.specs.Block.{blocksOf, fileText}
+use Rattle.paper.specs.Mend.{keepsText}
 use Rattle.laws.proofs.Tests.{same-truth, and-left, and-right, and-both}
 use Rattle.laws.proofs.Numbers.{number-cong}
 use Rattle.laws.proofs.Scans.{first-cong, first-at}
@@ -47,8 +48,9 @@ module _ (h : ℕ) (t s : List ℕ) (d : Held h t s) where
   pub held-kind : isKind 1 (rec s h) ≡ isKind 1 (rec t h)
   held-kind = rw (held-byte 0 (omega arith))
 
-  pub held-simple : simple (rec s h) ≡ simple (rec t h)
-  held-simple = rw (held-byte 0 (omega arith), held-byte 1 (omega arith))
+  pub held-keeps : keepsText (rec s h) ≡ keepsText (rec t h)
+  unfolding keepsText
+  held-keeps = rw (held-byte 0 (omega arith), held-byte 1 (omega arith), held-byte 5 (omega arith))
 
   pub held-level : level (rec s h) ≡ level (rec t h)
   held-level = held-byte 2 (omega arith)

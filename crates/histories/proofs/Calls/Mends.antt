@@ -1,5 +1,5 @@
--- A mend, cut anywhere: it clears headings that no entry names, and then text whose heading is no simple file by then, and nothing else.
--- So a heading that it clears is named by no entry, and text stays whose heading is a simple file that stays.
+-- A mend, cut anywhere: it clears headings that no entry names, and then text whose heading keeps none by then, and nothing else.
+-- So a heading that it clears is named by no entry, and text stays whose heading keeps it and stays.
 use mathlib.Core.Bool.{true, false}
 use mathlib.Core.List.{List}
 use mathlib.Core.Logic.{_⊎_, inl, inr, _≢_, by-cases}
@@ -14,17 +14,17 @@ use Rattle.paper.specs.Record.{byte, isKind, headingOf, simple, blank}
 use Rattle.paper.specs.Table.{rooms, rec}
 use Rattle.paper.specs.Entry.{named}
 use Rattle.paper.specs.Store.{run}
-use Rattle.paper.specs.Mend.{orphan, stray, mendFirst, mendSecond, mendStores, mended}
+use Rattle.paper.specs.Mend.{keepsText, orphan, stray, mendFirst, mendSecond, mendStores, mended}
 use Rattle.paper.specs.Answer.{mending}
 use Rattle.laws.proofs.Tests.{not-both, and-left, and-right}
 use Rattle.laws.proofs.Lists.{take-past}
 use Rattle.laws.proofs.Entries.{typed-kind}
-use Rattle.laws.proofs.Lay.{Whole, within}
+use Rattle.laws.proofs.Lay.{Whole, within, kind-blank}
 use Rattle.laws.proofs.Runs.{run-append, length-run}
 use Rattle.demands.proofs.Mending.Wipe.{Blanks, cut-wipe}
 use Rattle.demands.proofs.MendAnswered.{MendCame, unsized, unsound, whole, cutOff, mend-came}
 use Rattle.demands.proofs.SoundKept.Freed.{textOf}
-use Rattle.histories.proofs.Calls.Stores.{kind-blank, Lessened}
+use Rattle.histories.proofs.Calls.Stores.{Lessened}
 use Rattle.histories.proofs.Calls.Moved.{text-of}
 
 -- from t to s, by a mend
@@ -32,8 +32,12 @@ pub record Tidied (t s : List ℕ) : Type 0 where
   pub less : Lessened t s
   -- a heading that is none any more was named by no entry
   pub last : (h : ℕ) → byte (rec t h) 0 ≡ 1 → byte (rec s h) 0 ≢ 1 → named t h ≡ false
-  -- the text of a simple file that stays
-  pub texts : (h i : ℕ) → simple (rec t h) ≡ true → byte (rec s h) 0 ≡ 1 → textOf h (rec t i) ≡ true → rec s i ≡ rec t i
+  -- the text of a heading that keeps it and stays
+  pub texts : (h i : ℕ) → keepsText (rec t h) ≡ true → byte (rec s h) 0 ≡ 1 → textOf h (rec t i) ≡ true → rec s i ≡ rec t i
+
+keeps-kind : (r : List ℕ) → keepsText r ≡ true → byte r 0 ≡ 1
+unfolding keepsText
+keeps-kind r e = typed-kind 1 r (and-left (simple r) _ e)
 
 pub tidied-none : (t : List ℕ) → Tidied t t
 tidied-none t = record { less = record { long = refl; each = λ _ _. inl refl }; last = λ h k n. absurd (n k); texts = λ _ _ _ _ _. refl }
@@ -57,7 +61,7 @@ module _ (t : List ℕ) (w : Whole t) where
           go (inl q) = absurd (n (rw q k))
           go (inr q) = orphan-parts h (q .1) .1
 
-      texts : (h i : ℕ) → simple (rec t h) ≡ true → byte (rec s h) 0 ≡ 1 → textOf h (rec t i) ≡ true → rec s i ≡ rec t i
+      texts : (h i : ℕ) → keepsText (rec t h) ≡ true → byte (rec s h) 0 ≡ 1 → textOf h (rec t i) ≡ true → rec s i ≡ rec t i
       texts h i m z x = go (each i (within t i w (omega (arith, text-of h (rec t i) x .0))))
         where
           go : (rec s i ≡ rec t i) ⊎ Blanks (orphan t) i (rec s i) → rec s i ≡ rec t i
@@ -111,14 +115,14 @@ module _ (t : List ℕ) (w : Whole t) where
           go (inl q) (inr p) = let v : ⊥ = omega (arith, kind-blank (rec s h) (q ∙ p)) in absurd v
           go (inr q) (inr p) = let v : ⊥ = omega (arith, kind-blank (rec s h) (q .0)) in absurd v
 
-      texts : (h i : ℕ) → simple (rec t h) ≡ true → byte (rec s h) 0 ≡ 1 → textOf h (rec t i) ≡ true → rec s i ≡ rec t i
+      texts : (h i : ℕ) → keepsText (rec t h) ≡ true → byte (rec s h) 0 ≡ 1 → textOf h (rec t i) ≡ true → rec s i ≡ rec t i
       texts h i m z x = go (at-t i (within t i w (omega (arith, y .0))))
         where
           y : (byte (rec t i) 0 ≡ 3) × (headingOf (rec t i) ≡ h)
           y = text-of h (rec t i) x
 
           head : byte (rec t h) 0 ≡ 1
-          head = typed-kind 1 (rec t h) m
+          head = keeps-kind (rec t h) m
 
           in-h : h < rooms t
           in-h = within t h w (omega (arith, head))
@@ -132,8 +136,8 @@ module _ (t : List ℕ) (w : Whole t) where
           go : (rec s i ≡ rec t₁ i) ⊎ Blanks (stray t₁) i (rec s i) → rec s i ≡ rec t i
           go (inl q) = q ∙ kept
           go (inr q) =
-              let v : simple (rec t₁ (headingOf (rec t₁ i))) ≡ false = not-true _ (and-right (isKind 3 (rec t₁ i)) _ (q .1)) in
-              let a : simple (rec t h) ≡ false = rw (kept, y .1, same) at v in
+              let v : keepsText (rec t₁ (headingOf (rec t₁ i))) ≡ false = not-true _ (and-right (isKind 3 (rec t₁ i)) _ (q .1)) in
+              let a : keepsText (rec t h) ≡ false = rw (kept, y .1, same) at v in
               absurd (not-both m a)
 
   -- cut after k stores

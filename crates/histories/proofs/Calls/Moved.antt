@@ -1,5 +1,5 @@
 -- One call: what it may do to a heading and its text. A request goes by its plan, cut anywhere; DEL by a plan for each name, all of them
--- clearings; a mend clears headings that no entry names, and text whose heading is no simple file.
+-- clearings; a mend clears headings that no entry names, and text whose heading keeps none.
 use mathlib.Core.Bool.{true, false}
 use mathlib.Core.List.{List}
 use mathlib.Core.Logic.{_⊎_, inl, inr, _≢_, ⊎-elim}
@@ -9,17 +9,19 @@ use native.Mathlib.Omega.{arith}
 use lib.ListN.{length}
 use lib.Seq.{getD-set-other}
 use borrow.Author.Tests.{eqb-true}
-use Rattle.paper.specs.Record.{byte, isKind, headingCode, headingOf, blank}
+use Rattle.paper.specs.Record.{byte, isKind, headingCode, headingOf, rewritten, blank}
 use Rattle.paper.specs.Table.{rooms, rec}
 use Rattle.paper.specs.Code.{noWrite}
 use Rattle.paper.specs.Entry.{named}
 use Rattle.paper.specs.Effect.{recoded}
 use Rattle.laws.proofs.Tests.{not-both, and-left, and-right}
-use Rattle.laws.proofs.Lay.{within}
+use Rattle.laws.proofs.Rewritten.{rewritten-byte}
+use Rattle.laws.proofs.Lay.{within, kind-blank}
 use Rattle.demands.proofs.Sound.Clauses.{Sound}
 use Rattle.demands.proofs.Sound.Points.{text-points}
 use Rattle.demands.proofs.SoundKept.Freed.{textOf}
-use Rattle.histories.proofs.Calls.Stores.{kind-blank, Put, heading, text, entry, cleared, recodes, Kept, Of, Left, stored, rid}
+use Rattle.demands.proofs.SoundKept.Retexted.{none, some, mine-not}
+use Rattle.histories.proofs.Calls.Stores.{Put, heading, text, entry, cleared, recodes, rewrites, retexts, Kept, Of, Left, stored, rid}
 use Rattle.histories.proofs.Calls.Held.{Held}
 
 -- a text record of h, in numbers
@@ -56,6 +58,9 @@ kind-recoded : (r : List ℕ) (code : ℕ) → byte (recoded r code) 0 ≡ byte 
 unfolding recoded
 kind-recoded r code = getD-set-other r 3 0 code 0 (omega arith)
 
+kind-rewritten : (r : List ℕ) (mark n : ℕ) → byte (rewritten r mark n) 0 ≡ byte r 0
+kind-rewritten r mark n = rewritten-byte r mark n 0 (omega arith, inl (omega arith))
+
 -- a heading laid over stays one
 pub put-over : (t : List ℕ) (h : ℕ) (r : List ℕ) → byte (rec t h) 0 ≡ 1 → Put t h r → byte r 0 ≡ 1
 put-over t h r k (heading a b) = b
@@ -64,6 +69,8 @@ put-over t h r k (entry (inl a) b) = let z : ⊥ = omega arith in absurd z
 put-over t h r k (entry (inr a) b) = let z : ⊥ = omega arith in absurd z
 put-over t h r k (cleared a b) = let z : ⊥ = omega arith in absurd z
 put-over t h r k (recodes code b a w x q) = rw q (kind-recoded (rec t h) code ∙ k)
+put-over t h r k (rewrites mark n b a w q) = rw q (kind-rewritten (rec t h) mark n ∙ k)
+put-over t h r k (retexts g a w m n) = absurd (mine-not g (rec t h) 1 m (omega arith) (omega arith) k)
 
 module _ (t s : List ℕ) (c : Sound t) (e : length s ≡ length t) where
   -- what is laid over a capped heading, or over text
@@ -74,27 +81,42 @@ module _ (t s : List ℕ) (c : Sound t) (e : length s ≡ length t) where
   no-put h k n (entry (inr a) b) = omega arith
   no-put h k n (cleared a b) = omega arith
   no-put h k n (recodes code b a w x q) = not-both n w
+  no-put h k n (rewrites mark m b a w q) = not-both n w
+  no-put h k n (retexts g a w x y) = mine-not g (rec t h) 1 x (omega arith) (omega arith) k
 
-  no-put-text : (i : ℕ) → byte (rec t i) 0 ≡ 3 → Put t i (rec s i) → ⊥
-  no-put-text i k (heading a b) = omega arith
-  no-put-text i k (text a b d) = omega arith
-  no-put-text i k (entry (inl a) b) = omega arith
-  no-put-text i k (entry (inr a) b) = omega arith
-  no-put-text i k (cleared a b) = omega arith
-  no-put-text i k (recodes code b a w x q) = omega arith
+  -- heading h may be written
+  abbrev Open : ℕ → Type 0
+  Open h = (byte (rec t h) 0 ≡ 1) × (noWrite (headingCode (rec t h)) ≡ false)
 
-  -- text of h that is laid lies in a free record, and so does its heading
-  put-text : (h i : ℕ) → textOf h (rec s i) ≡ true → Put t i (rec s i) → (byte (rec t i) 0 ≡ 0) × (byte (rec t h) 0 ≡ 0)
+  -- over text of h only a rewrite of h lays anything
+  put-over-text : (h i : ℕ) → (byte (rec t i) 0 ≡ 3) × (headingOf (rec t i) ≡ h) → Put t i (rec s i) → Open h
+  put-over-text h i y (heading a b) = let z : ⊥ = omega (arith, y .0) in absurd z
+  put-over-text h i y (text a b d) = let z : ⊥ = omega (arith, y .0) in absurd z
+  put-over-text h i y (entry (inl a) b) = let z : ⊥ = omega (arith, y .0) in absurd z
+  put-over-text h i y (entry (inr a) b) = let z : ⊥ = omega (arith, y .0) in absurd z
+  put-over-text h i y (cleared a b) = let z : ⊥ = omega (arith, y .0) in absurd z
+  put-over-text h i y (recodes code b a w x q) = let z : ⊥ = omega (arith, y .0) in absurd z
+  put-over-text h i y (rewrites mark n b a w q) = let z : ⊥ = omega (arith, y .0) in absurd z
+  put-over-text h i y (retexts g a w (none x) m) = let z : ⊥ = omega (arith, y .0, kind-blank (rec t i) x) in absurd z
+  put-over-text h i y (retexts g a w (some x e) m) = let z : g ≡ h = sym e ∙ y .1 in rw (← z) (a, w)
+
+  -- text of h that is laid lies in a free record, and so does its heading; or h is rewritten
+  put-text : (h i : ℕ) → textOf h (rec s i) ≡ true → Put t i (rec s i) → ((byte (rec t i) 0 ≡ 0) × (byte (rec t h) 0 ≡ 0)) ⊎ Open h
   put-text h i x p = go (text-of h (rec s i) x) p
     where
-      go : (byte (rec s i) 0 ≡ 3) × (headingOf (rec s i) ≡ h) → Put t i (rec s i) → (byte (rec t i) 0 ≡ 0) × (byte (rec t h) 0 ≡ 0)
+      go : (byte (rec s i) 0 ≡ 3) × (headingOf (rec s i) ≡ h) → Put t i (rec s i) → ((byte (rec t i) 0 ≡ 0) × (byte (rec t h) 0 ≡ 0)) ⊎ Open h
       go y (heading a b) = let z : ⊥ = omega (arith, y .0) in absurd z
-      go y (text a b d) = (a, rw (y .1) at d)
+      go y (text a b d) = inl (a, rw (y .1) at d)
       go y (entry a b) = let z : ⊥ = omega (arith, y .0) in absurd z
       go y (cleared a b) = let z : ⊥ = omega (arith, y .0, kind-blank (rec s i) b) in absurd z
       go y (recodes code b a w v q) =
           let g : byte (rec s i) 0 ≡ byte (rec t i) 0 = rw q (kind-recoded (rec t i) code) in
           let z : ⊥ = omega (arith, y .0) in absurd z
+      go y (rewrites mark n b a w q) =
+          let g : byte (rec s i) 0 ≡ byte (rec t i) 0 = rw q (kind-rewritten (rec t i) mark n) in
+          let z : ⊥ = omega (arith, y .0) in absurd z
+      go y (retexts g a w m (none v)) = let z : ⊥ = omega (arith, y .0, kind-blank (rec s i) v) in absurd z
+      go y (retexts g a w m (some v e)) = let z : g ≡ h = sym e ∙ y .1 in inr (rw (← z) (a, w))
 
   -- a heading laid where none was lies on a free record
   put-heading : (h : ℕ) → byte (rec t h) 0 ≢ 1 → byte (rec s h) 0 ≡ 1 → Put t h (rec s h) → byte (rec t h) 0 ≡ 0
@@ -103,6 +125,8 @@ module _ (t s : List ℕ) (c : Sound t) (e : length s ≡ length t) where
   put-heading h n k (entry a b) = let z : ⊥ = omega arith in absurd z
   put-heading h n k (cleared a b) = let z : ⊥ = omega (arith, kind-blank (rec s h) b) in absurd z
   put-heading h n k (recodes code b a w x q) = absurd (n a)
+  put-heading h n k (rewrites mark m b a w q) = absurd (n a)
+  put-heading h n k (retexts g a w x y) = absurd (mine-not g (rec s h) 1 y (omega arith) (omega arith) k)
 
   in-t : (i : ℕ) → byte (rec t i) 0 ≢ 0 → i < rooms t
   in-t i n = within t i (c .whole) n
@@ -136,25 +160,29 @@ module _ (t s : List ℕ) (c : Sound t) (e : length s ≡ length t) where
         go (inl q) = let y : byte (rec t i) 0 ≡ 1 = rw q (g .heading) in omega (arith, x .0)
         go (inr q) = let y : h ≡ g .file = sym (x .1) ∙ q .1 in omega (arith, rw y at z, kind-blank (rec s (g .file)) (g .cleared))
 
-    same-text : (h i : ℕ) → byte (rec t h) 0 ≡ 1 → byte (rec s h) 0 ≡ 1 → (textOf h (rec t i) ≡ true) ⊎ (textOf h (rec s i) ≡ true)
-        → rec s i ≡ rec t i
-    same-text h i k z (inl x) = go (each i (in-t i (omega (arith, y .0))))
+    same-text : (h i : ℕ) → byte (rec t h) 0 ≡ 1 → noWrite (headingCode (rec t h)) ≡ true → byte (rec s h) 0 ≡ 1
+        → (textOf h (rec t i) ≡ true) ⊎ (textOf h (rec s i) ≡ true) → rec s i ≡ rec t i
+    same-text h i k n z (inl x) = go (each i (in-t i (omega (arith, y .0))))
       where
         y : (byte (rec t i) 0 ≡ 3) × (headingOf (rec t i) ≡ h)
         y = text-of h (rec t i) x
 
         go : Kept t s i ⊎ Gone i → rec s i ≡ rec t i
         go (inl (inl q)) = q
-        go (inl (inr p)) = absurd (no-put-text i (y .0) p)
+        go (inl (inr p)) = absurd (not-both n (put-over-text h i y p .1))
         go (inr g) = absurd (not-of h i z y g)
-    same-text h i k z (inr x) = go (each i (in-s i (omega (arith, y .0))))
+    same-text h i k n z (inr x) = go (each i (in-s i (omega (arith, y .0))))
       where
         y : (byte (rec s i) 0 ≡ 3) × (headingOf (rec s i) ≡ h)
         y = text-of h (rec s i) x
 
+        laid : ((byte (rec t i) 0 ≡ 0) × (byte (rec t h) 0 ≡ 0)) ⊎ Open h → ⊥
+        laid (inl a) = omega (arith, a .1)
+        laid (inr o) = not-both n (o .1)
+
         go : Kept t s i ⊎ Gone i → rec s i ≡ rec t i
         go (inl (inl q)) = q
-        go (inl (inr p)) = let v : ⊥ = omega (arith, put-text h i x p .1) in absurd v
+        go (inl (inr p)) = absurd (laid (put-text h i x p))
         go (inr g) = let v : ⊥ = omega (arith, y .0, kind-blank (rec s i) (g .empty)) in absurd v
 
     lost-name : (h : ℕ) → byte (rec t h) 0 ≡ 1 → byte (rec s h) 0 ≢ 1 → named s h ≡ false
@@ -183,11 +211,15 @@ module _ (t s : List ℕ) (c : Sound t) (e : length s ≡ length t) where
         y : (byte (rec s i) 0 ≡ 3) × (headingOf (rec s i) ≡ h)
         y = text-of h (rec s i) x
 
+        laid : ((byte (rec t i) 0 ≡ 0) × (byte (rec t h) 0 ≡ 0)) ⊎ Open h → byte (rec t i) 0 ≡ 0
+        laid (inl a) = a .0
+        laid (inr o) = absurd (n (o .0))
+
         go : Kept t s i ⊎ Gone i → byte (rec t i) 0 ≡ 0
         go (inl (inl q)) =
             let v : byte (rec t i) 0 ≡ 3 = rw q at (y .0) in
             absurd (n (rw (← q, y .1) at (text-points 65535 t c i (in-t i (omega arith)) v)))
-        go (inl (inr p)) = put-text h i x p .0
+        go (inl (inr p)) = laid (put-text h i x p)
         go (inr g) = let v : ⊥ = omega (arith, y .0, kind-blank (rec s i) (g .empty)) in absurd v
 
     moved-by : Moved t s
@@ -196,7 +228,7 @@ module _ (t s : List ℕ) (c : Sound t) (e : length s ≡ length t) where
           long = e;
           held = λ h k n z.
               let q = same-heading h k n z in
-              record { long = e; front = rw q; back = rw q; texts = λ i. same-text h i k z };
+              record { long = e; front = rw q; back = rw q; texts = λ i. same-text h i k n z };
           last = lost-name;
           new = new-heading;
           fresh = new-text;

@@ -23,7 +23,7 @@ use Rattle.paper.specs.Sound.{implies}
 use Rattle.paper.specs.Block.{block, fileText}
 use Rattle.paper.specs.Walk.{State, applies, file, reached, toLast, lastName}
 use Rattle.paper.specs.Store.{Store, puts, run}
-use Rattle.paper.specs.Effect.{Planned, plan, halted, chainOf, toHolder, toEnd, Making, borne, placing, needed, writeInhibited, making, filing, linking, newFile, freed, lost, settled, recoded, renamed, crdPlan, wrsPlan, cpyPlan, dupPlan, chnPlan, dprPlan, delPlan, rdsPlan, lstPlan, lstBasePlan, lstTreePlan, lstBaseTreePlan}
+use Rattle.paper.specs.Effect.{Planned, plan, halted, chainOf, toHolder, toEnd, Making, borne, placing, needed, writeInhibited, making, filing, linking, newFile, freed, lost, settled, recoded, renamed, crdPlan, wrsPlan, cpyPlan, dupPlan, chnPlan, dprPlan, delPlan, rdsPlan, lstPlan, lstBasePlan, lstTreePlan, lstBaseTreePlan, rewriting, rewritePlan}
 use Rattle.laws.proofs.Tests.{truth, not-both, false-by, implies-use}
 use Rattle.laws.proofs.Scans.{any-here, any-none, all-true}
 use Rattle.laws.proofs.Lists.{Every, every-parts, every-append, every-imp}
@@ -37,7 +37,9 @@ use Rattle.demands.proofs.Request.Fair.{Idle, verdict-idle}
 use Rattle.demands.proofs.Request.Steps.{last-looked, holder-by, end-by}
 use Rattle.demands.proofs.Request.Walked.{walk-reached}
 use Rattle.demands.proofs.SoundKept.Filed.{Roomy, Laid, each-laid, roomy, length-file, was-free, text-kind, small}
-use Rattle.histories.proofs.Calls.Stores.{Put, heading, text, entry, cleared, recodes, Puts, Shaped, plain, freeing}
+use Rattle.demands.proofs.SoundKept.Emptied.{Medium}
+use Rattle.demands.proofs.SoundKept.Rewriting.{Rewrites, head-again, mine-now, each-rewrites, Grants, rewrite-grants}
+use Rattle.histories.proofs.Calls.Stores.{Put, heading, text, entry, cleared, recodes, rewrites, retexts, Puts, Shaped, plain, freeing}
 
 abbrev pub Shape : List ℕ → Planned → Type 0
 Shape t (halted f) = Unit {0}
@@ -277,3 +279,29 @@ module _ (t : List ℕ) (c : Sound t) where
   pub lst-base-tree-shape : (u : ℕ) (reply : List ℕ) (depth : ℕ) → Shape t (lstBaseTreePlan t u reply depth)
   unfolding lstBaseTreePlan
   lst-base-tree-shape u reply depth _ = plain tt
+
+  -- a rewrite asks write of the joined code
+  writable : (d e : State) (name : Word) → toLast t d (chainOf name) ≡ reached e → noWrite (e .code) ≡ false
+      → noWrite (headingCode (rec t (file t e))) ≡ false
+  unfolding applies
+  writable d e name q n =
+      let g = walk-reached 65535 t c d (chainOf name) e q in
+      let w : noWrite (applies t (e .entry)) ≡ false = rw (g .looked .code) at n in
+      own-code (headingCode (rec t (file t e))) (entryCode (rec t (e .entry))) (g .fields .code) (entry-code _ (g .own)) w
+
+  pub rewrite-shape : (u : ℕ) (body : List ℕ) (name : Word) → length body ≤ 24000 → Shape t (rewritePlan t u body name)
+  rewrite-shape u body name short = go (rewritePlan t u body name) (rewrite-grants t c u body name short)
+    where
+      put : (h : ℕ) → Medium t h → noWrite (headingCode (rec t h)) ≡ false → (i : ℕ) (r : List ℕ) → Rewrites t h i r → Put t i r
+      put h f w i r (head-again q mark n b z) = rewrites mark n b (rw q (f .kind)) (rw q w) (rw q z)
+      put h f w i r (mine-now a b) = retexts h (f .kind) w a b
+
+      go : (x : Planned) → Grants t u body name x → Shape t x
+      go (halted f) h = tt
+      go (plan p) h = λ v.
+          let g = h v in
+          let f : ℕ = file t (g .end) in
+          let w = writable (g .directory) (g .end) name (g .last) (g .write) in
+          plain (rw (g .stores) (every-imp (Lays (Rewrites t f) (rooms t)) (Puts t) (rewriting t f body)
+          (λ s l. record { within = l .within; size = l .size; holds = put f (g .fit .file) w (s .at) (s .bytes) (l .holds) })
+          (each-rewrites t f body c (g .fit))))

@@ -1,5 +1,5 @@
 -- What the stores of any request are, on a sound table: new records on free ones, an entry laid again or cleared, a heading with more
--- inhibited and write not inhibited before; and then, at most, one file freed that no entry names by then.
+-- inhibited and write not inhibited before, a file rewritten; and then, at most, one file freed that no entry names by then.
 use mathlib.Core.Bool.{true, false}
 use mathlib.Core.List.{List, _++_}
 use mathlib.Core.Logic.{_⊎_, inl, inr, _≢_, by-cases, ⊎-elim}
@@ -10,7 +10,7 @@ use native.Mathlib.Decide.{decLe, ℕ-discrete}
 use lib.ListN.{length, take}
 use lib.Seq.{take-append-le}
 use Rattle.paper.specs.Scan.{eachBelow}
-use Rattle.paper.specs.Record.{byte, headingCode, headingOf, names, blank}
+use Rattle.paper.specs.Record.{byte, headingCode, headingOf, names, rewritten, blank}
 use Rattle.paper.specs.Table.{rooms, rec, lay, textRoom}
 use Rattle.paper.specs.Code.{noWrite, lacks}
 use Rattle.paper.specs.Entry.{named}
@@ -20,10 +20,11 @@ use Rattle.paper.specs.Effect.{freed, recoded}
 use Rattle.laws.proofs.Tests.{not-both, false-by}
 use Rattle.laws.proofs.Scans.{any-here, any-none}
 use Rattle.laws.proofs.Lists.{Every, every-take, every-each, take-past}
-use Rattle.laws.proofs.Lay.{Whole, lay-same, lay-other, rooms-lay, length-lay, length-blank, within}
+use Rattle.laws.proofs.Lay.{Whole, lay-same, lay-other, rooms-lay, length-lay, length-blank, within, kind-blank}
 use Rattle.laws.proofs.Runs.{Lays, run-each, run-append, length-run, rooms-run}
 use Rattle.demands.proofs.Sound.Clauses.{Sound}
 use Rattle.demands.proofs.SoundKept.Freed.{text-found}
+use Rattle.demands.proofs.SoundKept.Retexted.{Mine}
 
 -- r laid in record i of t, by any request
 pub data Put (t : List ℕ) (i : ℕ) (r : List ℕ) : Type 0 where
@@ -33,6 +34,9 @@ pub data Put (t : List ℕ) (i : ℕ) (r : List ℕ) : Type 0 where
   cleared : byte (rec t i) 0 ≡ 2 → r ≡ blank → Put t i r
   recodes : (code : ℕ) → code ≤ 7 → byte (rec t i) 0 ≡ 1 → noWrite (headingCode (rec t i)) ≡ false → lacks code (headingCode (rec t i)) ≡ false
       → r ≡ recoded (rec t i) code → Put t i r
+  -- a rewrite: a heading that may be written with another mark and length; text of it, or nothing, where text of it or nothing was
+  rewrites : (mark n : ℕ) → n ≤ 24000 → byte (rec t i) 0 ≡ 1 → noWrite (headingCode (rec t i)) ≡ false → r ≡ rewritten (rec t i) mark n → Put t i r
+  retexts : (h : ℕ) → byte (rec t h) 0 ≡ 1 → noWrite (headingCode (rec t h)) ≡ false → Mine h (rec t i) → Mine h r → Put t i r
 
 abbrev pub Puts : List ℕ → Store → Type 0
 Puts t = Lays (Put t) (rooms t)
@@ -47,11 +51,6 @@ pub data Shaped (t : List ℕ) (ss : List Store) : Type 0 where
 pub record Lessened (t s : List ℕ) : Type 0 where
   pub long : length s ≡ length t
   pub each : (i : ℕ) → i < rooms t → (rec s i ≡ rec t i) ⊎ (rec s i ≡ blank)
-
--- a blank record is of no kind
-pub kind-blank : (r : List ℕ) → r ≡ blank → byte r 0 ≡ 0
-unfolding blank
-kind-blank r q = rw q
 
 -- what is of a kind stayed
 pub less-stays : (t s : List ℕ) → Whole t → Lessened t s → (i : ℕ) → byte (rec s i) 0 ≢ 0 → rec s i ≡ rec t i

@@ -4,15 +4,15 @@ use mathlib.Core.List.{List}
 use mathlib.Core.Path.{_≡_}
 use Prim.Native.Nat.{ℕ}
 use Rattle.paper.specs.Line.{Word}
-use Rattle.paper.specs.Request.{Request, crd, wrs, rds, cpy, dup, chn, del, dpr, lst, lstBase, lstTree, lstBaseTree}
-use Rattle.paper.specs.Effect.{Planned, crdPlan, wrsPlan, rdsPlan, cpyPlan, dupPlan, chnPlan, dprPlan, lstPlan, lstBasePlan, lstTreePlan, lstBaseTreePlan, listOf, begun}
+use Rattle.paper.specs.Request.{Request, crd, wrs, rds, cpy, dup, chn, del, dpr, lst, lstBase, lstTree, lstBaseTree, rewrite}
+use Rattle.paper.specs.Effect.{Planned, crdPlan, wrsPlan, rdsPlan, cpyPlan, dupPlan, chnPlan, dprPlan, lstPlan, lstBasePlan, lstTreePlan, lstBaseTreePlan, rewritePlan, listOf, begun}
 use Rattle.paper.specs.Answer.{ran, single, deleting, granted, requested}
 use Rattle.laws.proofs.Entries.{link-short}
 use Rattle.demands.proofs.Sound.Clauses.{Sound, sound-clauses}
 use Rattle.demands.proofs.Request.Formed.{named-last}
 use Rattle.demands.proofs.Request.Read.{Told}
 use Rattle.demands.proofs.Request.Course.{Course, untried, tried, course}
-use Rattle.histories.proofs.Calls.Shapes.{Shape, crd-shape, wrs-shape, cpy-shape, dup-shape, chn-shape, dpr-shape, rds-shape, lst-shape, lst-base-shape, lst-tree-shape, lst-base-tree-shape}
+use Rattle.histories.proofs.Calls.Shapes.{Shape, crd-shape, wrs-shape, cpy-shape, dup-shape, chn-shape, dpr-shape, rds-shape, lst-shape, lst-base-shape, lst-tree-shape, lst-base-tree-shape, rewrite-shape}
 
 pub data Way (t line text reply : List ℕ) (u : ℕ) : Type 0 where
   lent : ((k : ℕ) → requested t line text reply u k .table ≡ t) → Way t line text reply u
@@ -44,6 +44,7 @@ module _ (t line text reply : List ℕ) (u : ℕ) where
   granted-way c (lstTree from name depth) h =
       by-plan c (lstTreePlan t (listOf u from) reply (begun from name) depth) (lst-tree-shape t c (listOf u from) reply (begun from name) depth)
   granted-way c (lstBaseTree depth) h = by-plan c (lstBaseTreePlan t u reply depth) (lst-base-tree-shape t c u reply depth)
+  granted-way c (rewrite name) h = by-plan c (rewritePlan t u text name) (rewrite-shape t c u text name (h .text))
 
   pub ways : Way t line text reply u
   ways = go (course t line text reply u)

@@ -14,11 +14,11 @@ use Rattle.paper.specs.Record.{byte, headingCode}
 use Rattle.paper.specs.Table.{sized, rec}
 use Rattle.paper.specs.Line.{Word}
 use Rattle.paper.specs.Check.{Refusal, Verdict, passed, refused, verdict}
-use Rattle.paper.specs.Request.{Request, crd, wrs, rds, cpy, dup, chn, del, dpr, lst, lstBase, lstTree, lstBaseTree, Read, request, unread, asked}
+use Rattle.paper.specs.Request.{Request, crd, wrs, rds, cpy, dup, chn, del, dpr, lst, lstBase, lstTree, lstBaseTree, rewrite, Read, request, unread, asked}
 use Rattle.paper.specs.Code.{noRead}
 use Rattle.paper.specs.Sound.{sound}
 use Rattle.paper.specs.Store.{Store, run}
-use Rattle.paper.specs.Effect.{Planned, crdPlan, wrsPlan, rdsPlan, cpyPlan, dupPlan, chnPlan, delPlan, dprPlan, lstPlan, lstBasePlan, lstTreePlan, lstBaseTreePlan, listOf, begun}
+use Rattle.paper.specs.Effect.{Planned, crdPlan, wrsPlan, rdsPlan, cpyPlan, dupPlan, chnPlan, delPlan, dprPlan, lstPlan, lstBasePlan, lstTreePlan, lstBaseTreePlan, rewritePlan, listOf, begun}
 use Rattle.paper.specs.Mend.{mendStores, mended}
 use Rattle.paper.specs.Answer.{Outcome, refusing, ran, single, oneName, deleting, granted, entrance, acted, admitted, requested, mendable, mendRun, mending}
 use Rattle.laws.proofs.Tests.{truth, same-truth}
@@ -34,12 +34,12 @@ use Rattle.demands.proofs.SoundKept.Kept.{passed-sound, del-keeps}
 use Rattle.demands.proofs.Mending.Debris.{nothing-to-mend, sound-keeps}
 use Rattle.histories.specs.History.{Call, asks, mends, called, heads}
 use Rattle.histories.proofs.Calls.Stores.{less-stays}
-use Rattle.histories.proofs.Calls.Shapes.{Shape, crd-shape, wrs-shape, cpy-shape, dup-shape, chn-shape, dpr-shape, del-shape, rds-shape, lst-shape, lst-base-shape, lst-tree-shape, lst-base-tree-shape}
+use Rattle.histories.proofs.Calls.Shapes.{Shape, crd-shape, wrs-shape, cpy-shape, dup-shape, chn-shape, dpr-shape, del-shape, rds-shape, lst-shape, lst-base-shape, lst-tree-shape, lst-base-tree-shape, rewrite-shape}
 use Rattle.histories.proofs.Calls.Requests.{passed-shaped, Clears, lessened}
 use Rattle.histories.proofs.Calls.Mendable.{Mendable, mendable-whole}
 use Rattle.histories.proofs.BetweenStores.{mend-clears}
 use Rattle.histories.proofs.SealStays.Veils.{Veil, run-veil, mend-veil}
-use Rattle.histories.proofs.SealStays.Plans.{Same, one, neither, crd-same, wrs-same, cpy-same, dup-same, chn-same, dpr-same, del-same, rds-same, lst-same, lst-base-same, lst-tree-same, lst-base-tree-same}
+use Rattle.histories.proofs.SealStays.Plans.{Same, one, neither, crd-same, wrs-same, cpy-same, dup-same, chn-same, dpr-same, del-same, rds-same, lst-same, lst-base-same, lst-tree-same, lst-base-tree-same, rewrite-same}
 use Rattle.histories.proofs.SealStays.Stays.{Sealed, Hidden, equal, veiled, gone-equal, stores-hidden, all-hidden}
 
 -- two outcomes that show the same, over tables that differ in a sealed text alone
@@ -155,6 +155,8 @@ module _ (h : ℕ) (t s text reply : List ℕ) (u j : ℕ) (v : Veil h t s) (c :
   granted-agree (lstBaseTree depth) w =
       by-plan (lstBaseTreePlan t u reply depth) (lstBaseTreePlan s u reply depth) (lst-base-tree-shape t c u reply depth)
       (lst-base-tree-same h t s v c n u reply depth)
+  granted-agree (rewrite name) w =
+      by-plan (rewritePlan t u text name) (rewritePlan s u text name) (rewrite-shape t c u text name (w .text)) (rewrite-same h t s v c n u text name)
 
 -- ---- any table of a history
 

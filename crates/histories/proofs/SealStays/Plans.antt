@@ -3,13 +3,13 @@
 use mathlib.Core.Bool.{true}
 use mathlib.Core.List.{List, [], _∷_}
 use mathlib.Core.Logic.{_≢_, by-cases}
-use mathlib.Core.Path.{_≡_, refl}
+use mathlib.Core.Path.{_≡_, refl, ap}
 use Prim.Native.Nat.{ℕ, _≤_, _<_}
 use native.Mathlib.Omega.{arith}
 use native.Mathlib.Decide.{ℕ-discrete}
 use lib.ListN.{length}
 use Rattle.paper.specs.Scan.{Found, at, nowhere, allBelow}
-use Rattle.paper.specs.Record.{byte, headingCode, entryCode, blank}
+use Rattle.paper.specs.Record.{byte, headingCode, entryCode, rewritten, blank}
 use Rattle.paper.specs.Table.{rooms, rec, room}
 use Rattle.paper.specs.Declaration.{Part, orElse}
 use Rattle.paper.specs.Line.{Word}
@@ -17,18 +17,23 @@ use Rattle.paper.specs.Check.{Place, Refusal, refusalAt, Check, verdict, refuse
 use Rattle.paper.specs.Request.{Begin, own, takeOf, giveTo}
 use Rattle.paper.specs.Code.{joined, noRead}
 use Rattle.paper.specs.Sound.{implies}
-use Rattle.paper.specs.Block.{fileText}
+use Rattle.paper.specs.Block.{blocksOf, fileText}
 use Rattle.paper.specs.Walk.{State, start, applies, file, Walked, reached, stopped, toDirectory, toLast, lastName, lastFrom, endFrom, ended}
-use Rattle.paper.specs.Effect.{Planned, onward, inward, chainOf, endOf, toHolder, toEnd, Making, borne, placing, displacing, readInhibited, linkTaken, making, filing, linking, newFile, crdPlan, wrsPlan, cpyPlan, dupPlan, chnPlan, dprPlan, delPlan, rdsPlan, lstPlan, lstBasePlan, lstTreePlan, lstBaseTreePlan}
+use Rattle.paper.specs.Store.{Store, puts, run}
+use Rattle.paper.specs.Effect.{Planned, onward, inward, chainOf, endOf, toHolder, toEnd, Making, borne, placing, displacing, readInhibited, linkTaken, making, filing, linking, newFile, crdPlan, wrsPlan, cpyPlan, dupPlan, chnPlan, dprPlan, delPlan, rdsPlan, lstPlan, lstBasePlan, lstTreePlan, lstBaseTreePlan, emptying, laying, rewriting, rewritePlan}
 use Rattle.laws.proofs.Tests.{implies-use}
 use Rattle.laws.proofs.Scans.{all-true}
+use Rattle.laws.proofs.Lists.{Every, join-cong, every-each}
 use Rattle.laws.proofs.Fields.{length-entry}
 use Rattle.laws.proofs.Entries.{found-stands}
-use Rattle.laws.proofs.Lay.{length-blank}
+use Rattle.laws.proofs.Rewritten.{length-rewritten}
+use Rattle.laws.proofs.Lay.{length-rec, length-blank, within}
+use Rattle.laws.proofs.Runs.{Lays}
 use Rattle.demands.proofs.Sound.Clauses.{Sound, entry-code}
 use Rattle.demands.proofs.Request.Ended.{Refused, checked}
 use Rattle.demands.proofs.Request.Walked.{Reached, walk-reached}
-use Rattle.histories.proofs.SealStays.Veils.{Veil, rooms-veil, named-veil, rec-veil, simple-veil, directory-veil, find-veil, full-veil, frees-veil}
+use Rattle.demands.proofs.SoundKept.Freed.{text-found}
+use Rattle.histories.proofs.SealStays.Veils.{Veil, rooms-veil, named-veil, rec-veil, directory-veil, find-veil, full-veil, frees-veil, text-room-veil, run-veil}
 use Rattle.histories.proofs.SealStays.Walks.{to-directory-veil, to-last-veil, losing-veil, settled-veil, file-text-veil, directory-lines-veil, base-lines-veil, directory-tree-veil, base-tree-veil}
 
 -- one plan, or refused alike
@@ -207,7 +212,7 @@ module _ (h : ℕ) (t s : List ℕ) (v : Veil h t s) (c : Sound t) (seal : noRea
       (λ (q : file t f ≡ h).
       let z = sealed d f _ r q in
       neither (no-reading (endOf 1 name)) (checked _ refl (thirteen _ f _ z)) (checked _ refl (thirteen _ f _ z)))
-      (λ (q : file t f ≢ h). one (rw (file-same f, simple-veil h t s v (file t f), file-text-veil h t s v (c .whole) (file t f) q (r .heading)))))
+      (λ (q : file t f ≢ h). one (rw (file-same f, heading-same d f _ r, file-text-veil h t s v (c .whole) (file t f) q (r .heading)))))
 
   -- a plan whose first check is that of reading
   refused-making : (m : Making) (p : Place) (f : State) (a b e : List Check) (x : List ℕ) → noRead (f .code) ≡ true
@@ -224,5 +229,38 @@ module _ (h : ℕ) (t s : List ℕ) (v : Veil h t s) (c : Sound t) (seal : noRea
       let z = sealed o f _ r q in
       neither (no-reading (endOf 1 old)) (refused-making _ _ f [] _ _ t z) (refused-making _ _ f [] _ _ s z))
       (λ (q : file t f ≢ h).
-      one (rw (file-same f, simple-veil h t s v (file t f), heading-same o f _ r, file-text-veil h t s v (c .whole) (file t f) q (r .heading))
+      one (rw (file-same f, heading-same o f _ r, file-text-veil h t s v (c .whole) (file t f) q (r .heading))
       (filing-same 2 new d (orElse code 0) _ (fileText t (file t f)) _ _ _ l)))))
+
+  -- a file emptied: the same records cleared, whatever they hold
+  emptying-same : (g : ℕ) → byte (rec t g) 0 ≡ 1 → rec s g ≡ rec t g → emptying s g ≡ emptying t g
+  unfolding emptying
+  emptying-same g k e =
+      rw e (ap (λ (x : List Store). puts g (rewritten (rec t g) 1 0) ∷ x) (join-cong _ _ (blocksOf t g) (λ p _. rw (text-room-veil h t s v g p))))
+
+  emptied-veil : (g : ℕ) → byte (rec t g) 0 ≡ 1 → Veil h (run t (emptying t g)) (run s (emptying t g))
+  emptied-veil g k = run-veil h (λ _ _. Unit {0}) (emptying t g) t s (c .whole) each v
+    where
+      l : g < rooms t
+      l = within t g (c .whole) (omega arith)
+
+      each : Every (Lays (λ _ _. Unit {0}) (rooms t)) (emptying t g)
+      each =
+          unfold emptying in (
+            record { within = l; size = length-rewritten (rec t g) 1 0 (length-rec t g l); holds = tt },
+            every-each _ _ (blocksOf t g) (λ p b. record { within = text-found 65535 t g c k p b .0; size = length-blank; holds = tt }),
+          )
+
+  laying-same : (g : ℕ) → byte (rec t g) 0 ≡ 1 → (body : List ℕ) → laying (run s (emptying t g)) g body ≡ laying (run t (emptying t g)) g body
+  unfolding laying
+  laying-same g k body = rw (frees-veil h _ _ (emptied-veil g k), rooms-veil h _ _ (emptied-veil g k))
+
+  -- a rewrite: the same records cleared and laid
+  pub rewrite-same : (u : ℕ) (body : List ℕ) (name : Word) → Same (rewritePlan t u body name) (rewritePlan s u body name)
+  unfolding rewritePlan
+  rewrite-same u body name =
+      end-same u 2 name _ _ (λ d f r.
+      one (rw (file-same f, rewriting-same (file t f) (r .heading) (heading-same d f _ r), heading-same d f _ r, frees-veil h t s v)))
+    where
+      rewriting-same : (g : ℕ) → byte (rec t g) 0 ≡ 1 → rec s g ≡ rec t g → rewriting s g body ≡ rewriting t g body
+      rewriting-same g k e = unfold rewriting in rw (emptying-same g k e, e, laying-same g k body)

@@ -1,5 +1,5 @@
 -- The same stores on two such tables keep them such: each lays one record in one place of both. And the seal stays while the heading is
--- one: only DPR lays it again, with every bit that it had.
+-- one: only DPR lays it again with another code, with every bit that it had, and `WRS*` keeps its code.
 use mathlib.Core.Bool.{true, false}
 use mathlib.Core.List.{List}
 use mathlib.Core.Logic.{_⊎_, inl, inr}
@@ -15,12 +15,14 @@ use Rattle.paper.specs.Code.{joined, noRead}
 use Rattle.paper.specs.Store.{Store, run}
 use Rattle.paper.specs.Effect.{recoded, freed}
 use Rattle.laws.proofs.Lists.{Every, every-take, every-append, every-imp}
-use Rattle.laws.proofs.Lay.{ext-table, length-rec, within}
+use Rattle.laws.proofs.Rewritten.{rewritten-byte}
+use Rattle.laws.proofs.Lay.{ext-table, length-rec, within, kind-blank}
 use Rattle.laws.proofs.Runs.{Lays}
 use Rattle.demands.proofs.Sound.Clauses.{Sound, heading-fields}
 use Rattle.demands.proofs.Sound.Points.{text-points}
+use Rattle.demands.proofs.SoundKept.Retexted.{mine-not}
 use Rattle.histories.specs.History.{heads}
-use Rattle.histories.proofs.Calls.Stores.{kind-blank, Put, heading, text, entry, cleared, recodes, Puts, Kept, Of, Left, stored, rid, Shaped, plain, freeing, shaped-left}
+use Rattle.histories.proofs.Calls.Stores.{Put, heading, text, entry, cleared, recodes, rewrites, retexts, Puts, Kept, Of, Left, stored, rid, Shaped, plain, freeing, shaped-left}
 use Rattle.histories.proofs.Calls.Requests.{Clears, freed-clears}
 use Rattle.histories.proofs.SealStays.Veils as Veils
 use Rattle.histories.proofs.SealStays.Veils.{Veiled, Veil, run-veil}
@@ -80,6 +82,8 @@ module _ (h : ℕ) (t : List ℕ) (c : Sound t) (k : byte (rec t h) 0 ≡ 1) (n 
       let m : headingCode (rec t h) ≤ 7 = heading-fields (rec t h) (c .own h in-h .heading k) .code in
       let z : noRead (joined (headingCode (rec t h)) code) ≡ true = joined-read (headingCode (rec t h)) code m b n in
       rw (q, code-recoded (rec t h) code (length-rec t h in-h)) (rw j at z)
+  put-sealed r (rewrites mark m b a w q) = rw (q, rewritten-byte (rec t h) mark m 3 (omega arith, inl (omega arith))) n
+  put-sealed r (retexts g a w x y) = absurd (mine-not g (rec t h) 1 x (omega arith) (omega arith) k)
 
   kept-sealed : (s : List ℕ) → Kept t s h → noRead (headingCode (rec s h)) ≡ true
   kept-sealed s (inl e) = rw e n

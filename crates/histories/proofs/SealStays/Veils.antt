@@ -15,7 +15,7 @@ use Rattle.paper.specs.Record.{byte, isKind, headingNamed, headingOf, directory
 use Rattle.paper.specs.Table.{rooms, rec, lay, frees, place, textRoom}
 use Rattle.paper.specs.Entry.{Holder, stands, bears, find, crowd, full, named, inDirectory, peopled}
 use Rattle.paper.specs.Store.{Store, run}
-use Rattle.paper.specs.Mend.{orphan, stray, clears, mendFirst, mendSecond, mendStores}
+use Rattle.paper.specs.Mend.{keepsText, orphan, stray, clears, mendFirst, mendSecond, mendStores}
 use Rattle.laws.proofs.Numbers.{number-cong}
 use Rattle.laws.proofs.Scans.{any-cong, first-cong}
 use Rattle.laws.proofs.Counts.{count-cong}
@@ -85,6 +85,10 @@ module _ (h : ℕ) (t s : List ℕ) (v : Veil h t s) where
 
   pub simple-veil : (i : ℕ) → simple (rec s i) ≡ simple (rec t i)
   simple-veil i = rw (byte-veil i 0 (omega arith), byte-veil i 1 (omega arith))
+
+  keeps-veil : (i : ℕ) → keepsText (rec s i) ≡ keepsText (rec t i)
+  unfolding keepsText
+  keeps-veil i = rw (byte-veil i 0 (omega arith), byte-veil i 1 (omega arith), byte-veil i 5 (omega arith))
 
   pub stands-veil : (d : Holder) (i : ℕ) → stands d (rec s i) ≡ stands d (rec t i)
   unfolding stands
@@ -179,4 +183,4 @@ mend-veil h t s w v =
     second : (a b : List ℕ) → Veil h a b → mendSecond b ≡ mendSecond a
     second a b u =
         clears-cong (stray b) (stray a) (rooms b) (rooms a) (rooms-veil h a b u)
-        (λ i. rw (kind-veil h a b u 3 i, number-veil h a b u 2 i 2 (omega arith), simple-veil h a b u (headingOf (rec a i))))
+        (λ i. rw (kind-veil h a b u 3 i, number-veil h a b u 2 i 2 (omega arith), keeps-veil h a b u (headingOf (rec a i))))

@@ -13,7 +13,7 @@ use Rattle.paper.specs.Table.{rooms, rec, lay, place, textRoom}
 use Rattle.paper.specs.Name.{same, dotW, before}
 use Rattle.paper.specs.Entry.{Holder, stands, find, inDirectory, baseList}
 use Rattle.paper.specs.Block.{blocksOf, fileText}
-use Rattle.paper.specs.Walk.{State, applies, file, Step, on, off, looked, look, enter, then, follow, linked, toDirectory, lastName, toLast}
+use Rattle.paper.specs.Walk.{State, applies, file, Step, on, off, looked, look, enter, then, follow, toDirectory, toLast}
 use Rattle.paper.specs.Store.{Store, clear}
 use Rattle.paper.specs.Effect.{freed, lost, settled, losing}
 use Rattle.paper.specs.Listing.{line, lineOf, insert, inOrder, listed, lines, directoryLines, baseLines, opens, entryBy, linesBy, tree, directoryTree, baseTree}
@@ -23,6 +23,7 @@ use Rattle.laws.proofs.Scans.{first-at}
 use Rattle.laws.proofs.Entries.{stands-true, text-true}
 use Rattle.laws.proofs.Lay.{Whole, rec-past}
 use Rattle.demands.proofs.Sound.Clauses.{Sound}
+use Rattle.demands.proofs.Request.Steps.{directory-same, last-same}
 use Rattle.histories.proofs.SealStays.Veils.{Veil, rooms-veil, byte-veil, named-veil, rec-veil, text-veil, directory-veil, find-veil, unnamed-veil, peopled-veil, text-room-veil, test-veil, lay-veil}
 
 module _ (h : ℕ) (t s : List ℕ) (v : Veil h t s) where
@@ -53,18 +54,10 @@ module _ (h : ℕ) (t s : List ℕ) (v : Veil h t s) where
       go (off number) = refl
 
   pub to-directory-veil : (k : ℕ) (d : State) (ns : List (List ℕ)) → toDirectory s k d ns ≡ toDirectory t k d ns
-  unfolding toDirectory
-  to-directory-veil k d [] = refl
-  to-directory-veil k d (n ∷ []) = refl
-  to-directory-veil k d (n ∷ m ∷ ns) = rw (follow-veil d n) (go (follow t d n) (λ x. to-directory-veil (suc k) x (m ∷ ns)))
-    where
-      go : (x : Step) → ((y : State) → toDirectory s (suc k) y (m ∷ ns) ≡ toDirectory t (suc k) y (m ∷ ns))
-          → linked k x (λ y. toDirectory s (suc k) y (m ∷ ns)) ≡ linked k x (λ y. toDirectory t (suc k) y (m ∷ ns))
-      go (on y) r = r y
-      go (off number) r = refl
+  to-directory-veil = directory-same t s look-veil follow-veil
 
   pub to-last-veil : (d : State) (ns : List (List ℕ)) → toLast s d ns ≡ toLast t d ns
-  to-last-veil d ns = rw (look-veil d (lastName ns))
+  to-last-veil = last-same t s look-veil follow-veil
 
   -- ---- an entry laid or cleared, and its file
 
