@@ -6,7 +6,7 @@ use crate::part::Kind;
 use crate::part::Level;
 use crate::part::Lifetime;
 ghost use mathlib.Core.Path.{_≡_};
-ghost use Rattle.paper.specs.Declaration.{right, fitCrd, fitCpy, fitDup, wrsLifetime, dprCode};
+ghost use Rattle.paper.specs.Declaration.{right, fitCrd, fitRewrite, fitCpy, fitDup, wrsLifetime, dprCode};
 ghost use Rattle.declarations.specs.Given.{paperParts, shownLifetime, shownDigit, taken};
 
 // CRD refuses a type and a lifetime: the declaration, or `Wrong`.
@@ -43,6 +43,35 @@ pub fn taken_by_wrs(parts: Parts) -> Lifetime
         return Lifetime::NotGiven;
     }
     Lifetime::Given(time)
+}
+
+// WRS* takes the lifetime M and nothing else.
+pub fn taken_by_rewrite(d: Declaration) -> Declaration
+    ensures { λ r. ⌜ r ≡ taken fitRewrite d ⌝ }
+{
+    let Declaration::Right(parts) = d else {
+        return Declaration::Wrong;
+    };
+    let kind = parts.kind;
+    let Kind::NotGiven = kind else {
+        return Declaration::Wrong;
+    };
+    let lifetime = parts.lifetime;
+    let Lifetime::Given(kept) = lifetime else {
+        return Declaration::Wrong;
+    };
+    if kept != Lifetime::MEDIUM {
+        return Declaration::Wrong;
+    }
+    let lev = parts.level;
+    let Level::NotGiven = lev else {
+        return Declaration::Wrong;
+    };
+    let digit = parts.digit;
+    let Digit::NotGiven = digit else {
+        return Declaration::Wrong;
+    };
+    d
 }
 
 // CPY refuses a type; a lifetime is M or L.

@@ -4,6 +4,7 @@ use mathlib.Core.Bool.{true}
 use mathlib.Core.List.{List, _∷_}
 use mathlib.Core.Path.{_≡_, ap, _∙_}
 use Prim.Native.Nat.{ℕ, _+_, _-_, _%_, _≤_, _<_}
+use native.Mathlib.Nat.{add-zero}
 use native.Mathlib.Omega.{arith}
 use lib.Dec.{eqb, leb}
 use lib.ListN.{getD, length, take}
@@ -13,11 +14,11 @@ use Rattle.paper.specs.Record.{held}
 use Rattle.paper.specs.Table.{sized, rooms, rec, room, textRoom}
 use Rattle.paper.specs.Block.{blocks, blocksOf}
 use Rattle.paper.specs.Store.{Store, puts, clear}
-use Rattle.paper.specs.Effect.{newFile, freed}
+use Rattle.paper.specs.Effect.{newFile, bared, freed, laying}
 use Rattle.laws.proofs.Tests.{and-right}
 use Rattle.laws.proofs.Lists.{join-cong, length-each, getD-each}
 use Rattle.effects.specs.Listed.{freeRooms, textRooms, between, gathered}
-use Rattle.effects.specs.Stage.{textStore, textStores, clearStores}
+use Rattle.effects.specs.Stage.{textStore, textStores, clearTexts, clearStores}
 use Rattle.effects.proofs.Places.{room-most, text-most}
 
 pub sized-most : (t : List ℕ) → sized t ≡ true → rooms t ≤ 2048
@@ -34,16 +35,22 @@ text-room t h p e l = getD-each _ 1000 p 0 l ∙ omega (arith, text-most t h p, 
 -- ---- the lists of stores, and of bytes
 
 pub new-file : (t heading text : List ℕ) → sized t ≡ true → length text ≤ 24000
-    → newFile t heading text ≡ puts (room t 0) heading ∷ textStores (freeRooms t) text
+    → newFile t heading text ≡ puts (room t 0) heading ∷ textStores (room t 0) (freeRooms t) 1 text
 unfolding newFile textStores
 new-file t heading text e l =
     ap (λ (ss : List Store). puts (room t 0) heading ∷ ss)
-    (join-cong _ _ (blocks (length text)) (λ p m. rw (free-room t (p + 1) e (omega arith), free-room t 0 e (omega arith))))
+    (join-cong _ _ (blocks (length text)) (λ p m. rw (free-room t (p + 1) e (omega arith))))
+
+pub texts-laid : (t : List ℕ) (h : ℕ) (text : List ℕ) → sized t ≡ true → length text ≤ 24000 → laying t h text ≡ textStores h (freeRooms t) 0 text
+unfolding laying textStores
+texts-laid t h text e l = join-cong _ _ (blocks (length text)) (λ p m. rw (add-zero p, free-room t p e (omega arith)))
+
+pub texts-cleared : (t : List ℕ) (h : ℕ) → sized t ≡ true → blocksOf t h ≤ 1000 → bared t h ≡ clearTexts (textRooms t h) (blocksOf t h)
+texts-cleared t h e l = join-cong _ _ (blocksOf t h) (λ p m. rw (text-room t h p e (omega arith)))
 
 pub file-freed : (t : List ℕ) (h : ℕ) → sized t ≡ true → blocksOf t h ≤ 1000 → freed t h ≡ clearStores h (textRooms t h) (blocksOf t h)
 unfolding freed clearStores
-file-freed t h e l =
-    ap (λ (ss : List Store). clear h ∷ ss) (join-cong _ _ (blocksOf t h) (λ p m. rw (text-room t h p e (omega arith))))
+file-freed t h e l = ap (λ (ss : List Store). clear h ∷ ss) (texts-cleared t h e l)
 
 pub text-gathered : (t : List ℕ) (h p q : ℕ) → sized t ≡ true → q ≤ 1000
     → gathered t (textRooms t h) p q ≡ between (λ k. held (rec t (textRoom t h k))) p q
@@ -51,13 +58,16 @@ text-gathered t h p q e l = join-cong _ _ (q - p) (λ i m. rw (text-room t h (p 
 
 -- ---- how many, and how long
 
-pub text-stores-length : (r text : List ℕ) → length (textStores r text) ≡ blocks (length text)
+pub text-stores-length : (h : ℕ) (r : List ℕ) (m : ℕ) (text : List ℕ) → length (textStores h r m text) ≡ blocks (length text)
 unfolding textStores
-text-stores-length r text = length-each (textStore r text) (blocks (length text))
+text-stores-length h r m text = length-each (textStore h r m text) (blocks (length text))
+
+pub clear-texts-length : (r : List ℕ) (n : ℕ) → length (clearTexts r n) ≡ n
+clear-texts-length r n = length-each (λ p. clear (getD r p 0)) n
 
 pub clear-stores-length : (h : ℕ) (r : List ℕ) (n : ℕ) → length (clearStores h r n) ≡ n + 1
 unfolding clearStores
-clear-stores-length h r n = rw (length-each (λ p. clear (getD r p 0)) n) (omega arith)
+clear-stores-length h r n = omega (arith, clear-texts-length r n)
 
 -- bytes copied to the front are there
 pub taken-front : (l s : List ℕ) → length s ≤ length l → take (length s) (sets l 0 s) ≡ s

@@ -1,12 +1,14 @@
 -- Stages of stores: the first k stores of two lists joined are the first k of the one, and of the other as many as are then left.
 -- So a stage is made store by store, and two stages one after the other make their lists joined.
 use mathlib.Core.List.{List, [], _∷_, _++_}
+use mathlib.Core.Logic.{by-cases}
 use mathlib.Core.Path.{_≡_, refl, sym, ap, _∙_}
 use Prim.Native.Nat.{ℕ, zero, suc, _+_, _-_, _<_}
 use native.Mathlib.Omega.{arith}
+use native.Mathlib.Decide.{decLt}
 use native.Mathlib.Nat.{sub-zero, zero-sub, suc-sub-suc}
 use lib.ListN.{length, take, length-append}
-use lib.Seq.{take-nil}
+use lib.Seq.{take-nil, take-all}
 use Rattle.paper.specs.Scan.{eachBelow, joinBelow}
 use Rattle.paper.specs.Table.{lay}
 use Rattle.paper.specs.Store.{Store, puts, run}
@@ -26,6 +28,23 @@ made-both t u v k l m a b p q =
       table = q .table ∙ rw (p .left, p .table) (sym (run-take-append t k a b));
       left = q .left ∙ rw length-append (omega (arith, p .left));
     }
+
+-- .. and one that goes by the table that the first leaves: where the first is cut, no store is left for it
+pub made-onto : (t u v : List ℕ) (k l m : ℕ) (a : List Store) (b : List ℕ → List Store) → Made t u k l a → Made u v l m (b u)
+    → Made t v k m (a ++ b (run t a))
+unfolding run
+made-onto t u v k l m a b p q =
+    by-cases (decLt k (length a))
+    (λ (o : k < length a).
+    let z : l ≡ 0 = omega (arith, p .left) in
+    let n : k - length a ≡ 0 = omega arith in
+    record {
+      table = q .table ∙ rw z (p .table ∙ sym (run-take-append t k a (b (run t a)) ∙ rw n));
+      left = q .left ∙ rw length-append (omega arith);
+    })
+    (λ (o : ¬ (k < length a)).
+    let e : u ≡ run t a = p .table ∙ ap (run t) (take-all k a (omega arith)) in
+    made-both t u v k l m a (b (run t a)) p (rw (ap b e) at q))
 
 -- one store: none where none is allowed
 pub made-stopped : (t : List ℕ) (k : ℕ) (s : Store) → k ≡ 0 → Made t t k 0 (s ∷ [])

@@ -13,13 +13,17 @@ pub record Made (t u : List ℕ) (k l : ℕ) (stage : List Store) : Type 0 where
   pub table : u ≡ run t (take k stage)
   pub left : l ≡ k - length stage
 
--- "text by position" of a new file: the numbers in r are the heading's record and those of its text
-abbrev pub textStore : List ℕ → List ℕ → ℕ → Store
-textStore r text p = puts (getD r (p + 1) 0) (textRecord (getD r 0 0) p (block text p))
+-- "text by position" of heading h: the numbers in r from place m on are the records of its text
+abbrev pub textStore : ℕ → List ℕ → ℕ → List ℕ → ℕ → Store
+textStore h r m text p = puts (getD r (p + m) 0) (textRecord h p (block text p))
 
-unfoldable pub textStores : List ℕ → List ℕ → List Store
-textStores r text = eachBelow (textStore r text) (blocks (length text))
+unfoldable pub textStores : ℕ → List ℕ → ℕ → List ℕ → List Store
+textStores h r m text = eachBelow (textStore h r m text) (blocks (length text))
 
--- "its heading cleared, then its text by position": n text records, whose numbers are in r
+-- text cleared "by position": n text records, whose numbers are in r
+abbrev pub clearTexts : List ℕ → ℕ → List Store
+clearTexts r n = eachBelow (λ p. clear (getD r p 0)) n
+
+-- "its heading cleared, then its text by position"
 unfoldable pub clearStores : ℕ → List ℕ → ℕ → List Store
-clearStores h r n = clear h ∷ eachBelow (λ p. clear (getD r p 0)) n
+clearStores h r n = clear h ∷ clearTexts r n

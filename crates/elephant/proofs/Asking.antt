@@ -10,7 +10,7 @@ use lib.ListN.{length}
 use types.Run.{OneOf, miss}
 use Rattle.paper.specs.Declaration.{Part, given, notGiven}
 use Rattle.paper.specs.Request as asked
-use Rattle.paper.specs.Request.{crd, wrs, rds, cpy, dup, chn, del, dpr, lst, lstBase, lstTree, lstBaseTree, request, unread, read, textTooLong}
+use Rattle.paper.specs.Request.{crd, wrs, rds, cpy, dup, chn, del, dpr, lst, lstBase, lstTree, lstBaseTree, rewrite, request, unread, read, textTooLong}
 use Rattle.paper.specs.Request.{own, takeOf, giveTo}
 use Rattle.laws.proofs.Tests.{clash}
 use Rattle.words.specs.Shown.{beginShown, beginMeant, shownPart, meantPart}
@@ -21,7 +21,7 @@ use Rattle.declarations.specs.declared.part.Level.{Level}
 use Rattle.declarations.specs.declared.part.Digit.{Digit}
 use Rattle.reader.specs.declared.request.Request.{Request}
 use Rattle.reader.proofs.request.Request.{the-type}
-use Rattle.reader.specs.declared.request.Request.the-variants.{Crd, Wrs, Rds, Cpy, Dup, Chn, Del, Dpr, Lst, LstBase, LstTree, LstBaseTree}
+use Rattle.reader.specs.declared.request.Request.the-variants.{Crd, Wrs, Rds, Cpy, Dup, Chn, Del, Dpr, Lst, LstBase, LstTree, LstBaseTree, Rewrite}
 use Rattle.reader.specs.declared.request.Read.the-variants as answers
 use Rattle.reader.proofs.Ties.{tied}
 use Rattle.elephant.specs.Meant.{requestMeant}
@@ -51,6 +51,7 @@ request-back line (lst b w) t = rw (begin-back b, word-there line 1 w t)
 request-back line lstBase t = refl
 request-back line (lstTree b w d) t = rw (begin-back b, word-there line 1 w t)
 request-back line (lstBaseTree d) t = refl
+request-back line (rewrite w) t = rw (word-there line 2 w t)
 
 -- what was read, from what the reader answers
 pub read-granted : (line : List ℕ) (r : Request) → answers.Granted r ≡ shownRead (read line) → read line ≡ request (requestMeant line r)
@@ -63,22 +64,19 @@ read-granted line r e = go (read line) (tied line) e
         ap request (sym (ap (requestMeant line) y ∙ request-back line q t))
     go (unread f) t z = clash (cc)
 
--- only a WRS has a text that may be too long
-pub no-text : (line text : List ℕ) (r : Request) → OneOf (0 ∷ 2 ∷ 3 ∷ 4 ∷ 5 ∷ 6 ∷ 7 ∷ 8 ∷ 9 ∷ 10 ∷ 11 ∷ []) (tagOf the-type r)
-    → textTooLong (requestMeant line r) text ≡ false
-no-text line text (Crd n v d) h = refl
-no-text line text (Wrs f v d n) h = absurd (miss (0 ∷ 2 ∷ 3 ∷ 4 ∷ 5 ∷ 6 ∷ 7 ∷ 8 ∷ 9 ∷ 10 ∷ 11 ∷ []) 1 tt h)
-no-text line text (Rds b n f c) h = refl
-no-text line text (Cpy b o n f v d) h = refl
-no-text line text (Dup b o e n d) h = refl
-no-text line text (Chn o l) h = refl
-no-text line text (Del f n) h = refl
-no-text line text (Dpr n d) h = refl
-no-text line text (Lst b n) h = refl
-no-text line text LstBase h = refl
-no-text line text (LstTree b n d) h = refl
-no-text line text (LstBaseTree d) h = refl
-
-pub its-text : (line text : List ℕ) (r : Request) (f : ℕ) (v : Level) (d : Digit) (n : ℕ) → r ≡ Wrs f v d n
-    → textTooLong (requestMeant line r) text ≡ ltb 24000 (length text)
-its-text line text r f v d n e = rw e
+-- only a WRS or a WRS* has a text that may be too long
+pub no-text : (r : Request) → OneOf (0 ∷ 2 ∷ 3 ∷ 4 ∷ 5 ∷ 6 ∷ 7 ∷ 8 ∷ 9 ∷ 10 ∷ 11 ∷ []) (tagOf the-type r)
+    → (line text : List ℕ) → textTooLong (requestMeant line r) text ≡ false
+no-text (Crd n v d) h line text = refl
+no-text (Wrs f v d n) h line text = absurd (miss (0 ∷ 2 ∷ 3 ∷ 4 ∷ 5 ∷ 6 ∷ 7 ∷ 8 ∷ 9 ∷ 10 ∷ 11 ∷ []) 1 tt h)
+no-text (Rds b n f c) h line text = refl
+no-text (Cpy b o n f v d) h line text = refl
+no-text (Dup b o e n d) h line text = refl
+no-text (Chn o l) h line text = refl
+no-text (Del f n) h line text = refl
+no-text (Dpr n d) h line text = refl
+no-text (Lst b n) h line text = refl
+no-text LstBase h line text = refl
+no-text (LstTree b n d) h line text = refl
+no-text (LstBaseTree d) h line text = refl
+no-text (Rewrite n) h line text = absurd (miss (0 ∷ 2 ∷ 3 ∷ 4 ∷ 5 ∷ 6 ∷ 7 ∷ 8 ∷ 9 ∷ 10 ∷ 11 ∷ []) 12 tt h)

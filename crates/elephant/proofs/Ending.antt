@@ -1,19 +1,23 @@
 -- A new entry's plan, by what the code finds: its checks are those of what the entry meets, and its stores are the file's, the
 -- entry's and the settling, as many as are counted. So where no check holds the stores made are the first of the plan's.
-use mathlib.Core.Bool.{Bool, true, false, cond}
+use mathlib.Core.Bool.{Bool, true, false, not, cond, true≢false}
 use mathlib.Core.List.{List, [], _∷_, _++_}
 use mathlib.Core.Path.{_≡_, refl, sym, ap, _∙_}
-use Prim.Native.Nat.{ℕ, _+_, _≤_}
+use Prim.Native.Nat.{ℕ, zero, suc, _+_, _≤_}
 use native.Mathlib.Omega.{arith}
+use lib.Dec.{eqb}
 use lib.ListN.{getD, length, length-append}
+use borrow.Author.Tests.{eq-eqb, ne-eqb}
 use Rattle.paper.specs.Scan as F
 use Rattle.paper.specs.Table.{sized, room}
-use Rattle.paper.specs.Check.{Place, whole, Check, check, Verdict, passed, refused, verdict}
+use Rattle.paper.specs.Check as given
+use Rattle.paper.specs.Check.{Place, refusalAt, Check, check, Verdict, passed, refused, verdict}
 use Rattle.paper.specs.Entry.{Holder}
 use Rattle.paper.specs.Block.{blocks}
 use Rattle.paper.specs.Store.{puts}
 use Rattle.paper.specs.Answer.{plain}
 use Rattle.paper.specs.Effect.{Plan, plan, Making, newFile, placing, needed, borne, isFound, displacing, fullUp, stillPeopled, noRoom, linkTaken}
+use Rattle.laws.proofs.Tests.{clash}
 use Rattle.laws.proofs.Lists.{Every}
 use Rattle.words.specs.Shown.{beginMeant}
 use Rattle.words.specs.declared.begin.Begin.{Begin}
@@ -28,7 +32,7 @@ use Rattle.placing.specs.Placing.{met, entryChecks, refusalShown, entryStores}
 use Rattle.placing.specs.declared.Meets.{Meets}
 use Rattle.placing.specs.declared.Refusal.{Refusal}
 use Rattle.elephant.specs.Done.{Did}
-use Rattle.elephant.specs.Filing.{fileCount, fileStores, neededBy, storesBy, makingOf, takenBy, allChecks, ending, Ready}
+use Rattle.elephant.specs.Filing.{fileCount, fileStores, neededBy, storesBy, makingOf, takenBy, lateChecks, allChecks, ending, Ready}
 use Rattle.elephant.specs.declared.filing.File.{File}
 use Rattle.elephant.proofs.Verdicts.{first-holds, first-passes, none-left, front-refuses, front-passes, did-refused, did-stored}
 use Rattle.placing.proofs.Meeting.{displaced-loses, placed-settled}
@@ -45,8 +49,8 @@ file-count f text l = go (f .new)
 pub stores-length : (f : File) (r text : List ℕ) → length (fileStores f r text) ≡ fileCount f text
 stores-length f r text = go (f .new)
   where
-    go : (b : Bool) → length (cond b (puts (getD r 0 0) (f .heading) ∷ textStores r text) []) ≡ cond b (blocks (length text) + 1) 0
-    go true = rw (text-stores-length r text) (omega arith)
+    go : (b : Bool) → length (cond b (puts (getD r 0 0) (f .heading) ∷ textStores (getD r 0 0) r 1 text) []) ≡ cond b (blocks (length text) + 1) 0
+    go true = rw (text-stores-length (getD r 0 0) r 1 text) (omega arith)
     go false = refl
 
 entry-length : (m : Meets) (entry r : List ℕ) → length (entryStores m entry r) ≡ cond (m .lost) (m .count .0 + 2) 1
@@ -60,26 +64,28 @@ pub first-stores : (t : List ℕ) (f : File) (text : List ℕ) → sized t ≡ t
     → fileStores f (freeRooms t) text ≡ cond (f .new) (newFile t (f .heading) text) []
 first-stores t f text z l = go (f .new)
   where
-    go : (b : Bool) → cond b (puts (getD (freeRooms t) 0 0) (f .heading) ∷ textStores (freeRooms t) text) [] ≡ cond b (newFile t (f .heading) text) []
+    go : (b : Bool) → cond b (puts (getD (freeRooms t) 0 0) (f .heading) ∷ textStores (getD (freeRooms t) 0 0) (freeRooms t) 1 text) []
+        ≡ cond b (newFile t (f .heading) text) []
     go true = rw (free-room t 0 z (omega arith)) (sym (new-file t (f .heading) text z l))
     go false = refl
 
 -- ---- the verdict
 
--- a refusal's number is not 0
-abbrev Telling : Check → Type 0
-Telling c = 1 ≤ c .refusal .number
+-- a check that holds has a number, not 0
+abbrev pub Telling : Check → Type 0
+Telling c = c .when ≡ true → 1 ≤ c .refusal .number
 
 -- number 0: no check refuses
 pub none-refuses : (cs : List Check) → Every Telling cs → refusalShown (verdict cs) .number ≡ 0 → verdict cs ≡ passed
 unfolding verdict
 none-refuses [] h e = refl
-none-refuses (c ∷ cs) h e = go (c .when) e (none-refuses cs (h .1))
+none-refuses (c ∷ cs) h e = go (c .when) (h .0) e (none-refuses cs (h .1))
   where
-    go : (b : Bool) → refusalShown (cond b (refused (c .refusal)) (verdict cs)) .number ≡ 0 → (refusalShown (verdict cs) .number ≡ 0 → verdict cs ≡ passed)
+    go : (b : Bool) → (b ≡ true → 1 ≤ c .refusal .number) → refusalShown (cond b (refused (c .refusal)) (verdict cs)) .number ≡ 0
+        → (refusalShown (verdict cs) .number ≡ 0 → verdict cs ≡ passed)
         → cond b (refused (c .refusal)) (verdict cs) ≡ passed
-    go true e r = let z : ⊥ = omega (arith, h .0) in absurd z
-    go false e r = r e
+    go true q e r = let z : ⊥ = omega (arith, q refl) in absurd z
+    go false q e r = r e
 
 -- the refusal of the first checks is that of all, or none of the first refuses
 pub shown-first : (cs ds : List Check) (r : Refusal) → r ≡ refusalShown (verdict cs) → (r .number ≡ 0 → ⊥) → r ≡ refusalShown (verdict (cs ++ ds))
@@ -90,32 +96,65 @@ shown-first cs ds r e n = go (verdict cs) refl
     go (refused f) q = rw (front-refuses cs ds f q) (e ∙ rw q)
 
 pub entry-telling : (t : List ℕ) (place : Place) (d : Holder) (m : Meets) (n : ℕ) → Every Telling (entryChecks t place d m n)
-entry-telling t place d m n = (omega arith, (omega arith, (omega arith, tt)))
+entry-telling t place d m n = ((λ _. omega arith), ((λ _. omega arith), ((λ _. omega arith), tt)))
 
--- 16 to 19 and 25 where the link is not taken: by the refusal of 17 to 19
-module _ (t : List ℕ) (to : Begin) (place : Place) (d : Holder) (m : Meets) (n : ℕ) (low : Bool) (r : Refusal)
+-- what refuses after 19 is a check that tells, and decides as the checks that it is of
+late-tells : (f : Refusal) → Every Telling (lateChecks f)
+late-tells f = ((λ (q : not (eqb (f .number) 0) ≡ true). go (f .number) q), tt)
+  where
+    go : (n : ℕ) → not (eqb n 0) ≡ true → 1 ≤ n
+    go zero q = absurd (true≢false (sym q))
+    go (suc n) q = omega arith
+
+late-holds : (f : Refusal) → (f .number ≡ 0 → ⊥) → verdict (lateChecks f) ≡ refused (refusalAt (f .number) (placeMeant (f .place)))
+late-holds f h = first-holds _ [] (ap not (ne-eqb (f .number) 0 h))
+
+late-passes : (f : Refusal) → f .number ≡ 0 → verdict (lateChecks f) ≡ passed
+late-passes f h = first-passes _ [] (ap not (eq-eqb (f .number) 0 h)) ∙ none-left
+
+telling-number : (cs : List Check) (g : given.Refusal) → Every Telling cs → verdict cs ≡ refused g → 1 ≤ g .number
+unfolding verdict
+telling-number [] g h e = clash (cc)
+telling-number (c ∷ cs) g h e = go (c .when) (h .0) e (telling-number cs g (h .1))
+  where
+    go : (b : Bool) → (b ≡ true → 1 ≤ c .refusal .number) → cond b (refused (c .refusal)) (verdict cs) ≡ refused g
+        → (verdict cs ≡ refused g → 1 ≤ g .number) → 1 ≤ g .number
+    go true q e r = let z : c .refusal ≡ g = cc in rw (← z) (q refl)
+    go false q e r = r e
+
+pub late-alike : (cs : List Check) (f : Refusal) → Every Telling cs → f ≡ refusalShown (verdict cs) → verdict (lateChecks f) ≡ verdict cs
+late-alike cs f h e = go (verdict cs) refl
+  where
+    go : (v : Verdict) → verdict cs ≡ v → verdict (lateChecks f) ≡ verdict cs
+    go passed q = late-passes f (rw (e, q)) ∙ sym q
+    go (refused g) q =
+        let z : f ≡ refusalShown (refused g) = e ∙ ap refusalShown q in
+        rw z (late-holds (refusalShown (refused g)) (λ (y : g .number ≡ 0). omega (arith, telling-number cs g h q))) ∙ sym q
+
+-- 16 to 19 and what refuses after them, where the link is not taken: by the refusal of 17 to 19
+module _ (t : List ℕ) (to : Begin) (place : Place) (d : Holder) (m : Meets) (n : ℕ) (late : Refusal) (r : Refusal)
     (e : r ≡ refusalShown (verdict (entryChecks t place d m n))) (x : takenBy to (m .displaced) ≡ false) where
-  not-taken : verdict (allChecks t to place d m n low) ≡ verdict (entryChecks t place d m n ++ check low 25 (whole 3) ∷ [])
+  not-taken : verdict (allChecks t to place d m n late) ≡ verdict (entryChecks t place d m n ++ lateChecks late)
   not-taken = first-passes (check (takenBy to (m .displaced)) 16 place) _ x
 
-  pub told-first : (r .number ≡ 0 → ⊥) → r ≡ refusalShown (verdict (allChecks t to place d m n low))
-  told-first z = shown-first (entryChecks t place d m n) (check low 25 (whole 3) ∷ []) r e z ∙ ap refusalShown (sym not-taken)
+  pub told-first : (r .number ≡ 0 → ⊥) → r ≡ refusalShown (verdict (allChecks t to place d m n late))
+  told-first z = shown-first (entryChecks t place d m n) (lateChecks late) r e z ∙ ap refusalShown (sym not-taken)
 
-  none-first : r .number ≡ 0 → verdict (allChecks t to place d m n low) ≡ verdict (check low 25 (whole 3) ∷ [])
+  none-first : r .number ≡ 0 → verdict (allChecks t to place d m n late) ≡ verdict (lateChecks late)
   none-first z =
       not-taken
       ∙ front-passes (entryChecks t place d m n) _ (none-refuses _ (entry-telling t place d m n) (sym (ap (λ (s : Refusal). s .number) e) ∙ z))
 
-  pub told-low : r .number ≡ 0 → low ≡ true → record { number = 25; place = placeShown (whole 3) } ≡ refusalShown (verdict (allChecks t to place d m n low))
-  told-low z y = ap refusalShown (sym (none-first z ∙ first-holds (check low 25 (whole 3)) [] y))
+  pub told-late : r .number ≡ 0 → (late .number ≡ 0 → ⊥) → late ≡ refusalShown (verdict (allChecks t to place d m n late))
+  told-late z y = ap refusalShown (sym (none-first z ∙ late-holds late y))
 
-  pub told-none : r .number ≡ 0 → low ≡ false → r ≡ refusalShown (verdict (allChecks t to place d m n low))
+  pub told-none : r .number ≡ 0 → late .number ≡ 0 → r ≡ refusalShown (verdict (allChecks t to place d m n late))
   told-none z y =
       e ∙ ap refusalShown (none-refuses _ (entry-telling t place d m n) (sym (ap (λ (s : Refusal). s .number) e) ∙ z))
-      ∙ ap refusalShown (sym (none-first z ∙ first-passes (check low 25 (whole 3)) [] y ∙ none-left))
+      ∙ ap refusalShown (sym (none-first z ∙ late-passes late y))
 
-pub all-telling : (t : List ℕ) (to : Begin) (place : Place) (d : Holder) (m : Meets) (n : ℕ) (low : Bool) → Every Telling (allChecks t to place d m n low)
-all-telling t to place d m n low = (omega arith, (omega arith, (omega arith, (omega arith, (omega arith, tt)))))
+pub all-telling : (t : List ℕ) (to : Begin) (place : Place) (d : Holder) (m : Meets) (n : ℕ) (late : Refusal) → Every Telling (allChecks t to place d m n late)
+all-telling t to place d m n late = ((λ _. omega arith), ((λ _. omega arith), ((λ _. omega arith), ((λ _. omega arith), late-tells late))))
 
 -- ---- the plan
 
@@ -146,10 +185,10 @@ module _
       (sym (isFree ∙ rw (w .free) (free-room t (fileCount f text) (w .size) (omega (arith, file-count f text (w .few))))))
 
   abbrev checks : List Check
-  checks = fullUp t making ∷ stillPeopled place (displacing t (borne t making) (making .entry)) ∷ noRoom t making ∷ check (f .low) 25 (whole 3) ∷ []
+  checks = fullUp t making ∷ stillPeopled place (displacing t (borne t making) (making .entry)) ∷ noRoom t making ∷ lateChecks (f .late)
 
   checks-met : checks
-      ≡ entryChecks t place (making .directory .holder) meets (neededBy (fileCount f text) (meets .displaced)) ++ check (f .low) 25 (whole 3) ∷ []
+      ≡ entryChecks t place (making .directory .holder) meets (neededBy (fileCount f text) (meets .displaced)) ++ lateChecks (f .late)
   checks-met =
       rw (
         is-displaced t (borne t making) named free,
@@ -161,12 +200,12 @@ module _
 
   -- 16 before them
   taken-met : verdict (linkTaken t (beginMeant to) making ++ checks)
-      ≡ verdict (allChecks t to place (making .directory .holder) meets (neededBy (fileCount f text) (meets .displaced)) (f .low))
+      ≡ verdict (allChecks t to place (making .directory .holder) meets (neededBy (fileCount f text) (meets .displaced)) (f .late))
   unfolding verdict
   taken-met = go to
     where
       go : (b : Begin) → verdict (linkTaken t (beginMeant b) making ++ checks)
-          ≡ verdict (allChecks t b place (making .directory .holder) meets (neededBy (fileCount f text) (meets .displaced)) (f .low))
+          ≡ verdict (allChecks t b place (making .directory .holder) meets (neededBy (fileCount f text) (meets .displaced)) (f .late))
       go Own = ap verdict checks-met
       go (Take n) = ap verdict checks-met
       go (Give n) =
@@ -189,8 +228,8 @@ module _
       }
 
   module _ (k : ℕ) (m : Meets) (e : m ≡ meets) (c : Refusal)
-      (q : c ≡ refusalShown (verdict (allChecks t to place (making .directory .holder) m (neededBy (fileCount f text) (m .displaced)) (f .low)))) where
-    pub ends-refused : (c .number ≡ 0 → ⊥) → Did t k (ending t (beginMeant to) making (f .low)) (shown (plain (c .number) (placeMeant (c .place)) 0 0)) t
+      (q : c ≡ refusalShown (verdict (allChecks t to place (making .directory .holder) m (neededBy (fileCount f text) (m .displaced)) (f .late)))) where
+    pub ends-refused : (c .number ≡ 0 → ⊥) → Did t k (ending t (beginMeant to) making (lateChecks (f .late))) (shown (plain (c .number) (placeMeant (c .place)) 0 0)) t
     unfolding ending
     ends-refused h = go (verdict (ends .checks)) refl (rw (taken-met, ← e) q)
       where
@@ -200,12 +239,12 @@ module _
 
     pub ends-stored : c .number ≡ 0 → (u entry : List ℕ) (l : ℕ) → entry ≡ making .entry
         → Made t u k l (fileStores f r text ++ entryStores m entry (textRooms t (m .heading .0)))
-        → Did t k (ending t (beginMeant to) making (f .low)) (shown (stored (storesBy (fileCount f text) m) k (m .displaced))) u
+        → Did t k (ending t (beginMeant to) making (lateChecks (f .late))) (shown (stored (storesBy (fileCount f text) m) k (m .displaced))) u
     unfolding ending
     ends-stored h u entry l x y =
         let v : verdict (ends .checks) ≡ passed =
         rw (taken-met, ← e)
-        (none-refuses _ (all-telling t to place (making .directory .holder) m (neededBy (fileCount f text) (m .displaced)) (f .low))
+        (none-refuses _ (all-telling t to place (making .directory .holder) m (neededBy (fileCount f text) (m .displaced)) (f .late))
         (sym (ap (λ (s : Refusal). s .number) q) ∙ h)) in
         let s : ends .stores ≡ fileStores f r text ++ entryStores m entry (textRooms t (m .heading .0)) = rw (x, e) stores-met in
         let n : length (ends .stores) ≡ storesBy (fileCount f text) m =

@@ -10,7 +10,7 @@ use lib.ListN.{length, drop}
 use Rattle.paper.specs.Line.{Word, words, word}
 use Rattle.paper.specs.Name.{dotG, pointed, chain}
 use Rattle.paper.specs.Request.{request, asked}
-use Rattle.paper.specs.Effect.{Planned, crdPlan, wrsPlan, rdsPlan, cpyPlan, dupPlan, chnPlan, dprPlan, lstPlan, lstBasePlan, lstTreePlan, lstBaseTreePlan, chainOf, listOf, begun}
+use Rattle.paper.specs.Effect.{Planned, crdPlan, wrsPlan, rdsPlan, cpyPlan, dupPlan, chnPlan, dprPlan, lstPlan, lstBasePlan, lstTreePlan, lstBaseTreePlan, rewritePlan, chainOf, listOf, begun}
 use Rattle.paper.specs.Walk.{lastName}
 use Rattle.paper.specs.Answer.{Outcome, granted, requested, ran, single}
 use Rattle.laws.proofs.Tests.{truth}
@@ -24,7 +24,7 @@ use Rattle.declarations.specs.declared.part.Lifetime.{Lifetime}
 use Rattle.declarations.specs.declared.part.Level.{Level}
 use Rattle.declarations.specs.declared.part.Digit.{Digit}
 use Rattle.reader.specs.declared.request.Request.{Request}
-use Rattle.reader.specs.declared.request.Request.the-variants.{Crd, Wrs, Rds, Cpy, Dup, Chn, Del, Dpr, Lst, LstBase, LstTree, LstBaseTree}
+use Rattle.reader.specs.declared.request.Request.the-variants.{Crd, Wrs, Rds, Cpy, Dup, Chn, Del, Dpr, Lst, LstBase, LstTree, LstBaseTree, Rewrite}
 use Rattle.reader.specs.declared.request.Read.the-variants.{Granted}
 use Rattle.demands.proofs.Request.Read.{Told}
 use Rattle.demands.proofs.Request.Begun.{Gives}
@@ -41,7 +41,7 @@ use Rattle.elephant.specs.Meant.{requestMeant}
 use Rattle.elephant.specs.Admitted.{Admitted}
 use Rattle.elephant.specs.Promised.{Promised}
 use Rattle.answers.specs.declared.Answer.{Answer}
-use Rattle.elephant.proofs.Grants.{Silent, Storeless, crd-silent, wrs-silent, cpy-silent, dup-silent, chn-silent, dpr-silent, rds-storeless, lst-storeless, lst-base-storeless, lst-tree-storeless, lst-base-tree-storeless}
+use Rattle.elephant.proofs.Grants.{Silent, Storeless, crd-silent, wrs-silent, cpy-silent, dup-silent, chn-silent, dpr-silent, rewrite-silent, rds-storeless, lst-storeless, lst-base-storeless, lst-tree-storeless, lst-base-tree-storeless}
 use Rattle.elephant.proofs.Promises.{promised-storing, promised-writing, promised-names}
 use Rattle.elephant.proofs.Asking.{read-granted}
 use Rattle.elephant.proofs.Places.{read-short}
@@ -116,6 +116,9 @@ module _ {t line text : List ℕ} {u : ℕ} {r : Request} (a : Admitted t line t
       let w = names-first line text (asks (Del p n) e) in
       (d .0 ∙ w .0, d .1, rw (d .1) (w .1))
 
+  pub rewrite-ready : (p : ℕ) → r ≡ Rewrite p → length text ≤ 24000
+  rewrite-ready p e = hears (Rewrite p) e .text
+
   -- ---- what each comes to
 
   -- whose base list a chain starts in, and its word there
@@ -175,6 +178,10 @@ module _ {t line text : List ℕ} {u : ℕ} {r : Request} (a : Admitted t line t
     pub dpr-done : (p c : ℕ) → r ≡ Dpr p c → Did t k (dprPlan t u (wordAt line p) c) z v → Promised (requested t line text reply u k) z v reply
     unfolding granted
     dpr-done p c e h = storing-done (Dpr p c) e (dprPlan t u (wordAt line p) c) refl (dpr-silent t u (wordAt line p) c) h
+
+    pub rewrite-done : (p : ℕ) → r ≡ Rewrite p → Did t k (rewritePlan t u text (wordAt line p)) z v → Promised (requested t line text reply u k) z v reply
+    unfolding granted
+    rewrite-done p e h = storing-done (Rewrite p) e (rewritePlan t u text (wordAt line p)) refl (rewrite-silent t u text (wordAt line p)) h
 
     pub del-done : (p n : ℕ) → r ≡ Del p n → CameAll t u k (drop 1 (words line)) z v → Promised (requested t line text reply u k) z v reply
     unfolding granted

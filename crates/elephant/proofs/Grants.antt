@@ -12,7 +12,7 @@ use Rattle.paper.specs.Check.{Check, Verdict, passed, refused, verdict}
 use Rattle.paper.specs.Declaration.{Part}
 use Rattle.paper.specs.Line.{Word, word}
 use Rattle.paper.specs.Request.{Begin}
-use Rattle.paper.specs.Effect.{Planned, plan, halted, Making, making, crdPlan, wrsPlan, cpyPlan, dupPlan, chnPlan, dprPlan, delPlan, rdsPlan, lstPlan, lstBasePlan, lstTreePlan, lstBaseTreePlan}
+use Rattle.paper.specs.Effect.{Planned, plan, halted, Making, making, crdPlan, wrsPlan, cpyPlan, dupPlan, chnPlan, dprPlan, delPlan, rdsPlan, lstPlan, lstBasePlan, lstTreePlan, lstBaseTreePlan, rewritePlan}
 use Rattle.paper.specs.Answer.{Outcome, Ran, refusedBy, done, cut, stores, ran, single, oneName, deleting}
 use Rattle.paper.specs.Store.{run}
 use Rattle.words.specs.Place.{wordAt}
@@ -82,6 +82,10 @@ chn-silent t u old link = end-by Silent 1 (λ _ _ _. tt) t u old _ (λ d f _ _. 
 pub dpr-silent : (t : List ℕ) (u : ℕ) (name : Word) (code : ℕ) → Silent (dprPlan t u name code)
 unfolding dprPlan
 dpr-silent t u name code = end-by Silent 1 (λ _ _ _. tt) t u name _ (λ d f _ _. refl)
+
+pub rewrite-silent : (t : List ℕ) (u : ℕ) (text : List ℕ) (name : Word) → Silent (rewritePlan t u text name)
+unfolding rewritePlan
+rewrite-silent t u text name = end-by Silent 2 (λ _ _ _. tt) t u name _ (λ d f _ _. refl)
 
 -- ---- another stop number
 

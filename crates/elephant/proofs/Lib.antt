@@ -6,6 +6,7 @@ pub mod Ending
 pub mod Walking
 pub mod Makes
 pub mod Changes
+pub mod Rewrites
 pub mod Written
 pub mod Readings
 pub mod Clearings

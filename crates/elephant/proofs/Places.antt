@@ -13,7 +13,7 @@ use Rattle.paper.specs.Line.{Word, words, word, inLine, legalLine}
 use Rattle.paper.specs.Check.{whole, Refusal, refusalAt, Check, Verdict, passed, refused, verdict}
 use Rattle.paper.specs.Declaration.{Part, wrsLifetime, dprCode}
 use Rattle.paper.specs.Declaration as part
-use Rattle.paper.specs.Request.{Request, del, Read, request, unread, after, needed, readAs, counted, miscounted, malformed, illegal, each, between, misnamed, declaredAt, readCrd, readWrs, readRds, readLst, readCpy, readDup, readChn, readDpr, readDel, depthGiven, readTree, isFunction, isTree, readFunction, read, asked}
+use Rattle.paper.specs.Request.{Request, del, Read, request, unread, after, needed, readAs, counted, miscounted, malformed, illegal, each, between, misnamed, declaredAt, readCrd, readWrs, readRds, readLst, readCpy, readDup, readChn, readDpr, readDel, depthGiven, readTree, readRewrite, isFunction, isTree, isRewrite, readFunction, read, asked}
 use Rattle.laws.proofs.Tests.{and-left, and-right, either, clash}
 use Rattle.laws.proofs.Lists.{Every, every-append}
 use Rattle.demands.proofs.Request.Chains.{namesAt}
@@ -89,6 +89,10 @@ module _ (line : List ℕ) where
   unfolding readWrs
   near-wrs = near-after _ 2 2 2 3 (omega arith) (near-needed 1 (wrsLifetime (declaredAt line 1)) _ (omega arith))
 
+  near-rewrite : Near (readRewrite line)
+  unfolding readRewrite
+  near-rewrite = near-names _ 2 2 2 3 _ (omega arith) (omega arith, tt)
+
   near-rds : Near (readRds line)
   unfolding readRds
   near-rds = near-as _ _ (omega arith, (omega arith, (omega arith, (omega arith, (omega arith, tt)))))
@@ -152,7 +156,8 @@ module _ (line : List ℕ) where
       (either Near (isFunction 68 80 82 line) _ _ near-dpr
       (either Near (isFunction 76 83 84 line) _ _ near-lst
       (either Near (isTree line) _ _ near-tree
-      (omega arith))))))))))
+      (either Near (isRewrite line) _ _ near-rewrite
+      (omega arith)))))))))))
 
   near : Near (read line)
   unfolding read

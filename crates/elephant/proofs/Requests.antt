@@ -11,7 +11,7 @@ use borrow.Author.Tests.{leb-true}
 use Rattle.paper.specs.Check.{atLink, whole, Refusal, refusalAt, passed, refused, check}
 use Rattle.paper.specs.Line.{Word, words, word}
 use Rattle.paper.specs.Request as paper
-use Rattle.paper.specs.Request.{crd, wrs, rds, cpy, dup, chn, del, dpr, lst, lstBase, lstTree, lstBaseTree, request, unread, read, textTooLong, readAs, withText, asked}
+use Rattle.paper.specs.Request.{crd, wrs, rds, cpy, dup, chn, del, dpr, lst, lstBase, lstTree, lstBaseTree, rewrite, request, unread, read, textTooLong, readAs, withText, asked}
 use Rattle.paper.specs.Answer.{refusing, acted, granted, requested, entrance}
 use Rattle.paper.specs.Name.{all, inName, linkName}
 use Rattle.paper.specs.Walk.{lastName}
@@ -96,6 +96,7 @@ del-read line first count e = go (read line) (tied line) e
     go (request lstBase) t z = clash (cc)
     go (request (lstTree b w d)) t z = clash (cc)
     go (request (lstBaseTree d)) t z = clash (cc)
+    go (request (rewrite w)) t z = clash (cc)
     go (unread f) t z = clash (cc)
 
 -- what was asked has all that its function needs

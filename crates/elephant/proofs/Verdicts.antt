@@ -9,7 +9,7 @@ use lib.ListN.{length, take, drop}
 use lib.Seq.{take-all}
 use borrow.Author.Tests.{leb-true, lt-ltb, le-ltb}
 use Rattle.laws.proofs.Tests.{clash}
-use Rattle.paper.specs.Check.{Place, whole, Refusal, Check, check, Verdict, passed, refused, verdict}
+use Rattle.paper.specs.Check.{whole, Refusal, Check, Verdict, passed, refused, verdict}
 use Rattle.paper.specs.Store.{run}
 use Rattle.paper.specs.Effect.{Plan, plan, tooShort, showing}
 use Rattle.paper.specs.Answer.{Outcome, plain, granting, stores, done, cut, ran, single, refusing}
@@ -17,7 +17,7 @@ use Rattle.effects.specs.Stage.{Made}
 use Rattle.answers.specs.Shown.{placeShown, shown, stored}
 use Rattle.answers.specs.declared.Answer.{Answer}
 use Rattle.elephant.specs.Done.{Did, Wrote}
-use Rattle.elephant.specs.Deleted.{deletedBy, Came}
+use Rattle.elephant.specs.Deleted.{deletedBy, Tried, Came}
 use Rattle.elephant.specs.declared.delete.Deleted.the-variants.{Passed, Refused}
 
 -- ---- checks
@@ -55,12 +55,11 @@ front-passes (c ∷ cs) ds e = go (c .when) e (front-passes cs ds)
     go true e r = clash (cc)
     go false e r = r e
 
--- a last check that does not hold, after three
-pub last-passes : (cs : List Check) (a b c : Check) (number : ℕ) (place : Place)
-    → verdict (cs ++ a ∷ b ∷ c ∷ check false number place ∷ []) ≡ verdict (cs ++ a ∷ b ∷ c ∷ [])
+-- other checks after the same, that decide alike
+pub alike-after : (cs ds es : List Check) → verdict ds ≡ verdict es → verdict (cs ++ ds) ≡ verdict (cs ++ es)
 unfolding verdict
-last-passes [] a b c number place = refl
-last-passes (d ∷ cs) a b c number place = rw (last-passes cs a b c number place)
+alike-after [] ds es e = e
+alike-after (c ∷ cs) ds es e = ap (cond (c .when) (refused (c .refusal))) (alike-after cs ds es e)
 
 pub second-holds : (c d : Check) (cs : List Check) → c .when ≡ false → d .when ≡ true → verdict (c ∷ d ∷ cs) ≡ refused (d .refusal)
 second-holds c d cs e f = first-passes c (d ∷ cs) e ∙ first-holds d cs f
@@ -100,10 +99,14 @@ did-refused t k p g e =
     let w = single-refused t [] k p g e in
     record { answer = sym (ap (λ (o : Outcome). shown (o .answer)) w); table = sym (ap (λ (o : Outcome). o .table) w) }
 
+pub did-tried : (t u : List ℕ) (k n : ℕ) (p : Plan) → verdict (p .checks) ≡ passed → p .reply ≡ [] → Tried t k (p .stores) n u
+    → Did t k (plan p) (shown (stored n k (p .displaced))) u
+did-tried t u k n p e q w =
+    rw (w .number) (record { answer = sym (ap shown (single-answer t [] k p e q)); table = w .table ∙ sym (single-table t [] k p e) })
+
 pub did-stored : (t u : List ℕ) (k l : ℕ) (p : Plan) → verdict (p .checks) ≡ passed → p .reply ≡ [] → Made t u k l (p .stores)
     → Did t k (plan p) (shown (stored (length (p .stores)) k (p .displaced))) u
-did-stored t u k l p e q w =
-    record { answer = sym (ap shown (single-answer t [] k p e q)); table = w .table ∙ sym (single-table t [] k p e) }
+did-stored t u k l p e q w = did-tried t u k (length (p .stores)) p e q (record { number = refl; table = w .table })
 
 -- ---- one name of a DEL
 

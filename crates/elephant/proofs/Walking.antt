@@ -8,19 +8,22 @@ use native.Mathlib.Omega.{arith}
 use lib.Dec.{leb}
 use lib.ListN.{getD, length}
 use Rattle.paper.specs.Table.{room}
-use Rattle.paper.specs.Check.{whole, Check, check, Verdict, passed, verdict, refused}
+use Rattle.paper.specs.Check.{Place, Check, Verdict, passed, verdict, refused}
 use Rattle.paper.specs.Store.{Store}
 use Rattle.paper.specs.Code.{noWrite}
 use Rattle.paper.specs.Answer.{Outcome, plain, single, stores, done, cut}
 use Rattle.paper.specs.Request.{Begin, own}
-use Rattle.paper.specs.Effect.{Plan, Planned, plan, Making, making, linkTaken}
-use Rattle.laws.proofs.Lists.{length-each, getD-each}
+use Rattle.paper.specs.Effect.{Plan, Planned, plan, Making, making, linkTaken, borne, displacing, fullUp, stillPeopled, noRoom}
+use Rattle.laws.proofs.Lists.{Every, length-each, getD-each}
 use Rattle.effects.specs.Listed.{freeRooms}
 use Rattle.answers.specs.Shown.{shown}
 use Rattle.answers.specs.declared.Answer.{Answer}
 use Rattle.elephant.specs.Done.{did, Did}
-use Rattle.elephant.specs.Filing.{ending}
-use Rattle.elephant.proofs.Verdicts.{first-holds, first-passes, last-passes, second-holds, did-refused}
+use Rattle.placing.specs.Placing.{refusalShown}
+use Rattle.placing.specs.declared.Refusal.{Refusal}
+use Rattle.elephant.specs.Filing.{lateChecks, copyLate, ending}
+use Rattle.elephant.proofs.Verdicts.{first-holds, first-passes, none-left, alike-after, second-holds, did-refused}
+use Rattle.elephant.proofs.Ending.{Telling, late-alike}
 
 -- two plans that end alike
 did-same : (t u : List ℕ) (k : ℕ) (p q : Planned) (r : Answer) → did t k p ≡ did t k q → Did t k q r u → Did t k p r u
@@ -46,6 +49,10 @@ module _ (t : List ℕ) (k : ℕ) (ss : List Store) (b : Bool) where
       go (refused f) = refl
       go passed = by (leb (length ss) k)
 
+-- no refusal is that of no check
+pub no-late : (f : Refusal) → f ≡ refusalShown passed → f ≡ refusalShown (verdict [])
+no-late f e = e ∙ ap refusalShown (sym none-left)
+
 -- ---- 14
 
 module _ (t : List ℕ) (k : ℕ) (m : Making) where
@@ -53,18 +60,28 @@ module _ (t : List ℕ) (k : ℕ) (m : Making) where
   unfolding making
   shut-refused cs e = did-refused t k _ _ (first-holds _ _ e)
 
-  pub open-ends : (to : Begin) (r : Answer) (u : List ℕ) → noWrite (m .directory .code) ≡ false → Did t k (ending t to m false) r u
+  pub open-ends : (to : Begin) (r : Answer) (u : List ℕ) → noWrite (m .directory .code) ≡ false → Did t k (ending t to m []) r u
       → Did t k (making t m [] (linkTaken t to m) []) r u
   unfolding making ending
   open-ends to r u e w =
-      did-same t u k (making t m [] (linkTaken t to m) []) (ending t to m false) r
-      (did-alike t k _ _ _ _ (first-passes _ _ e ∙ sym (last-passes (linkTaken t to m) _ _ _ 25 (whole 3)))) w
+      did-same t u k (making t m [] (linkTaken t to m) []) (ending t to m []) r (did-alike t k _ _ _ _ (first-passes _ _ e)) w
 
--- 13, 14 and 15 of CPY, in that order, with 25 after all
-module _ (t : List ℕ) (k : ℕ) (m : Making) (c e : Check) (low : Bool) where
-  abbrev last : List Check
-  last = check low 25 (whole 3) ∷ []
+  -- the checks after 19, as one refusal
+  pub late-ends : (to : Begin) (late : List Check) (f : Refusal) → Every Telling late → f ≡ refusalShown (verdict late) → (r : Answer) (u : List ℕ)
+      → Did t k (ending t to m (lateChecks f)) r u → Did t k (ending t to m late) r u
+  unfolding ending
+  late-ends to late f h e r u w =
+      let three : List Check = fullUp t m ∷ stillPeopled (m .place) (displacing t (borne t m) (m .entry)) ∷ noRoom t m ∷ [] in
+      did-same t u k (ending t to m late) (ending t to m (lateChecks f)) r
+      (did-alike t k _ _ _ _
+      (alike-after (linkTaken t to m) _ _ (alike-after three late (lateChecks f) (sym (late-alike late f h e))))) w
 
+-- 23 and 25 of a copy have their numbers
+pub copy-telling : (place : Place) (source : List ℕ) (lev : ℕ) → Every Telling (copyLate place source lev)
+copy-telling place source lev = ((λ _. omega arith), ((λ _. omega arith), tt))
+
+-- 13, 14 and 15 of CPY, in that order, with others after all
+module _ (t : List ℕ) (k : ℕ) (m : Making) (c e : Check) (last : List Check) where
   pub copy-first : c .when ≡ true → Did t k (making t m (c ∷ []) (e ∷ []) last) (shown (plain (c .refusal .number) (c .refusal .place) 0 0)) t
   unfolding making
   copy-first x = did-refused t k _ _ (first-holds _ _ x)
@@ -78,11 +95,11 @@ module _ (t : List ℕ) (k : ℕ) (m : Making) (c e : Check) (low : Bool) where
   unfolding making
   copy-third x y z = did-refused t k _ _ (first-passes _ _ x ∙ first-passes _ _ y ∙ first-holds _ _ z)
 
-  pub copy-ends : (r : Answer) (u : List ℕ) → c .when ≡ false → noWrite (m .directory .code) ≡ false → e .when ≡ false → Did t k (ending t own m low) r u
+  pub copy-ends : (r : Answer) (u : List ℕ) → c .when ≡ false → noWrite (m .directory .code) ≡ false → e .when ≡ false → Did t k (ending t own m last) r u
       → Did t k (making t m (c ∷ []) (e ∷ []) last) r u
   unfolding making ending
   copy-ends r u x y z w =
-      did-same t u k (making t m (c ∷ []) (e ∷ []) last) (ending t own m low) r
+      did-same t u k (making t m (c ∷ []) (e ∷ []) last) (ending t own m last) r
       (did-alike t k _ _ _ _ (first-passes _ _ x ∙ first-passes _ _ y ∙ first-passes _ _ z)) w
 
 -- ---- a new file

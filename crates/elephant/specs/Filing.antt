@@ -1,9 +1,11 @@
 -- A new entry and, before it, the stores of a new file if it names one: how many, and the plan that they are.
-use mathlib.Core.Bool.{Bool, true, false, cond}
+use mathlib.Core.Bool.{Bool, true, false, not, cond}
 use mathlib.Core.List.{List, [], _∷_, _++_}
 use mathlib.Core.Path.{_≡_}
 use Prim.Native.Nat.{ℕ, _+_, _≤_, _<_}
+use lib.Dec.{eqb, ltb}
 use lib.ListN.{getD, length}
+use Rattle.paper.specs.Record.{level, marked}
 use Rattle.paper.specs.Table.{sized, rec}
 use Rattle.paper.specs.Declaration.{Part, orElse}
 use Rattle.paper.specs.Line.{Word}
@@ -13,7 +15,7 @@ use Rattle.paper.specs.Entry.{Holder}
 use Rattle.paper.specs.Block.{blocks, fileText}
 use Rattle.paper.specs.Sound.{sound}
 use Rattle.paper.specs.Store.{Store, puts}
-use Rattle.paper.specs.Effect.{Making, Planned, plan, borne, isFound, placing, fullUp, displacing, stillPeopled, noRoom, newFile, entryIn, chainOf, filing, copyHeading, making, linking, linkTaken, tooLow}
+use Rattle.paper.specs.Effect.{Making, Planned, plan, borne, isFound, placing, fullUp, displacing, stillPeopled, noRoom, newFile, entryIn, chainOf, filing, copyHeading, making, linking, linkTaken}
 use Rattle.paper.specs.Walk as W
 use Rattle.paper.specs.Walk.{lastName}
 use Rattle.words.specs.Place.{wordAt}
@@ -23,8 +25,10 @@ use Rattle.effects.specs.Listed.{freeRooms}
 use Rattle.effects.specs.Stage.{textStores}
 use Rattle.walk.specs.Shown.{meant, chainAt}
 use Rattle.walk.specs.declared.state.State.{State}
+use Rattle.answers.specs.Shown.{placeMeant}
 use Rattle.placing.specs.Placing.{entryChecks}
 use Rattle.placing.specs.declared.Meets.{Meets}
+use Rattle.placing.specs.declared.Refusal.{Refusal}
 use Rattle.elephant.specs.declared.filing.File.{File}
 
 -- how many stores a new file has
@@ -33,7 +37,7 @@ fileCount f text = cond (f .new) (blocks (length text) + 1) 0
 
 -- .. and what they are, on the records listed in r
 abbrev pub fileStores : File → List ℕ → List ℕ → List Store
-fileStores f r text = cond (f .new) (puts (getD r 0 0) (f .heading) ∷ textStores r text) []
+fileStores f r text = cond (f .new) (puts (getD r 0 0) (f .heading) ∷ textStores (getD r 0 0) r 1 text) []
 
 -- how many free records a new entry needs after so many stores
 abbrev pub neededBy : ℕ → Bool → ℕ
@@ -61,15 +65,19 @@ takenBy Own displaced = false
 takenBy (Take user) displaced = false
 takenBy (Give user) displaced = displaced
 
--- 16 to 19, by what is met, and 25
-abbrev pub allChecks : List ℕ → Begin → Place → Holder → Meets → ℕ → Bool → List Check
-allChecks t to place d m n low = check (takenBy to (m .displaced)) 16 place ∷ entryChecks t place d m n ++ check low 25 (whole 3) ∷ []
+-- what refuses after 19, as a check: number 0 refuses nothing
+abbrev pub lateChecks : Refusal → List Check
+lateChecks f = check (not (eqb (f .number) 0)) (f .number) (placeMeant (f .place)) ∷ []
 
--- a new entry's plan after the checks 13, 14 and 15; 25 for a copy whose level is too low
-unfoldable pub ending : List ℕ → asked.Begin → Making → Bool → Planned
-ending t to m low =
+-- 16 to 19, by what is met, and what refuses after them
+abbrev pub allChecks : List ℕ → Begin → Place → Holder → Meets → ℕ → Refusal → List Check
+allChecks t to place d m n late = check (takenBy to (m .displaced)) 16 place ∷ entryChecks t place d m n ++ lateChecks late
+
+-- a new entry's plan after the checks 13, 14 and 15, with those after 19
+unfoldable pub ending : List ℕ → asked.Begin → Making → List Check → Planned
+ending t to m late =
     plan (record {
-      checks = linkTaken t to m ++ fullUp t m ∷ stillPeopled (m .place) (displacing t (borne t m) (m .entry)) ∷ noRoom t m ∷ check low 25 (whole 3) ∷ [];
+      checks = linkTaken t to m ++ fullUp t m ∷ stillPeopled (m .place) (displacing t (borne t m) (m .entry)) ∷ noRoom t m ∷ late;
       stores = placing t m (borne t m);
       displaced = isFound (borne t m);
       reply = [];
@@ -106,6 +114,9 @@ abbrev pub copied : List ℕ → Word → W.State → ℕ → Part → Part → 
 copied t w d h life lev code =
     filing t 2 w d (orElse code 0) (copyHeading (rec t h) life lev code (length (fileText t h))) (fileText t h)
 
--- .. and whether its level is below the source's
-abbrev pub isLow : Part → List ℕ → Bool
-isLow lev source = tooLow (whole 3) lev source .when
+-- its checks after 19: 23 of the source, whose name is at this place, and 25 of the level that the copy has
+abbrev pub copyLate : Place → List ℕ → ℕ → List Check
+copyLate place source lev = check (marked source) 23 place ∷ check (ltb lev (level source)) 25 (whole 3) ∷ []
+
+abbrev pub lateOf : Place → Part → List ℕ → List Check
+lateOf place lev source = copyLate place source (orElse lev (level source))

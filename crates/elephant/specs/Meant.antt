@@ -4,12 +4,12 @@ use Prim.Native.Nat.{ℕ}
 use lib.ListN.{drop}
 use Rattle.paper.specs.Line.{words}
 use Rattle.paper.specs.Request as asked
-use Rattle.paper.specs.Request.{crd, wrs, rds, cpy, dup, chn, del, dpr, lst, lstBase, lstTree, lstBaseTree}
+use Rattle.paper.specs.Request.{crd, wrs, rds, cpy, dup, chn, del, dpr, lst, lstBase, lstTree, lstBaseTree, rewrite}
 use Rattle.words.specs.Place.{wordAt}
 use Rattle.words.specs.Shown.{beginMeant, meantPart}
 use Rattle.declarations.specs.Given.{lifetimePart, levelPart, digitPart}
 use Rattle.reader.specs.declared.request.Request.{Request}
-use Rattle.reader.specs.declared.request.Request.the-variants.{Crd, Wrs, Rds, Cpy, Dup, Chn, Del, Dpr, Lst, LstBase, LstTree, LstBaseTree}
+use Rattle.reader.specs.declared.request.Request.the-variants.{Crd, Wrs, Rds, Cpy, Dup, Chn, Del, Dpr, Lst, LstBase, LstTree, LstBaseTree, Rewrite}
 
 abbrev pub requestMeant : List ℕ → Request → asked.Request
 requestMeant line (Crd name level digit) = crd (wordAt line name) (levelPart level) (digitPart digit)
@@ -26,3 +26,4 @@ requestMeant line (Lst from name) = lst (beginMeant from) (wordAt line name)
 requestMeant line LstBase = lstBase
 requestMeant line (LstTree from name depth) = lstTree (beginMeant from) (wordAt line name) depth
 requestMeant line (LstBaseTree depth) = lstBaseTree depth
+requestMeant line (Rewrite name) = rewrite (wordAt line name)

@@ -2,10 +2,11 @@
 use mathlib.Core.Bool.{Bool, not}
 use mathlib.Core.List.{List, [], _∷_}
 use Prim.Native.Nat.{ℕ}
-use Rattle.paper.specs.Record.{directory, simple}
+use Rattle.paper.specs.Record.{marked, directory, simple}
 use Rattle.paper.specs.Table.{rec}
 use Rattle.paper.specs.Line.{Word}
 use Rattle.paper.specs.Block.{fileText}
+use Rattle.paper.specs.Declaration.{Part}
 use Rattle.paper.specs.Check.{Place, whole, Check, check}
 use Rattle.paper.specs.Listing.{directoryLines, directoryTree}
 use Rattle.paper.specs.Walk.{State, file}
@@ -26,16 +27,19 @@ written (Text first count) t h = part (fileText t h) (meantPart first) (meantPar
 written Lines t h = directoryLines t h
 written (Deep depth) t h = directoryTree t depth 0 h
 
--- the checks after 20: "28 first beyond the end"
-abbrev pub late : Sheet → List ℕ → ℕ → List Check
-late (Text first count) t h = beyondEnd (whole 2) (meantPart first) (fileText t h) ∷ []
-late Lines t h = []
-late (Deep depth) t h = []
+-- the checks after 20 of a text: "23 marked", "28 first beyond the end"
+abbrev pub textLate : Place → Part → List ℕ → ℕ → List Check
+textLate place first t h = check (marked (rec t h)) 23 place ∷ beyondEnd (whole 2) first (fileText t h) ∷ []
+
+abbrev pub late : Sheet → Place → List ℕ → ℕ → List Check
+late (Text first count) place t h = textLate place (meantPart first) t h
+late Lines place t h = []
+late (Deep depth) place t h = []
 
 -- at the end of the walk, which is this place: `rdsPlan`, `lstPlan` and `lstTreePlan`
 abbrev pub readingAt : Sheet → Place → List ℕ → List ℕ → State → Planned
 readingAt s place t reply f =
-    showing (readInhibited place f ∷ check (not (isRight s (rec t (file t f)))) 15 place ∷ []) (written s t (file t f)) reply (late s t (file t f))
+    showing (readInhibited place f ∷ check (not (isRight s (rec t (file t f)))) 15 place ∷ []) (written s t (file t f)) reply (late s place t (file t f))
 
 abbrev pub reading : Sheet → List ℕ → ℕ → List ℕ → Word → Planned
 reading s t u reply name = toEnd t u 1 name (λ _ f. readingAt s (endOf 1 name) t reply f)

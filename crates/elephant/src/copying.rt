@@ -8,11 +8,13 @@ use answers::Place;
 use declarations::part::Digit;
 use declarations::part::Level;
 use declarations::part::Lifetime;
+use placing::Refusal;
 use records::bytes::Room;
 use records::bytes::part;
 use records::code::Code;
 use records::entry::heading_named;
 use records::heading::Heading;
+use records::heading::is_marked;
 use records::heading::is_simple;
 use records::heading::level_of;
 use records::heading::lifetime_of;
@@ -24,8 +26,8 @@ use words::begin::Begin;
 ghost use mathlib.Core.Bool.{true};
 ghost use mathlib.Core.List.{[], _∷_};
 ghost use mathlib.Core.Path.{_≡_};
-ghost use Rattle.paper.specs.Check.{whole};
-ghost use Rattle.paper.specs.Effect.{making, readInhibited, notSimple, tooLow, cpyPlan, listOf, begun};
+ghost use Rattle.paper.specs.Check.{verdict};
+ghost use Rattle.paper.specs.Effect.{making, readInhibited, notSimple, cpyPlan, listOf, begun};
 ghost use Rattle.paper.specs.Record.{simple};
 ghost use Rattle.paper.specs.Request.{own};
 ghost use Rattle.paper.specs.Table.{rec};
@@ -35,15 +37,30 @@ ghost use Rattle.words.specs.Place.{wordAt};
 ghost use Rattle.words.specs.Shown.{beginMeant};
 ghost use Rattle.walk.specs.Shown.{meant};
 ghost use Rattle.answers.specs.Shown.{placeMeant};
+ghost use Rattle.placing.specs.Placing.{refusalShown};
 ghost use Rattle.elephant.specs.Done.{Did};
-ghost use Rattle.elephant.specs.Filing.{Named, copied, isLow, ending};
+ghost use Rattle.elephant.specs.Filing.{Named, copied, copyLate, lateOf, ending};
 
-// The text of a simple file filed under the new name in d, after 13, 14 and 15.
+// 23, "marked", and 25, "level too low", of a copy with this level of a file whose name is at this place.
+fn late_refusal(table: &[u8], source: Room, place: Place, level: u8) -> Refusal
+    ensures { λ r. ⌜ r ≡ refusalShown (verdict (copyLate (placeMeant place) (rec (now (table .entry)) (source .0)) level)) ⌝ }
+{
+    if is_marked(table, source) {
+        return Refusal { number: 23, place };
+    }
+    if level < level_of(table, source) {
+        return Refusal::whole(25, 3);
+    }
+    Refusal::none()
+}
+
+// The text of a simple file, whose name is at this place, filed under the new name in d, after 13, 14 and 15.
 fn copy(
     table: &mut [u8],
     line: &[u8],
     new: usize,
     d: State,
+    place: Place,
     source: Room,
     lifetime: Lifetime,
     level: Level,
@@ -55,14 +72,13 @@ fn copy(
         (ending (now (table .entry)) own
         (copied (now (table .entry)) (wordAt (now (line .entry)) new) (meant d) (source .0)
         (lifetimePart lifetime) (levelPart level) (digitPart digit))
-        (isLow (levelPart level) (rec (now (table .entry)) (source .0)))) r (now (table .exit)) ⌝ }
+        (lateOf (placeMeant place) (levelPart level) (rec (now (table .entry)) (source .0)))) r (now (table .exit)) ⌝ }
 {
     let mut text = [0u8; Heading::MOST_LENGTH];
     copy_text(table, source, &mut text);
     let length = text_length(table, source);
     let code = Code(digit.or_else(0));
-    let least = level_of(table, source);
-    let given = level.or_else(least);
+    let given = level.or_else(level_of(table, source));
     let heading = Heading {
         ty: Heading::SIMPLE,
         level: given,
@@ -78,7 +94,7 @@ fn copy(
         2,
         code,
         heading,
-        given < least,
+        late_refusal(table, source, place, given),
         part(&text, 0, length),
         stop,
     )
@@ -103,7 +119,7 @@ fn cpy_in(
         (copied (now (table .entry)) (wordAt (now (line .entry)) new) (meant d) (file (now (table .entry)) (meant f))
         (lifetimePart lifetime) (levelPart level) (digitPart digit))
         (readInhibited (placeMeant place) (meant f) ∷ []) (notSimple (placeMeant place) (now (table .entry)) (meant f) ∷ [])
-        (tooLow (whole 3) (levelPart level) (rec (now (table .entry)) (file (now (table .entry)) (meant f))) ∷ [])) r (now (table .exit)) ⌝ }
+        (lateOf (placeMeant place) (levelPart level) (rec (now (table .entry)) (file (now (table .entry)) (meant f))))) r (now (table .exit)) ⌝ }
 {
     let read = f.code;
     if read.inhibits_read() {
@@ -117,7 +133,18 @@ fn cpy_in(
     if !is_simple(table, source) {
         return Answer::refused(15, place);
     }
-    copy(table, line, new, d, source, lifetime, level, digit, stop)
+    copy(
+        table,
+        line,
+        new,
+        d,
+        place,
+        source,
+        lifetime,
+        level,
+        digit,
+        stop,
+    )
 }
 
 // "CPY may have M or L, else takes the source's. Level: given, else U (CPY: the source's). Code: given, else 0."

@@ -10,12 +10,20 @@ use crate::reply::Sheet;
 use crate::reply::lst_base;
 use crate::reply::lst_base_tree;
 use crate::reply::read;
+use crate::rewriting::rewrite;
 use answers::Answer;
 use reader::request::Request;
 use records::entry::Holder;
+ghost use mathlib.Core.Bool.{_&&_};
+ghost use mathlib.Core.List.{List};
 ghost use mathlib.Core.Path.{_≡_};
+ghost use Prim.Native.Nat.{ℕ};
+ghost use lib.Dec.{ltb};
+ghost use lib.ListN.{length};
 ghost use Rattle.paper.specs.Answer.{entrance, requested};
+ghost use Rattle.paper.specs.Request.{textTooLong};
 ghost use Rattle.elephant.specs.Entrance.{entranceNumber};
+ghost use Rattle.elephant.specs.Meant.{requestMeant};
 ghost use Rattle.elephant.specs.Admitted.{Admitted};
 ghost use Rattle.elephant.specs.Promised.{Promised};
 
@@ -31,6 +39,22 @@ pub(crate) fn entrance_number(table: &[u8], user: u32) -> u8
         return 3;
     }
     0
+}
+
+// Whether the text is looked at: "WRS text above 24,000 bytes", and that of WRS*.
+pub(crate) fn bears_text(asked: Request) -> bool
+    ensures { λ r. ⌜ ((line text : List ℕ) → textTooLong (requestMeant line asked) text ≡ (r && ltb 24000 (length text))) ⌝ }
+{
+    match asked {
+        Request::Wrs {
+            lifetime: _,
+            level: _,
+            digit: _,
+            name: _,
+        } => true,
+        Request::Rewrite { name: _ } => true,
+        _ => false,
+    }
 }
 
 // What was read, done by its function.
@@ -85,10 +109,11 @@ pub(crate) fn grant(
             read(table, line, reply, Sheet::Deep(depth), from, name, user)
         }
         Request::LstBaseTree { depth } => lst_base_tree(table, reply, user, depth),
+        Request::Rewrite { name } => rewrite(table, line, text, name, user, stop),
     }
 }
 
-// The same for what is no WRS, with CPY apart: its frame has room for a whole text, and would be part of every function's frame if
+// The same for what bears no text, with CPY apart: its frame has room for a whole text, and would be part of every function's frame if
 // `grant` alone called it. What is called from two places, as `cpy` and `grant` are, the compiler leaves a frame of its own.
 pub(crate) fn admit(
     table: &mut [u8],

@@ -1,4 +1,4 @@
-// A new entry, and before it a new file where it names one: end checks 16 to 19 and 25, the stores, the answer.
+// A new entry, and before it a new file where it names one: end checks 16 to 19 and those after them, the stores, the answer.
 use answers::Answer;
 use answers::Place;
 use effects::rooms::room_at;
@@ -30,12 +30,12 @@ ghost use Rattle.answers.specs.Shown.{placeMeant};
 ghost use Rattle.effects.specs.Stage.{Made};
 ghost use Rattle.placing.specs.Placing.{refusalShown};
 ghost use Rattle.elephant.specs.Done.{Did};
-ghost use Rattle.elephant.specs.Filing.{fileCount, fileStores, neededBy, storesBy, makingOf, Ready, takenBy, allChecks, ending};
+ghost use Rattle.elephant.specs.Filing.{fileCount, fileStores, neededBy, storesBy, makingOf, Ready, takenBy, lateChecks, allChecks, ending};
 
-// A new file's heading, or no new file; and whether it is a copy whose level is too low.
+// A new file's heading, or no new file; and what refuses it after 19.
 pub(crate) struct File {
     pub new: bool,
-    pub low: bool,
+    pub late: Refusal,
     pub heading: [u8; Room::SIZE],
 }
 
@@ -64,8 +64,9 @@ fn put_file(
         return left;
     }
     let heading = file.heading;
-    let rest = put(table, room_at(rooms, 0), heading, left);
-    put_texts(table, rooms, text, rest)
+    let room = room_at(rooms, 0);
+    let rest = put(table, room, heading, left);
+    put_texts(table, room, rooms, 1, text, rest)
 }
 
 // How many free records are needed.
@@ -90,7 +91,7 @@ fn is_taken(to: Begin, displaced: bool) -> bool
     }
 }
 
-// 16, "where the link is taken"; then 17 to 19; then 25, "level too low".
+// 16, "where the link is taken"; then 17 to 19; then what refuses after them.
 fn refusal(
     table: &[u8],
     to: Begin,
@@ -98,10 +99,10 @@ fn refusal(
     meets: Meets,
     needed: usize,
     place: Place,
-    low: bool,
+    late: Refusal,
 ) -> Refusal
     ensures { λ r. ⌜ r ≡ refusalShown (verdict
-        (allChecks (now (table .entry)) to (placeMeant place) (holderShown holder) meets needed low)) ⌝ }
+        (allChecks (now (table .entry)) to (placeMeant place) (holderShown holder) meets needed late)) ⌝ }
 {
     if is_taken(to, meets.displaced) {
         return Refusal { number: 16, place };
@@ -110,14 +111,8 @@ fn refusal(
     if refused.number != 0 {
         return refused;
     }
-    if low {
-        return Refusal {
-            number: 25,
-            place: Place {
-                argument: 3,
-                link: 0,
-            },
-        };
+    if late.number != 0 {
+        return late;
     }
     refused
 }
@@ -151,14 +146,14 @@ pub(crate) fn make(
     ensures { λ r. ⌜ Did (now (table .entry)) stop
         (ending (now (table .entry)) (beginMeant to)
         (makingOf (now (table .entry)) (placeMeant place) d (now (name .entry)) (code .0) (named .0) file (now (text .entry)))
-        (file .low)) r (now (table .exit)) ⌝ }
+        (lateChecks (file .late))) r (now (table .exit)) ⌝ }
 {
     let holder = d.holder;
     let first = count_file(file, text);
     let found = find(table, holder, name);
     let meets = meet(table, found, named, room_at(rooms, first));
     let needs = needed(first, meets.displaced);
-    let refused = refusal(table, to, holder, meets, needs, place, file.low);
+    let refused = refusal(table, to, holder, meets, needs, place, file.late);
     if refused.number != 0 {
         return Answer::refused(refused.number, refused.place);
     }

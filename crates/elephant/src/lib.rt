@@ -7,14 +7,15 @@ mod filing;
 mod making;
 mod place;
 mod reply;
+mod rewriting;
 
 use crate::entrance::admit;
+use crate::entrance::bears_text;
 use crate::entrance::entrance_number;
 use crate::entrance::grant;
 use crate::place::refused_at;
 use answers::Answer;
 use reader::request::Read;
-use reader::request::Request;
 use reader::request::read_line;
 use records::heading::Heading;
 ghost use mathlib.Core.List.{[]};
@@ -41,15 +42,9 @@ pub fn request(
     match read {
         Read::Refused(refusal) => refused_at(refusal.number, refusal.place as u32, refusal.link),
         Read::Granted(asked) => {
-            let Request::Wrs {
-                lifetime: _,
-                level: _,
-                digit: _,
-                name: _,
-            } = asked
-            else {
+            if !bears_text(asked) {
                 return admit(table, line, text, reply, user, stop, asked);
-            };
+            }
             if Heading::MOST_LENGTH < text.len() {
                 return Answer::refused_whole(10, 0);
             }

@@ -8,6 +8,7 @@ use declarations::part::Digit;
 use declarations::part::Level;
 use effects::rooms::free_rooms;
 use effects::rooms::room_at;
+use placing::Refusal;
 use records::bytes::Bytes;
 use records::bytes::Room;
 use records::bytes::part;
@@ -31,7 +32,7 @@ ghost use Rattle.words.specs.Place.{wordAt};
 ghost use Rattle.words.specs.Shown.{beginMeant};
 ghost use Rattle.walk.specs.Shown.{meant};
 ghost use Rattle.elephant.specs.Done.{Did};
-ghost use Rattle.elephant.specs.Filing.{Named, Linked, linkingIn, ending};
+ghost use Rattle.elephant.specs.Filing.{Named, Linked, linkingIn, lateChecks, ending};
 
 // A new file under the last name of the chain at `name`, in d: 17 to 19, the stores and the answer.
 pub(crate) fn file(
@@ -42,21 +43,21 @@ pub(crate) fn file(
     argument: u32,
     code: Code,
     heading: [u8; Room::SIZE],
-    low: bool,
+    late: Refusal,
     text: &[u8],
     stop: u32,
 ) -> Answer
     requires { ⌜ Named (now table) (now line) name (now text) ⌝ }
     ensures { λ r. ⌜ Did (now (table .entry)) stop
         (ending (now (table .entry)) own
-        (filing (now (table .entry)) argument (wordAt (now (line .entry)) name) (meant d) (code .0) heading (now (text .entry))) low) r (now (table .exit)) ⌝ }
+        (filing (now (table .entry)) argument (wordAt (now (line .entry)) name) (meant d) (code .0) heading (now (text .entry))) (lateChecks late)) r (now (table .exit)) ⌝ }
 {
     let mut rooms = [0u16; Entry::MOST_NEW];
     free_rooms(table, &mut rooms);
     let named = room_at(&rooms, 0);
     let file = File {
         new: true,
-        low: low,
+        late: late,
         heading: heading,
     };
     make(
@@ -104,7 +105,7 @@ fn file_in(
         argument,
         code,
         heading,
-        false,
+        Refusal::none(),
         text,
         stop,
     )
@@ -209,7 +210,7 @@ fn dup_in(
     free_rooms(table, &mut rooms);
     let file = File {
         new: false,
-        low: false,
+        late: Refusal::none(),
         heading: [0u8; Room::SIZE],
     };
     let name = last_name(line, new);

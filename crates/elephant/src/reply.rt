@@ -13,6 +13,7 @@ use records::bytes::Bytes;
 use records::bytes::Room;
 use records::entry::heading_named;
 use records::heading::is_directory;
+use records::heading::is_marked;
 use records::heading::is_simple;
 use records::heading::text_length;
 use records::text::Text;
@@ -30,9 +31,8 @@ ghost use Prim.Native.Nat.{_+_, _-_, _≤_, min};
 ghost use lib.ListN.{length, take, drop};
 ghost use lib.Seq.{sets};
 ghost use Rattle.paper.specs.Block.{fileText};
-ghost use Rattle.paper.specs.Check.{whole};
 ghost use Rattle.paper.specs.Declaration.{orElse};
-ghost use Rattle.paper.specs.Effect.{showing, writing, part, beyondEnd, lstBasePlan, lstBaseTreePlan, listOf, begun};
+ghost use Rattle.paper.specs.Effect.{showing, writing, part, lstBasePlan, lstBaseTreePlan, listOf, begun};
 ghost use Rattle.paper.specs.Listing.{listed, lines, tree};
 ghost use Rattle.paper.specs.Record.{simple, textLength};
 ghost use Rattle.paper.specs.Table.{rec};
@@ -42,7 +42,7 @@ ghost use Rattle.words.specs.Shown.{beginMeant, meantPart};
 ghost use Rattle.walk.specs.Shown.{meant};
 ghost use Rattle.answers.specs.Shown.{placeMeant};
 ghost use Rattle.elephant.specs.Done.{Fit, Wrote};
-ghost use Rattle.elephant.specs.Reading.{isRight, written, late, readingAt, reading};
+ghost use Rattle.elephant.specs.Reading.{isRight, written, textLate, late, readingAt, reading};
 
 // What is read of a file: of the text of a simple one, the part from a first byte on, so many bytes; or the lines
 // of a directory, or those and what stands under them, to a depth.
@@ -104,18 +104,29 @@ fn part_length(n: usize, a: usize, count: Part) -> usize
     rest
 }
 
-// The part of a simple file's text, where it fits, and 28 where it starts beyond the end.
-fn write_text(table: &[u8], heading: Room, first: Part, count: Part, reply: &mut [u8]) -> Answer
+// The part of a simple file's text, where it fits: 23 where the file, whose name is at this place, is marked, and 28 where the
+// part starts beyond the end.
+fn write_text(
+    table: &[u8],
+    heading: Room,
+    place: Place,
+    first: Part,
+    count: Part,
+    reply: &mut [u8],
+) -> Answer
     requires { ⌜ Fit (now table) × (simple (rec (now table) (heading .0)) ≡ true) ⌝ }
     ensures { λ r. ⌜ Wrote (now (table .entry)) (now (reply .entry))
         (showing [] (part (fileText (now (table .entry)) (heading .0)) (meantPart first) (meantPart count)) (now (reply .entry))
-        (beyondEnd (whole 2) (meantPart first) (fileText (now (table .entry)) (heading .0)) ∷ [])) r (now (reply .exit)) ⌝ }
+        (textLate (placeMeant place) (meantPart first) (now (table .entry)) (heading .0))) r (now (reply .exit)) ⌝ }
 {
     let n = text_length(table, heading).0;
     let a = first_byte(first);
     let m = part_length(n, a, count);
     if reply.len() < m {
         return Answer::refused_whole(20, 0);
+    }
+    if is_marked(table, heading) {
+        return Answer::refused(23, place);
     }
     if n < a {
         return Answer::refused_whole(28, 2);
@@ -161,15 +172,15 @@ fn is_right(table: &[u8], sheet: Sheet, heading: Room) -> bool
     }
 }
 
-// What is read of a heading, where it fits.
-fn write(table: &[u8], sheet: Sheet, heading: Room, reply: &mut [u8]) -> Answer
+// What is read of a heading, whose name is at this place, where it fits.
+fn write(table: &[u8], sheet: Sheet, heading: Room, place: Place, reply: &mut [u8]) -> Answer
     requires { ⌜ Fit (now table) × (isRight sheet (rec (now table) (heading .0)) ≡ true) ⌝ }
     ensures { λ r. ⌜ Wrote (now (table .entry)) (now (reply .entry))
-        (showing [] (written sheet (now (table .entry)) (heading .0)) (now (reply .entry)) (late sheet (now (table .entry)) (heading .0)))
+        (showing [] (written sheet (now (table .entry)) (heading .0)) (now (reply .entry)) (late sheet (placeMeant place) (now (table .entry)) (heading .0)))
         r (now (reply .exit)) ⌝ }
 {
     match sheet {
-        Sheet::Text(first, count) => write_text(table, heading, first, count, reply),
+        Sheet::Text(first, count) => write_text(table, heading, place, first, count, reply),
         Sheet::Lines => list(table, Listed::Directory(heading), reply),
         Sheet::Deep(depth) => list_deep(table, Listed::Directory(heading), depth, reply),
     }
@@ -189,7 +200,7 @@ fn read_at(table: &[u8], sheet: Sheet, place: Place, f: State, reply: &mut [u8])
     if !is_right(table, sheet, heading) {
         return Answer::refused(15, place);
     }
-    write(table, sheet, heading, reply)
+    write(table, sheet, heading, place, reply)
 }
 
 // "RDS writes the text to the front of the reply buffer." "LST writes one line an entry", and LST* those under it

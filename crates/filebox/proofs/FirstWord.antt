@@ -1,6 +1,6 @@
--- The stages tell the first word as `Line` cuts it: each stage's verdict on the bytes to come is a fact about those bytes once the blanks
--- beside colons are dropped, proved from the last stage back.
-use mathlib.Core.Bool.{Bool, true, false, _&&_, not, cond, true≢false, and-true}
+-- The stages tell the first word as `Line` cuts it, WRS or `WRS*`: each stage's verdict on the bytes to come is a fact about those bytes
+-- once the blanks beside colons are dropped, proved from the last stage back.
+use mathlib.Core.Bool.{Bool, true, false, _&&_, _||_, not, cond, true≢false, and-true}
 use mathlib.Core.List.{List, [], _∷_, _++_, map, nil≢cons}
 use mathlib.Core.Logic.{_⊎_, inl, inr}
 use mathlib.Core.Path.{_≡_, refl, sym}
@@ -13,10 +13,10 @@ use Rattle.paper.specs.Line.{Spot, placed, blankSpot, colonSpot, skipped, atCol
 use Rattle.words.specs.Place.{head}
 use Rattle.words.proofs.Pieces.{head-grow}
 use Rattle.laws.proofs.Tests.{truth, and-no-right}
-use Rattle.filebox.specs.FirstWord.{after, stages, isWrs}
+use Rattle.filebox.specs.FirstWord.{after, stages, takes}
 use Rattle.filebox.specs.Box.{takesText}
 use Rattle.filebox.specs.declared.first_word.Stage.{Stage}
-use Rattle.filebox.specs.declared.first_word.Stage.the-variants.{Blanks, W, Wr, Wrs, Gap, Is, IsNot}
+use Rattle.filebox.specs.declared.first_word.Stage.the-variants.{Blanks, W, Wr, Wrs, Star, Gap, Is, IsNot}
 
 stays-is : (s : List ℕ) → stages Is s ≡ Is
 unfolding stages
@@ -146,7 +146,7 @@ here-over p b s e f =
     rw (shut-plain p b s e f, head-more (record { at = p; byte = b }) (shut (suc p) s) e)
     (no-names (record { at = p; byte = b }) (head (split blankSpot (shut (suc p) s))) f)
 
--- after WRS and blanks: it is the word unless a colon follows
+-- after the word and blanks: it is the word unless a colon follows
 shut-none : (p : ℕ) → shut p [] ≡ []
 unfolding shut placed closed
 shut-none p = refl
@@ -160,7 +160,7 @@ at-blank p s = rw (shut-blank p s) (go (truth (atColon (shut (suc p) s))))
     go (inl e) = rw e e
     go (inr e) = rw e
 
-gap-tells : (p : ℕ) (s : List ℕ) → isWrs (stages Gap s) ≡ not (atColon (shut p s))
+gap-tells : (p : ℕ) (s : List ℕ) → takes (stages Gap s) ≡ not (atColon (shut p s))
 unfolding stages atColon
 gap-tells p [] = rw (shut-none p)
 gap-tells p (b ∷ s) =
@@ -169,43 +169,77 @@ gap-tells p (b ∷ s) =
     (λ (e : b ≡ 58). rw (e, shut-colon p s, stays-not s))
     (λ (e : eqb b 32 ≡ false) (f : eqb b 58 ≡ false). rw (shut-plain p b s e f, e, f, stays-is s))
 
--- after WRS: it is the word if the piece ends here
-wrs-tells : (p : ℕ) (s : List ℕ) → isWrs (stages Wrs s) ≡ alone [] (here p s)
+-- one of two words
+abbrev oneOf : List ℕ → List ℕ → List (List ℕ) → Bool
+oneOf q r ns = alone q ns || alone r ns
+
+-- after WRS*: it is the word if the piece ends here
+star-tells : (p : ℕ) (s : List ℕ) → takes (stages Star s) ≡ alone [] (here p s)
 unfolding stages same
-wrs-tells p [] = rw (here-none p)
-wrs-tells p (b ∷ s) =
+star-tells p [] = rw (here-none p)
+star-tells p (b ∷ s) =
     kinds b
     (λ (e : b ≡ 32). rw (e, here-blank [] p s, gap-tells (suc p) s) (sym (and-true (not (atColon (shut (suc p) s))))))
     (λ (e : b ≡ 58). rw (e, here-colon [] p s, stays-not s))
     (λ (e : eqb b 32 ≡ false) (f : eqb b 58 ≡ false). rw (here-over p b s e f, e, stays-not s))
 
--- before a letter of it
-module _ (a : ℕ) (q : List ℕ) (st nx : Stage) (goes : (b : ℕ) → after st b ≡ cond (eqb b a) nx IsNot) (short : isWrs st ≡ false)
-    (no-blank : eqb 32 a ≡ false) (no-colon : eqb 58 a ≡ false) (more : (p : ℕ) (s : List ℕ) → isWrs (stages nx s) ≡ alone q (here p s)) where
-  letter-tells : (p : ℕ) (s : List ℕ) → isWrs (stages st s) ≡ alone (a ∷ q) (here p s)
-  unfolding stages same
-  letter-tells p [] = rw (here-none p) short
-  letter-tells p (b ∷ s) =
-      kinds b
-      (λ (e : b ≡ 32). rw (goes b, e, here-blank (a ∷ q) p s, no-blank, stays-not s) (sym (and-no-right (not (atColon (shut (suc p) s))) false refl)))
-      (λ (e : b ≡ 58). rw (goes b, e, here-colon (a ∷ q) p s, no-colon, stays-not s))
-      (λ (e : eqb b 32 ≡ false) (f : eqb b 58 ≡ false). rw (goes b, here-letter a q p b s e f) (go (truth (eqb b a))))
-    where
-      go : (eqb b a ≡ true) ⊎ (eqb b a ≡ false) → isWrs (stages (cond (eqb b a) nx IsNot) s) ≡ (eqb b a && alone q (here (suc p) s))
-      go (inl g) = rw g (more (suc p) s)
-      go (inr g) = rw (g, stays-not s)
+-- after WRS: it is one of the words if the piece ends here, or with the byte `*`
+wrs-tells : (p : ℕ) (s : List ℕ) → takes (stages Wrs s) ≡ oneOf [] (42 ∷ []) (here p s)
+unfolding stages same
+wrs-tells p [] = rw (here-none p)
+wrs-tells p (b ∷ s) =
+    kinds b
+    (λ (e : b ≡ 32). rw (e, here-blank [] p s, here-blank (42 ∷ []) p s, gap-tells (suc p) s) (ends (not (atColon (shut (suc p) s)))))
+    (λ (e : b ≡ 58). rw (e, here-colon [] p s, here-colon (42 ∷ []) p s, stays-not s))
+    (λ (e : eqb b 32 ≡ false) (f : eqb b 58 ≡ false). rw (here-over p b s e f, here-letter 42 [] p b s e f, e) (go (truth (eqb b 42))))
+  where
+    ends : (t : Bool) → t ≡ ((t && true) || (t && false))
+    ends true = refl
+    ends false = refl
 
-wr-tells : (p : ℕ) (s : List ℕ) → isWrs (stages Wr s) ≡ alone (83 ∷ []) (here p s)
-wr-tells = letter-tells 83 [] Wr Wrs (λ b. refl) refl refl refl wrs-tells
+    go : (eqb b 42 ≡ true) ⊎ (eqb b 42 ≡ false) → takes (stages (cond (eqb b 42) Star IsNot) s) ≡ (eqb b 42 && alone [] (here (suc p) s))
+    go (inl g) = rw g (star-tells (suc p) s)
+    go (inr g) = rw (g, stays-not s)
 
-w-tells : (p : ℕ) (s : List ℕ) → isWrs (stages W s) ≡ alone (82 ∷ 83 ∷ []) (here p s)
-w-tells = letter-tells 82 (83 ∷ []) W Wr (λ b. refl) refl refl refl wr-tells
+-- a letter that both have, and then what the stage after it tells
+module _ (a : ℕ) (q r : List ℕ) (nx : Stage) (more : (p : ℕ) (s : List ℕ) → takes (stages nx s) ≡ oneOf q r (here p s)) where
+  on : (p b : ℕ) (s : List ℕ) → (eqb b a ≡ true) ⊎ (eqb b a ≡ false)
+      → takes (stages (cond (eqb b a) nx IsNot) s) ≡ ((eqb b a && alone q (here p s)) || (eqb b a && alone r (here p s)))
+  on p b s (inl g) = rw g (more p s)
+  on p b s (inr g) = rw (g, stays-not s)
+
+  module _ (st : Stage) (goes : (b : ℕ) → after st b ≡ cond (eqb b a) nx IsNot) (short : takes st ≡ false) (no-blank : eqb 32 a ≡ false)
+      (no-colon : eqb 58 a ≡ false) where
+    letter-tells : (p : ℕ) (s : List ℕ) → takes (stages st s) ≡ oneOf (a ∷ q) (a ∷ r) (here p s)
+    unfolding stages same
+    letter-tells p [] = rw (here-none p) short
+    letter-tells p (b ∷ s) =
+        kinds b
+        (λ (e : b ≡ 32).
+        rw (
+          goes b,
+          e,
+          here-blank (a ∷ q) p s,
+          here-blank (a ∷ r) p s,
+          no-blank,
+          stays-not s,
+          and-no-right (not (atColon (shut (suc p) s))) false refl,
+        ))
+        (λ (e : b ≡ 58). rw (goes b, e, here-colon (a ∷ q) p s, here-colon (a ∷ r) p s, no-colon, stays-not s))
+        (λ (e : eqb b 32 ≡ false) (f : eqb b 58 ≡ false).
+        rw (goes b, here-letter a q p b s e f, here-letter a r p b s e f) (on (suc p) b s (truth (eqb b a))))
+
+wr-tells : (p : ℕ) (s : List ℕ) → takes (stages Wr s) ≡ oneOf (83 ∷ []) (83 ∷ 42 ∷ []) (here p s)
+wr-tells = letter-tells 83 [] (42 ∷ []) Wrs wrs-tells Wr (λ b. refl) refl refl refl
+
+w-tells : (p : ℕ) (s : List ℕ) → takes (stages W s) ≡ oneOf (82 ∷ 83 ∷ []) (82 ∷ 83 ∷ 42 ∷ []) (here p s)
+w-tells = letter-tells 82 (83 ∷ []) (83 ∷ 42 ∷ []) Wr wr-tells W (λ b. refl) refl refl refl
 
 -- the names of the first word of a shut line
 unfoldable ahead : ℕ → List Spot → List (List ℕ)
 ahead n c = getD (solid (split blankSpot c)) 0 (record { start = n; names = [] ∷ [] }) .names
 
-ahead-none : (n p : ℕ) → false ≡ alone (87 ∷ 82 ∷ 83 ∷ []) (ahead n (shut p []))
+ahead-none : (n p : ℕ) → false ≡ oneOf (87 ∷ 82 ∷ 83 ∷ []) (87 ∷ 82 ∷ 83 ∷ 42 ∷ []) (ahead n (shut p []))
 unfolding ahead shut placed closed split solid same
 ahead-none n p = refl
 
@@ -233,21 +267,20 @@ ahead-plain : (n p b : ℕ) (s : List ℕ) → eqb b 32 ≡ false → eqb b 58 �
 unfolding here
 ahead-plain n p b s e f = rw (shut-plain p b s e f) (starts n (record { at = p; byte = b }) (shut (suc p) s) e)
 
-blanks-tell : (n p : ℕ) (s : List ℕ) → isWrs (stages Blanks s) ≡ alone (87 ∷ 82 ∷ 83 ∷ []) (ahead n (shut p s))
+blanks-tell : (n p : ℕ) (s : List ℕ) → takes (stages Blanks s) ≡ oneOf (87 ∷ 82 ∷ 83 ∷ []) (87 ∷ 82 ∷ 83 ∷ 42 ∷ []) (ahead n (shut p s))
 unfolding stages
 blanks-tell n p [] = ahead-none n p
 blanks-tell n p (b ∷ s) =
     kinds b
     (λ (e : b ≡ 32). rw (e, ahead-blank n p s) (blanks-tell n (suc p) s))
-    (λ (e : b ≡ 58). rw (e, ahead-colon n p s, here-colon (87 ∷ 82 ∷ 83 ∷ []) p s, stays-not s))
-    (λ (e : eqb b 32 ≡ false) (f : eqb b 58 ≡ false). rw (ahead-plain n p b s e f, here-letter 87 (82 ∷ 83 ∷ []) p b s e f, e) (go (truth (eqb b 87))))
-  where
-    go : (eqb b 87 ≡ true) ⊎ (eqb b 87 ≡ false) → isWrs (stages (cond (eqb b 87) W IsNot) s) ≡ (eqb b 87 && alone (82 ∷ 83 ∷ []) (here (suc p) s))
-    go (inl g) = rw g (w-tells (suc p) s)
-    go (inr g) = rw (g, stays-not s)
+    (λ (e : b ≡ 58).
+    rw (e, ahead-colon n p s, here-colon (87 ∷ 82 ∷ 83 ∷ []) p s, here-colon (87 ∷ 82 ∷ 83 ∷ 42 ∷ []) p s, stays-not s))
+    (λ (e : eqb b 32 ≡ false) (f : eqb b 58 ≡ false).
+    rw (ahead-plain n p b s e f, here-letter 87 (82 ∷ 83 ∷ []) p b s e f, here-letter 87 (82 ∷ 83 ∷ 42 ∷ []) p b s e f, e)
+    (on 87 (82 ∷ 83 ∷ []) (82 ∷ 83 ∷ 42 ∷ []) W w-tells (suc p) b s (truth (eqb b 87))))
 
--- the stage of a line says whether its first word is WRS
-pub first-word : (line : List ℕ) → isWrs (stages Blanks line) ≡ takesText line
+-- the stage of a line says whether its first word is WRS or WRS*
+pub first-word : (line : List ℕ) → takes (stages Blanks line) ≡ takesText line
 unfolding takesText word words ahead shut
 first-word line = blanks-tell (length line) 0 line
 

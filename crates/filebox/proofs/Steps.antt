@@ -15,7 +15,7 @@ use Rattle.paper.specs.Answer.{Outcome, requested}
 use Rattle.answers.specs.Shown.{shown}
 use Rattle.elephant.specs.Promised.{Promised}
 use Rattle.answers.specs.declared.Answer.{Answer}
-use Rattle.filebox.specs.FirstWord.{after, stages, isWrs}
+use Rattle.filebox.specs.FirstWord.{after, stages, takes}
 use Rattle.filebox.specs.Box.{Box, between, outcome, answered, grown, takesText, ended, stepped, fed, finished}
 use Rattle.filebox.specs.Shows.{Shows, Follows, Grows, Came, Over, Further, fresh}
 use Rattle.filebox.specs.Spelled.{Line, Asks}
@@ -107,17 +107,17 @@ module _ (t l m r : List ℕ) (h : Held) where
       }
 
   -- a text ends, or a line that takes none
-  pub answer-ends : (t' r' : List ℕ) (h' : Held) → (h .asked ≡ true) ⊎ (isWrs (h .stage) ≡ false)
+  pub answer-ends : (t' r' : List ℕ) (h' : Held) → (h .asked ≡ true) ⊎ (takes (h .stage) ≡ false)
       → Follows answered t l m r h t' l m r' h' → Follows ended t l m r h t' l m r' h'
   unfolding ended
   answer-ends t' r' h' e f = record { shows = λ x s. rw (test x s e) (f .shows x s) }
     where
-      test : (x : Box) → Shows x t l m r h → (h .asked ≡ true) ⊎ (isWrs (h .stage) ≡ false) → (not (x .asked) && takesText (x .line)) ≡ false
+      test : (x : Box) → Shows x t l m r h → (h .asked ≡ true) ⊎ (takes (h .stage) ≡ false) → (not (x .asked) && takesText (x .line)) ≡ false
       test x s (inl a) = rw (sym (s .asked) ∙ a)
       test x s (inr w) = and-no-right (not (x .asked)) (takesText (x .line)) (sym (first-word (x .line)) ∙ rw (← s .stage) w)
 
   -- a line that takes a text ends
-  pub text-asked : (h' : Held) → h .asked ≡ false → isWrs (h .stage) ≡ true → h' .line ≡ h .line → h' .stage ≡ h .stage
+  pub text-asked : (h' : Held) → h .asked ≡ false → takes (h .stage) ≡ true → h' .line ≡ h .line → h' .stage ≡ h .stage
       → h' .asked ≡ true → h' .text ≡ h .text → Follows ended t l m r h t l m r h'
   unfolding ended
   text-asked h' a w p q g n =

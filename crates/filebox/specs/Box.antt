@@ -35,11 +35,11 @@ grown x b =
     (record { table = x .table; reply = x .reply; line = x .line; asked = true; text = x .text ++ b ∷ [] })
     (record { table = x .table; reply = x .reply; line = x .line ++ b ∷ []; asked = false; text = x .text })
 
--- "The first word is the function": it is WRS
+-- "The first word is the function": it is WRS or, of document 02, `WRS*`
 unfoldable pub takesText : List ℕ → Bool
-takesText line = alone (87 ∷ 82 ∷ 83 ∷ []) (word line 0 .names)
+takesText line = alone (87 ∷ 82 ∷ 83 ∷ []) (word line 0 .names) || alone (87 ∷ 82 ∷ 83 ∷ 42 ∷ []) (word line 0 .names)
 
--- the end of a line: "takes the line after a WRS, refused or not, as its text"
+-- the end of a line: "takes the line after a WRS, refused or not, as its text", and that after a `WRS*`
 unfoldable pub ended : Box → Box
 ended x =
     cond (not (x .asked) && takesText (x .line))
@@ -54,6 +54,6 @@ unfoldable pub fed : Box → List ℕ → Box
 fed x [] = x
 fed x (b ∷ bs) = fed (stepped x b) bs
 
--- the end of the input: it ends a line that has begun; a WRS with no line after it has an empty text
+-- the end of the input: it ends a line that has begun; a WRS or a `WRS*` with no line after it has an empty text
 unfoldable pub finished : Box → Box
 finished x = cond (x .asked || ltb 0 (length (x .line))) (answered x) x

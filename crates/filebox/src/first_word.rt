@@ -1,6 +1,6 @@
-// Is the first word of a line WRS? Told byte by byte, so that a line of any length needs no room.
+// Is the first word of a line WRS or WRS*, which take a text? Told byte by byte, so that a line of any length needs no room.
 ghost use mathlib.Core.Path.{_≡_};
-ghost use Rattle.filebox.specs.FirstWord.{after, isWrs};
+ghost use Rattle.filebox.specs.FirstWord.{after, takes};
 
 pub(crate) enum Stage {
     // blanks alone
@@ -9,7 +9,9 @@ pub(crate) enum Stage {
     W,
     Wr,
     Wrs,
-    // WRS and blanks: a colon would join a name to it
+    // WRS*
+    Star,
+    // either word and blanks: a colon would join a name to it
     Gap,
     // it is, or it is not, whatever follows
     Is,
@@ -36,6 +38,11 @@ impl Stage {
             },
             Stage::Wrs => match b {
                 b' ' => Stage::Gap,
+                b'*' => Stage::Star,
+                _ => Stage::IsNot,
+            },
+            Stage::Star => match b {
+                b' ' => Stage::Gap,
                 _ => Stage::IsNot,
             },
             Stage::Gap => match b {
@@ -49,14 +56,15 @@ impl Stage {
     }
 
     // The word, where the line ends here.
-    pub(crate) fn is_wrs(self) -> bool
-        ensures { λ r. ⌜ r ≡ isWrs self ⌝ }
+    pub(crate) fn takes_text(self) -> bool
+        ensures { λ r. ⌜ r ≡ takes self ⌝ }
     {
         match self {
             Stage::Blanks => false,
             Stage::W => false,
             Stage::Wr => false,
             Stage::Wrs => true,
+            Stage::Star => true,
             Stage::Gap => true,
             Stage::Is => true,
             Stage::IsNot => false,

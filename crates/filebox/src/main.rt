@@ -1,5 +1,5 @@
-// The file box over standard input and output: a request on each line, the text of a WRS on the line after it; for each, the
-// answer's seven numbers on a line, then the reply bytes.
+// The file box over standard input and output: a request on each line, the text of a WRS or a WRS* on the line after it; for
+// each, the answer's seven numbers on a line, then the reply bytes.
 use libc::STDIN_FILENO;
 
 mod first_word;

@@ -78,7 +78,7 @@ fn grow(line: &mut [u8], text: &mut [u8], held: Held, b: u8) -> Held
     }
 }
 
-// "takes the line after a WRS, refused or not, as its text"
+// "takes the line after a WRS, refused or not, as its text", and that after a WRS*
 fn end(table: &mut [u8], line: &[u8], text: &[u8], reply: &mut [u8], held: Held) -> Held
     ensures { λ r. ⌜ Follows ended (now (table .entry)) (now (line .entry)) (now (text .entry)) (now (reply .entry))
         held (now (table .exit)) (now (line .entry)) (now (text .entry)) (now (reply .exit)) r ⌝ }
@@ -87,7 +87,7 @@ fn end(table: &mut [u8], line: &[u8], text: &[u8], reply: &mut [u8], held: Held)
     if held.asked {
         return answer(table, line, text, reply, held);
     }
-    if stage.is_wrs() {
+    if stage.takes_text() {
         return Held {
             line: held.line,
             stage: stage,
@@ -138,7 +138,7 @@ pub(crate) fn feed(
     now
 }
 
-// At the end of the input: a line with no byte 10, or a WRS with no text line.
+// At the end of the input: a line with no byte 10, or a WRS or a WRS* with no text line.
 pub(crate) fn finish(
     table: &mut [u8],
     line: &[u8],

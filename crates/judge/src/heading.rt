@@ -10,9 +10,10 @@ use records::heading::Heading;
 ghost use mathlib.Core.Path.{_≡_};
 ghost use mathlib.Core.Bool.{_&&_};
 ghost use Prim.Native.Nat.{_<_, _≤_, _%_};
-ghost use lib.Dec.{leb};
+ghost use lib.Dec.{eqb, leb};
 ghost use lib.ListN.{length};
-ghost use Rattle.paper.specs.Record.{isKind, textLength, directory, simple};
+ghost use Rattle.paper.specs.Record.{isKind, lifetime, textLength, directory, simple};
+ghost use Rattle.paper.specs.Sound.{markRight};
 ghost use Rattle.paper.specs.Table.{rooms, rec};
 ghost use Rattle.judge_laws.specs.Mask.{without};
 ghost use Rattle.judge_laws.specs.Places.{weight};
@@ -74,6 +75,17 @@ pub(crate) fn weight_of(t: &[u8], gone: &[u8; Room::MOST], i: usize) -> usize
     0
 }
 
+// Whether heading i has lifetime M and length 0.
+fn is_medium_and_empty(t: &[u8], i: usize) -> bool
+    requires { ⌜ i < rooms (now t) ⌝ }
+    ensures { λ r. ⌜ r ≡ (eqb (lifetime (rec (now (t .entry)) i)) 1 && eqb (textLength (rec (now (t .entry)) i)) 0) ⌝ }
+{
+    if raw_of(t, i, Heading::LIFETIME) != Heading::MEDIUM {
+        return false;
+    }
+    two_of(t, i, Heading::LENGTH) == 0
+}
+
 // Whether heading i, if it is a directory's, has lifetime M and length 0.
 fn is_plain(t: &[u8], i: usize) -> bool
     requires { ⌜ i < rooms (now t) ⌝ }
@@ -82,10 +94,25 @@ fn is_plain(t: &[u8], i: usize) -> bool
     if raw_of(t, i, Heading::TYPE) != Heading::DIRECTORY {
         return true;
     }
-    if raw_of(t, i, Heading::LIFETIME) != Heading::MEDIUM {
+    is_medium_and_empty(t, i)
+}
+
+// Whether heading i is not marked, or marked as it may be: simple, M, of length 0.
+fn is_mark_right(t: &[u8], i: usize) -> bool
+    requires { ⌜ i < rooms (now t) ⌝ }
+    ensures { λ r. ⌜ r ≡ markRight (rec (now (t .entry)) i) ⌝ }
+{
+    let mark = raw_of(t, i, Heading::MARK);
+    if mark == Heading::UNMARKED {
+        return true;
+    }
+    if mark != Heading::MARKED {
         return false;
     }
-    two_of(t, i, Heading::LENGTH) == 0
+    if raw_of(t, i, Heading::TYPE) != Heading::SIMPLE {
+        return false;
+    }
+    is_medium_and_empty(t, i)
 }
 
 // Whether heading i is right.
@@ -107,6 +134,9 @@ fn is_heading_right(t: &[u8], i: usize) -> bool
         return false;
     }
     if Heading::LONG < lifetime {
+        return false;
+    }
+    if !is_mark_right(t, i) {
         return false;
     }
     if !are_zeros(t, i, Heading::GAP, Heading::GAP_SIZE) {

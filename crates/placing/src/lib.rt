@@ -16,7 +16,7 @@ use scans::is_full;
 use scans::is_peopled;
 ghost use mathlib.Core.Bool.{_&&_, not};
 ghost use mathlib.Core.Path.{_≡_};
-ghost use Rattle.paper.specs.Check.{verdict};
+ghost use Rattle.paper.specs.Check.{whole, refusalAt, passed, refused, verdict};
 ghost use Rattle.paper.specs.Entry.{full, peopled};
 ghost use Rattle.paper.specs.Record.{directory};
 ghost use Rattle.paper.specs.Table.{rec};
@@ -39,6 +39,28 @@ pub struct Meets {
 pub struct Refusal {
     pub number: u8,
     pub place: Place,
+}
+
+impl Refusal {
+    // A number of a whole argument, or of none.
+    pub fn whole(number: u8, argument: u32) -> Self
+        ensures { λ r. ⌜ r ≡ refusalShown (refused (refusalAt number (whole argument))) ⌝ }
+    {
+        Refusal {
+            number,
+            place: Place {
+                argument: argument,
+                link: 0,
+            },
+        }
+    }
+
+    // No refusal.
+    pub fn none() -> Self
+        ensures { λ r. ⌜ r ≡ refusalShown passed ⌝ }
+    {
+        Refusal::whole(0, 0)
+    }
 }
 
 // Whether an entry's file is named by no entry once one that names another heading is laid in its place.
@@ -123,21 +145,9 @@ pub fn entry_refusal(
         return Refusal { number: 18, place };
     }
     if count_free(table).0 < needed {
-        return Refusal {
-            number: 19,
-            place: Place {
-                argument: 0,
-                link: 0,
-            },
-        };
+        return Refusal::whole(19, 0);
     }
-    Refusal {
-        number: 0,
-        place: Place {
-            argument: 0,
-            link: 0,
-        },
-    }
+    Refusal::none()
 }
 
 // The entry's store, and then the file lost with the entry that it displaces: its text records are listed in `texts`.

@@ -13,7 +13,7 @@ use Rattle.paper.specs.Declaration.{given, notGiven}
 use Rattle.paper.specs.Name.{same, alone, linkName}
 use Rattle.paper.specs.Line.{words, word}
 use Rattle.paper.specs.Check.{whole, refusalAt, Check, refused, verdict}
-use Rattle.paper.specs.Request.{unread, counted, miscounted, malformed, illegal, linkAlone, unlinked, misbased, isFunction, readCrd, readWrs, readRds, readLst, readCpy, readDup, readChn, readDpr, readDel, depthOf, depthGiven, isTree, readTree, readFunction}
+use Rattle.paper.specs.Request.{unread, counted, miscounted, malformed, illegal, linkAlone, unlinked, misbased, isFunction, readCrd, readWrs, readRds, readLst, readCpy, readDup, readChn, readDpr, readDel, depthOf, depthGiven, isTree, readTree, isRewrite, readRewrite, readFunction}
 use Rattle.words.specs.Place.{loneOf, namesFrom, wordAt}
 use Rattle.laws.proofs.Entries.{same-true}
 use Rattle.laws.proofs.Tests.{false-by, and-left, and-right, clash}
@@ -71,25 +71,27 @@ pub function-read : (line : List ℕ) → readFunction line ≡ readBy (function
 unfolding readFunction functionOf
 function-read line =
     go (isFunction 67 82 68 line) (isFunction 87 82 83 line) (isFunction 82 68 83 line) (isFunction 67 80 89 line) (isFunction 68 85 80 line)
-    (isFunction 67 72 78 line) (isFunction 68 69 76 line) (isFunction 68 80 82 line) (isFunction 76 83 84 line) (isTree line)
+    (isFunction 67 72 78 line) (isFunction 68 69 76 line) (isFunction 68 80 82 line) (isFunction 76 83 84 line) (isTree line) (isRewrite line)
   where
-    go : (a b c d e f g h i j : Bool)
+    go : (a b c d e f g h i j k : Bool)
         → cond a (readCrd line) (cond b (readWrs line) (cond c (readRds line) (cond d (readCpy line) (cond e (readDup line)
         (cond f (readChn line) (cond g (readDel line) (cond h (readDpr line) (cond i (readLst line)
-        (cond j (readTree line) (unread (refusalAt 5 (whole 0))))))))))))
+        (cond j (readTree line) (cond k (readRewrite line) (unread (refusalAt 5 (whole 0)))))))))))))
         ≡ readBy (cond a function.Crd (cond b function.Wrs (cond c function.Rds (cond d function.Cpy (cond e function.Dup
-        (cond f function.Chn (cond g function.Del (cond h function.Dpr (cond i function.Lst (cond j function.LstTree function.Nothing)))))))))) line
-    go true b c d e f g h i j = refl
-    go false true c d e f g h i j = refl
-    go false false true d e f g h i j = refl
-    go false false false true e f g h i j = refl
-    go false false false false true f g h i j = refl
-    go false false false false false true g h i j = refl
-    go false false false false false false true h i j = refl
-    go false false false false false false false true i j = refl
-    go false false false false false false false false true j = refl
-    go false false false false false false false false false true = refl
-    go false false false false false false false false false false = refl
+        (cond f function.Chn (cond g function.Del (cond h function.Dpr (cond i function.Lst
+        (cond j function.LstTree (cond k function.Rewrite function.Nothing))))))))))) line
+    go true b c d e f g h i j k = refl
+    go false true c d e f g h i j k = refl
+    go false false true d e f g h i j k = refl
+    go false false false true e f g h i j k = refl
+    go false false false false true f g h i j k = refl
+    go false false false false false true g h i j k = refl
+    go false false false false false false true h i j k = refl
+    go false false false false false false false true i j k = refl
+    go false false false false false false false false true j k = refl
+    go false false false false false false false false false true k = refl
+    go false false false false false false false false false false true = refl
+    go false false false false false false false false false false false = refl
 
 -- what the first word's function reads, by the word's place and its stretch
 pub first-word : (line : List ℕ) (p : ℕ) (w : List ℕ) (f g : Function) → p ≡ word line 0 .start → w ≡ loneOf (namesFrom line p)
@@ -121,18 +123,23 @@ letters (a ∷ b ∷ c ∷ []) e = refl
 letters (a ∷ b ∷ c ∷ d ∷ s) e = let z : ⊥ = omega arith in absurd z
 
 -- three letters are not four
-pub no-four : (a b c : ℕ) → alone (76 ∷ 83 ∷ 84 ∷ 42 ∷ []) ((a ∷ b ∷ c ∷ []) ∷ []) ≡ false
-no-four a b c = same-length (a ∷ b ∷ c ∷ []) (76 ∷ 83 ∷ 84 ∷ 42 ∷ []) (λ (e : length (a ∷ b ∷ c ∷ []) ≡ 4). let z : _≡_ {A = ℕ} 3 4 = e in omega arith)
+pub no-four : (a b c x y z w : ℕ) → alone (x ∷ y ∷ z ∷ w ∷ []) ((a ∷ b ∷ c ∷ []) ∷ []) ≡ false
+no-four a b c x y z w = same-length (a ∷ b ∷ c ∷ []) (x ∷ y ∷ z ∷ w ∷ []) (λ (e : length (a ∷ b ∷ c ∷ []) ≡ 4). let q : _≡_ {A = ℕ} 3 4 = e in omega arith)
 
--- the four of LST*
+-- the four of LST* and of WRS*
 pub tree-letters : (n : List ℕ) → same n (76 ∷ 83 ∷ 84 ∷ 42 ∷ []) ≡ true → functionOf (n ∷ []) ≡ function.LstTree
 unfolding functionOf same
 tree-letters n e = rw (same-true n (76 ∷ 83 ∷ 84 ∷ 42 ∷ []) e)
 
-pub no-function : (n : List ℕ) → same n (76 ∷ 83 ∷ 84 ∷ 42 ∷ []) ≡ false → (length n ≡ 3 → ⊥) → functionOf (n ∷ []) ≡ function.Nothing
+pub rewrite-letters : (n : List ℕ) → same n (87 ∷ 82 ∷ 83 ∷ 42 ∷ []) ≡ true → functionOf (n ∷ []) ≡ function.Rewrite
+unfolding functionOf same
+rewrite-letters n e = rw (same-true n (87 ∷ 82 ∷ 83 ∷ 42 ∷ []) e)
+
+pub no-function : (n : List ℕ) → same n (76 ∷ 83 ∷ 84 ∷ 42 ∷ []) ≡ false → same n (87 ∷ 82 ∷ 83 ∷ 42 ∷ []) ≡ false → (length n ≡ 3 → ⊥)
+    → functionOf (n ∷ []) ≡ function.Nothing
 unfolding functionOf
-no-function n f h = let no : (a b c : ℕ) → same n (a ∷ b ∷ c ∷ []) ≡ false = λ a b c. same-length n (a ∷ b ∷ c ∷ []) h in
-    rw (no 67 82 68, no 87 82 83, no 82 68 83, no 67 80 89, no 68 85 80, no 67 72 78, no 68 69 76, no 68 80 82, no 76 83 84, f)
+no-function n f g h = let no : (a b c : ℕ) → same n (a ∷ b ∷ c ∷ []) ≡ false = λ a b c. same-length n (a ∷ b ∷ c ∷ []) h in
+    rw (no 67 82 68, no 87 82 83, no 82 68 83, no 67 80 89, no 68 85 80, no 67 72 78, no 68 69 76, no 68 80 82, no 76 83 84, f, g)
 
 -- a passed count has at least the least number of arguments
 pub count-least : (least most : ℕ) (line : List ℕ) (cs : List Check) (v : Verdict)

@@ -10,7 +10,7 @@ use Rattle.paper.specs.Name.{lonePoint}
 use Rattle.paper.specs.Declaration.{Part, given, notGiven, wrsLifetime, dprCode}
 use Rattle.paper.specs.Line.{words, word, legalLine}
 use Rattle.paper.specs.Check.{Refusal, Check, Verdict, passed, refused, verdict}
-use Rattle.paper.specs.Request.{Request, Read, request, unread, after, needed, declaredAt, isFunction, readCrd, readWrs, readRds, readLst, readCpy, readDup, readChn, readDpr, readDel, depthGiven, readTree, isTree, readFunction, read}
+use Rattle.paper.specs.Request.{Request, Read, request, unread, after, needed, declaredAt, isFunction, readCrd, readWrs, readRds, readLst, readCpy, readDup, readChn, readDpr, readDel, depthGiven, readTree, isTree, readRewrite, isRewrite, readFunction, read}
 use Rattle.laws.proofs.Tests.{either}
 use Rattle.reader.specs.Tied.{Tied, TiedRead}
 
@@ -78,6 +78,10 @@ module _ (line : List ℕ) where
       either (TiedRead line) (lonePoint (word line 1 .names)) _ _ (keeps _ _ (needs-one 2 (depthGiven (word line 2 .names)) _ (λ n. tt)))
       (keeps _ _ (needs-one 2 (depthGiven (word line 2 .names)) _ (λ n. refl)))
 
+  tied-rewrite : TiedRead line (readRewrite line)
+  unfolding readRewrite
+  tied-rewrite = gives _ _ refl
+
   tied-function : TiedRead line (readFunction line)
   unfolding readFunction
   tied-function =
@@ -91,7 +95,8 @@ module _ (line : List ℕ) where
       (either (TiedRead line) (isFunction 68 80 82 line) _ _ tied-dpr
       (either (TiedRead line) (isFunction 76 83 84 line) _ _ tied-lst
       (either (TiedRead line) (isTree line) _ _ tied-tree
-      (none _))))))))))
+      (either (TiedRead line) (isRewrite line) _ _ tied-rewrite
+      (none _)))))))))))
 
   -- what is read names the line's own words
   pub tied : TiedRead line (read line)

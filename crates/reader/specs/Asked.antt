@@ -8,7 +8,7 @@ use Rattle.paper.specs.Line.{Word, word}
 use Rattle.paper.specs.Name.{alone}
 use Rattle.paper.specs.Check as paper
 use Rattle.paper.specs.Check.{whole, refusalAt, Check, passed, refused}
-use Rattle.paper.specs.Request.{malformed, illegal, illegalBut, isTake, isTakeWithin, isGive, miscounted, readCrd, readWrs, readRds, readLst, readCpy, readDup, readChn, readDpr, readDel, crd, wrs, rds, cpy, dup, chn, del, dpr, lst, lstBase, lstTree, lstBaseTree, request, unread, after, needed, oldFrom, depthGiven, readTree}
+use Rattle.paper.specs.Request.{malformed, illegal, illegalBut, isTake, isTakeWithin, isGive, miscounted, readCrd, readWrs, readRds, readLst, readCpy, readDup, readChn, readDpr, readDel, crd, wrs, rds, cpy, dup, chn, del, dpr, lst, lstBase, lstTree, lstBaseTree, rewrite, request, unread, after, needed, oldFrom, depthGiven, readTree, readRewrite}
 use Rattle.paper.specs.Request as asked
 use Rattle.words.specs.Shown.{beginShown, shownPart}
 use Rattle.words.specs.declared.octal.Part.the-variants.{Given, NotGiven}
@@ -18,7 +18,7 @@ use Rattle.declarations.specs.Given.{shownLifetime, shownLevel, shownDigit}
 use Rattle.reader.specs.declared.function.Function.{Function}
 use Rattle.reader.specs.declared.function.Function.the-variants as function
 use Rattle.reader.specs.declared.request.Request.{Request}
-use Rattle.reader.specs.declared.request.Request.the-variants.{Crd, Wrs, Rds, Cpy, Dup, Chn, Del, Dpr, Lst, LstBase, LstTree, LstBaseTree}
+use Rattle.reader.specs.declared.request.Request.the-variants.{Crd, Wrs, Rds, Cpy, Dup, Chn, Del, Dpr, Lst, LstBase, LstTree, LstBaseTree, Rewrite}
 use Rattle.reader.specs.declared.request.Refusal.{Refusal}
 use Rattle.reader.specs.declared.request.Verdict.{Verdict}
 use Rattle.reader.specs.declared.request.Verdict.the-variants as verdicts
@@ -46,6 +46,7 @@ shownRequest (lst b w) = Lst (beginShown b) (w .start)
 shownRequest lstBase = LstBase
 shownRequest (lstTree b w d) = LstTree (beginShown b) (w .start) d
 shownRequest (lstBaseTree d) = LstBaseTree d
+shownRequest (rewrite w) = Rewrite (w .start)
 
 abbrev pub shownRefusal : paper.Refusal → Refusal
 shownRefusal f = record { number = f .number; place = f .place .argument; link = f .place .link }
@@ -108,7 +109,8 @@ functionOf ns =
     (cond (alone (68 ∷ 80 ∷ 82 ∷ []) ns) function.Dpr
     (cond (alone (76 ∷ 83 ∷ 84 ∷ []) ns) function.Lst
     (cond (alone (76 ∷ 83 ∷ 84 ∷ 42 ∷ []) ns) function.LstTree
-    function.Nothing)))))))))
+    (cond (alone (87 ∷ 82 ∷ 83 ∷ 42 ∷ []) ns) function.Rewrite
+    function.Nothing))))))))))
 
 -- and what it reads of a line
 abbrev pub readBy : Function → List ℕ → asked.Read
@@ -122,4 +124,5 @@ readBy function.Del = readDel
 readBy function.Dpr = readDpr
 readBy function.Lst = readLst
 readBy function.LstTree = readTree
+readBy function.Rewrite = readRewrite
 readBy function.Nothing = λ line. unread (refusalAt 5 (whole 0))

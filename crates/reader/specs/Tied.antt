@@ -4,7 +4,7 @@ use mathlib.Core.Path.{_≡_}
 use Prim.Native.Nat.{ℕ}
 use lib.ListN.{drop}
 use Rattle.paper.specs.Line.{words, word}
-use Rattle.paper.specs.Request.{Request, crd, wrs, rds, cpy, dup, chn, del, dpr, lst, lstBase, lstTree, lstBaseTree, Read, request, unread}
+use Rattle.paper.specs.Request.{Request, crd, wrs, rds, cpy, dup, chn, del, dpr, lst, lstBase, lstTree, lstBaseTree, rewrite, Read, request, unread}
 
 -- each name of the request is the argument where the function has it
 abbrev pub Tied : List ℕ → Request → Type 0
@@ -20,6 +20,7 @@ Tied line (lst b w) = w ≡ word line 1
 Tied line lstBase = Unit
 Tied line (lstTree b w d) = w ≡ word line 1
 Tied line (lstBaseTree d) = Unit
+Tied line (rewrite w) = w ≡ word line 2
 
 -- and a refusal has none
 unfoldable pub TiedRead : List ℕ → Read → Type 0

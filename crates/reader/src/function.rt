@@ -15,6 +15,7 @@ pub(crate) enum Function {
     Dpr,
     Lst,
     LstTree,
+    Rewrite,
     Nothing,
 }
 
@@ -66,6 +67,9 @@ impl Function {
     {
         if are_same(name, b"LST*") {
             return Function::LstTree;
+        }
+        if are_same(name, b"WRS*") {
+            return Function::Rewrite;
         }
         if name.len() != Function::LETTERS {
             return Function::Nothing;

@@ -11,6 +11,7 @@ use declarations::taken::taken_by_cpy;
 use declarations::taken::taken_by_crd;
 use declarations::taken::taken_by_dpr;
 use declarations::taken::taken_by_dup;
+use declarations::taken::taken_by_rewrite;
 use declarations::taken::taken_by_wrs;
 use records::name::are_same;
 use words::begin::Begin;
@@ -39,7 +40,7 @@ ghost use Prim.Native.Nat.{_-_};
 ghost use lib.ListN.{length};
 ghost use Rattle.paper.specs.Line.{words};
 ghost use Rattle.paper.specs.Check.{verdict};
-ghost use Rattle.paper.specs.Request.{each, between, malformed, illegalBut, unlinked, misbased, miscounted, misnamed, linkAlone, readCrd, readWrs, readRds, readLst, readCpy, readDup, readChn, readDpr, readDel, depthGiven, readTree, readFunction, read};
+ghost use Rattle.paper.specs.Request.{each, between, malformed, illegalBut, unlinked, misbased, miscounted, misnamed, linkAlone, readCrd, readWrs, readRds, readLst, readCpy, readDup, readChn, readDpr, readDel, depthGiven, readTree, readRewrite, readFunction, read};
 ghost use Rattle.words.specs.Place.{namesFrom, wordAt};
 ghost use Rattle.declarations.specs.Given.{shownDigit};
 ghost use Rattle.reader.specs.Asked.{faultCheck, oldChecks, treeName, treeBase, bothChecks, firstOf, shownVerdict, shownRead};
@@ -103,6 +104,9 @@ pub enum Request {
     },
     LstBaseTree {
         depth: u8,
+    },
+    Rewrite {
+        name: usize,
     },
 }
 
@@ -334,6 +338,21 @@ fn read_wrs(line: &[u8]) -> Read
         lifetime: lifetime,
         level: level,
         digit: digit,
+        name: word_at(line, 2),
+    })
+}
+
+// WRS* decl name
+fn read_rewrite(line: &[u8]) -> Read
+    ensures { λ r. ⌜ r ≡ shownRead (readRewrite (now (line .entry))) ⌝ }
+{
+    if let Verdict::Refused(refusal) = check_form(line, 2, 2, 2, 3) {
+        return Read::Refused(refusal);
+    }
+    let Declaration::Right(_) = taken_by_rewrite(declared_at(line, 1)) else {
+        return unfit_at(1);
+    };
+    Read::Granted(Request::Rewrite {
         name: word_at(line, 2),
     })
 }
@@ -593,6 +612,7 @@ fn read_function(line: &[u8]) -> Read
         Function::Dpr => read_dpr(line),
         Function::Lst => read_lst(line),
         Function::LstTree => read_tree(line),
+        Function::Rewrite => read_rewrite(line),
         Function::Nothing => Read::Refused(Refusal {
             number: 5,
             place: 0,

@@ -196,6 +196,7 @@ fn put_request(request: Request) {
             put(b"0 LST* .");
             put_number(depth);
         }
+        Request::Rewrite { name } => put_one(b"0 WRS*", name),
     }
 }
 

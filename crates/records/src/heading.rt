@@ -1,4 +1,5 @@
 // Headings: "1 type (0 directory, 1 simple); 2 level (0 U, 1 P, 2 A, 3 S); 3 code 0..7; 4 lifetime (1 M, 2 L); 10-11 text length".
+// Document 02: "marked (byte 5 is 1)".
 use crate::bytes::Bytes;
 use crate::bytes::Room;
 use crate::bytes::byte_of;
@@ -10,7 +11,7 @@ ghost use mathlib.Core.Path.{_≡_};
 ghost use mathlib.Core.Bool.{_&&_};
 ghost use Prim.Native.Nat.{_<_};
 ghost use lib.Dec.{eqb};
-ghost use Rattle.paper.specs.Record.{isKind, headingType, level, headingCode, lifetime, textLength, directory, simple, headingRecord, padded};
+ghost use Rattle.paper.specs.Record.{isKind, headingType, level, headingCode, lifetime, textLength, mark, marked, directory, simple, headingRecord, rewritten, padded};
 ghost use Rattle.paper.specs.Table.{rec};
 ghost use Rattle.paper.specs.Effect.{recoded};
 
@@ -44,11 +45,17 @@ impl Heading {
 
     pub const LIFETIME: usize = 4;
 
-    pub const LENGTH: usize = 10;
-    // The bytes between lifetime and length and those past the length, which are zero.
-    pub const GAP: usize = 5;
+    pub const MARK: usize = 5;
 
-    pub const GAP_SIZE: usize = 5;
+    pub const LENGTH: usize = 10;
+    // "marked (byte 5 is 1)"
+    pub const UNMARKED: u8 = 0;
+
+    pub const MARKED: u8 = 1;
+    // The bytes between mark and length and those past the length, which are zero.
+    pub const GAP: usize = 6;
+
+    pub const GAP_SIZE: usize = 4;
 
     pub const REST: usize = 12;
 
@@ -103,6 +110,18 @@ pub fn text_length(table: &[u8], room: Room) -> Bytes
     Bytes(two_of(table, room, Heading::LENGTH) as usize)
 }
 
+pub fn mark_of(table: &[u8], room: Room) -> u8
+    ensures { λ r. ⌜ r ≡ mark (rec (now (table .entry)) (room .0)) ⌝ }
+{
+    byte_of(table, room, Heading::MARK)
+}
+
+pub fn is_marked(table: &[u8], room: Room) -> bool
+    ensures { λ r. ⌜ r ≡ marked (rec (now (table .entry)) (room .0)) ⌝ }
+{
+    mark_of(table, room) == Heading::MARKED
+}
+
 // Whether a record is a heading of a type.
 fn is_type(table: &[u8], room: Room, ty: u8) -> bool
     ensures { λ r. ⌜ r ≡ (isKind 1 (rec (now (table .entry)) (room .0)) && eqb (headingType (rec (now (table .entry)) (room .0))) ty) ⌝ }
@@ -131,5 +150,17 @@ pub fn recoded(table: &[u8], room: Room, code: Code) -> [u8; Room::SIZE]
 {
     let mut r = whole(table, room);
     r[Heading::CODE] = code.0;
+    r
+}
+
+// A heading's record with another mark and text length.
+pub fn rewritten(table: &[u8], room: Room, mark: u8, length: Bytes) -> [u8; Room::SIZE]
+    ensures { λ r. ⌜ r ≡ rewritten (padded 32 (rec (now (table .entry)) (room .0))) mark (length .0) ⌝ }
+{
+    let n = length.0;
+    let mut r = whole(table, room);
+    r[Heading::MARK] = mark;
+    r[Heading::LENGTH] = (n % 256) as u8;
+    r[Heading::LENGTH + 1] = (n / 256 % 256) as u8;
     r
 }

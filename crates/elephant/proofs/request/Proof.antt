@@ -3,8 +3,8 @@
 use mathlib.Core.Path.{sym, _∙_}
 use native.Mathlib.Omega.{arith}
 use borrow.Author.Needs.{needs}
-use borrow.Author.Tests.{lt-ltb, le-ltb}
-use Rattle.elephant.proofs.Asking.{no-text, its-text}
+use borrow.Author.Tests.{lt-ltb, le-ltb, not-true, not-false}
+use Rattle.laws.proofs.Tests.{and-no-left}
 use Rattle.elephant.proofs.Places.{place-near, link-near}
 use Rattle.elephant.proofs.Refused.{refused-out, refused-unread, refused-long, let-through}
 use Rattle.elephant.proofs.request.Statement.{statement}
@@ -52,12 +52,13 @@ refused-at-requires c κs =
 enum-known-read-2 : tie.Need-enum-known-read-2
 enum-known-read-2 c = search needs
 
-enum-told : tie.Need-enum-told
-enum-told c = search needs
+bears-text-requires : tie.Need-bears-text-requires
+bears-text-requires c κs = search needs
 
 admit-requires : tie.Need-admit-requires
 admit-requires c κs =
-    let at-read2 = c .before .before .before .before in
+    let at-bears = c .before .before .before in
+    let at-read2 = at-bears .before .before in
     let at-read-line = at-read2 .before .before in
     let at-entrance-number = at-read-line .before .before in
     let start = at-entrance-number .before .before .before .before .before .before in
@@ -66,7 +67,7 @@ admit-requires c κs =
     let g = at-read2 .read2 .given in
     let q = sym (g .1) ∙ at-read-line .read-line .ensures in
     let-through (s .args .table .now) (s .args .line .now) (s .args .text .now) (s .args .reply .now) (s .args .user) (s .args .stop) (n .result)
-    (n .ensures) (omega arith) (g .0 .0) q (no-text (s .args .line .now) (s .args .text .now) (g .0 .0) (c .before .before .match2 .keys2))
+    (n .ensures) (omega arith) (g .0 .0) q (at-bears .bears-text .ensures _ _ ∙ and-no-left (at-bears .bears-text .result) _ (not-true (at-bears .bears-text .result) (c .before .before .if2 .taken)))
 
 same-length-2 : tie.Need-same-length-2
 same-length-2 c = search needs
@@ -87,7 +88,8 @@ same-length-4 c = search needs
 
 returns-3 : tie.Need-returns-3
 returns-3 c =
-    let at-read2 = c .before .before .before .before .before in
+    let at-bears = c .before .before .before in
+    let at-read2 = at-bears .before .before in
     let at-read-line = at-read2 .before .before in
     let at-entrance-number = at-read-line .before .before in
     let start = at-entrance-number .before .before .before .before .before .before in
@@ -95,13 +97,14 @@ returns-3 c =
     let n = at-entrance-number .entrance-number in
     let g = at-read2 .read2 .given in
     let q = sym (g .1) ∙ at-read-line .read-line .ensures in
-    let w = its-text (s .args .line .now) (s .args .text .now) (g .0 .0) _ _ _ _ (c .before .before .enum-told .given .1) in
+    let w = rw (not-false (at-bears .bears-text .result) (c .before .before .if2 .left)) at (at-bears .bears-text .ensures (s .args .line .now) (s .args .text .now)) in
     refused-long (s .args .table .now) (s .args .line .now) (s .args .text .now) (s .args .reply .now) (s .args .user) (s .args .stop) (n .result)
-    (n .ensures) (omega arith) (g .0 .0) q (w ∙ lt-ltb 24000 _ (c .before .if2 .taken)) _ (c .refused-whole2 .ensures)
+    (n .ensures) (omega arith) (g .0 .0) q (w ∙ lt-ltb 24000 _ (c .before .if3 .taken)) _ (c .refused-whole2 .ensures)
 
 grant-requires : tie.Need-grant-requires
 grant-requires c κs =
-    let at-read2 = c .before .before .before .before .before .before in
+    let at-bears = c .before .before .before .before in
+    let at-read2 = at-bears .before .before in
     let at-read-line = at-read2 .before .before in
     let at-entrance-number = at-read-line .before .before in
     let start = at-entrance-number .before .before .before .before .before .before in
@@ -109,9 +112,9 @@ grant-requires c κs =
     let n = at-entrance-number .entrance-number in
     let g = at-read2 .read2 .given in
     let q = sym (g .1) ∙ at-read-line .read-line .ensures in
-    let w = its-text (s .args .line .now) (s .args .text .now) (g .0 .0) _ _ _ _ (c .before .before .before .enum-told .given .1) in
+    let w = rw (not-false (at-bears .bears-text .result) (c .before .before .before .if2 .left)) at (at-bears .bears-text .ensures (s .args .line .now) (s .args .text .now)) in
     let-through (s .args .table .now) (s .args .line .now) (s .args .text .now) (s .args .reply .now) (s .args .user) (s .args .stop) (n .result)
-    (n .ensures) (omega arith) (g .0 .0) q (w ∙ le-ltb 24000 _ (c .before .before .if2 .left))
+    (n .ensures) (omega arith) (g .0 .0) q (w ∙ le-ltb 24000 _ (c .before .before .if3 .left))
 
 same-length-5 : tie.Need-same-length-5
 same-length-5 c = search needs
@@ -152,7 +155,7 @@ request-spec =
     cast-refused-at
     refused-at-requires
     enum-known-read-2
-    enum-told
+    bears-text-requires
     admit-requires
     same-length-2
     same-length-3

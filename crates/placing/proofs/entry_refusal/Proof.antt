@@ -23,23 +23,29 @@ returns-2 c = rw (← c .before .before .before .is-full-up .ensures, c .before 
 count-free-requires : tie.Need-count-free-requires
 count-free-requires c κs = search needs
 
+whole-requires : tie.Need-whole-requires
+whole-requires c κs = search needs
+
 returns-3 : tie.Need-returns-3
 unfolding verdict
 returns-3 c =
-    let free = c .before .before in
+    let free = c .before .before .before in
     let lost = free .before .before in
     let full = lost .before .before in
-    rw (← full .is-full-up .ensures, lost .before .if1 .left, ← lost .is-losing .ensures, free .before .if2 .left)
-    (rw (← free .count-free .ensures, lt-ltb _ _ (c .if3 .taken)))
+    rw (c .whole .ensures, ← full .is-full-up .ensures, lost .before .if1 .left, ← lost .is-losing .ensures, free .before .if2 .left)
+    (rw (← free .count-free .ensures, lt-ltb _ _ (c .before .if3 .taken)))
+
+none-requires : tie.Need-none-requires
+none-requires c κs = search needs
 
 returns-4 : tie.Need-returns-4
 unfolding verdict
 returns-4 c =
-    let free = c .before .before in
+    let free = c .before .before .before in
     let lost = free .before .before in
     let full = lost .before .before in
-    rw (← full .is-full-up .ensures, lost .before .if1 .left, ← lost .is-losing .ensures, free .before .if2 .left)
-    (rw (← free .count-free .ensures, le-ltb _ _ (c .if3 .left)))
+    rw (c .none .ensures, ← full .is-full-up .ensures, lost .before .if1 .left, ← lost .is-losing .ensures, free .before .if2 .left)
+    (rw (← free .count-free .ensures, le-ltb _ _ (c .before .if3 .left)))
 
 pub entry-refusal-spec : {M : Type 1} → statement M
 entry-refusal-spec =
@@ -50,5 +56,7 @@ entry-refusal-spec =
     is-losing-requires
     returns-2
     count-free-requires
+    whole-requires
     returns-3
+    none-requires
     returns-4)

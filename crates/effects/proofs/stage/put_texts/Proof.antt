@@ -13,14 +13,14 @@ use Rattle.effects.proofs.stage.put_texts.Statement.{statement}
 use Rattle.effects.proofs.stage.put_texts.Tie as tie
 
 abbrev Inv-loop : tie.InvT-loop
-Inv-loop table₀ rooms text left n rest₀ p₀ table rest p =
-    Made table₀ table rest₀ rest (eachBelow (textStore rooms text) p)
+Inv-loop table₀ heading rooms first text left n rest₀ p₀ table rest p =
+    Made table₀ table rest₀ rest (eachBelow (textStore (heading .0) rooms first text) p)
     × (length table ≡ length table₀)
     × (p ≤ n)
     × (n ≡ blocks (length text))
 
 abbrev μ-loop : tie.MeasureT-loop
-μ-loop table₀ rooms text left n rest₀ p₀ table rest p = n - p
+μ-loop table₀ heading rooms first text left n rest₀ p₀ table rest p = n - p
 
 blocks-requires : tie.Need-blocks-requires Inv-loop μ-loop
 blocks-requires c κs = search needs

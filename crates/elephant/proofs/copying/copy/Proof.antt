@@ -6,6 +6,13 @@ use native.Mathlib.Omega.{arith}
 use lib.ListN.{length-replicate}
 use Rattle.elephant.specs.Done.{Fit}
 use Rattle.effects.proofs.Lengths.{text-length}
+use Rattle.paper.specs.Record.{level}
+use Rattle.paper.specs.Table.{rec}
+use Rattle.paper.specs.Declaration.{orElse}
+use Rattle.paper.specs.Request.{own}
+use Rattle.declarations.specs.Given.{levelPart}
+use Rattle.answers.specs.Shown.{placeMeant}
+use Rattle.elephant.proofs.Walking.{late-ends, copy-telling}
 use Rattle.elephant.proofs.Written.{text-few, text-copied}
 use borrow.Author.Needs.{needs}
 use Rattle.elephant.proofs.copying.copy.Statement.{statement}
@@ -38,6 +45,9 @@ or-else-requires-3 c κs = search needs
 laid-requires : tie.Need-laid-requires
 laid-requires c κs = search needs
 
+late-refusal-requires : tie.Need-late-refusal-requires
+late-refusal-requires c κs = search needs
+
 slice-aggregate-part : tie.Need-slice-aggregate-part
 slice-aggregate-part c = search needs
 
@@ -46,7 +56,7 @@ part-requires c κs = search needs
 
 file-requires : tie.Need-file-requires
 file-requires c κs =
-    let at-level-of = c .before .before .before .before .before .before .before .before in
+    let at-level-of = c .before .before .before .before .before .before .before .before .before .before in
     let at-text-length = at-level-of .before .before .before in
     let at-copy-text = at-text-length .before .before .before in
     let start = at-copy-text .before .before .before .before .before in
@@ -70,7 +80,8 @@ same-length c = search needs
 
 returns : tie.Need-returns
 returns c =
-    let at-laid = c .before .before .before .before .before .before in
+    let at-late = c .before .before .before .before .before in
+    let at-laid = at-late .before .before .before in
     let at-or-else3 = at-laid .before in
     let at-lifetime-of = at-or-else3 .before in
     let at-or-else2 = at-lifetime-of .before .before in
@@ -85,7 +96,10 @@ returns c =
     let f : Fit (a .table .now) = record { sized = p .0 .size; sound = p .0 .sound } in
     let x = text-copied (a .table .now) (a .source .0) f (p .1) _ _ (n .result .0) (rw (length-replicate {A = ℕ} 24000 0) (omega arith))
     (at-copy-text .copy-text .ensures) (n .ensures .0) in
-    rw (
+    let source = rec (a .table .now) (a .source .0) in
+    let least = rw (at-or-else2 .or-else2 .ensures, at-level-of .level-of .ensures) at (at-late .late-refusal .ensures) in
+    late-ends (a .table .now) (a .stop) _ own _ _ (copy-telling (placeMeant (a .place)) source (orElse (levelPart (a .level)) (level source))) least _ _
+    (rw (
       c .before .before .before .part .ensures
           ∙ x,
       at-laid .laid .ensures,
@@ -95,7 +109,7 @@ returns c =
       at-level-of .level-of .ensures,
       at-or-else .or-else .ensures,
       n .ensures .0 ∙ sym (text-length (a .table .now) (a .source .0) (f .sized) (f .sound) (p .1)),
-    ) at (c .before .before .file .ensures)
+    ) at (c .before .before .file .ensures))
 
 pub copy-spec : {M : Type 1} → statement M
 copy-spec =
@@ -110,6 +124,7 @@ copy-spec =
     lifetime-of-requires
     or-else-requires-3
     laid-requires
+    late-refusal-requires
     slice-aggregate-part
     part-requires
     file-requires

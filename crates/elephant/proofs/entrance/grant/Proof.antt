@@ -2,7 +2,7 @@
 -- The laws stand in `Granted`, one of each kind for a function.
 use native.Mathlib.Omega.{arith}
 use borrow.Author.Needs.{needs}
-use Rattle.elephant.proofs.Granted.{line-short, crd-ready, wrs-ready, cpy-ready, dup-ready, chn-ready, del-ready, crd-done, wrs-done, rds-done, cpy-done, dup-done, chn-done, del-done, dpr-done, lst-done, lst-base-done, lst-tree-done, lst-base-tree-done}
+use Rattle.elephant.proofs.Granted.{line-short, crd-ready, wrs-ready, cpy-ready, dup-ready, chn-ready, del-ready, rewrite-ready, crd-done, wrs-done, rds-done, cpy-done, dup-done, chn-done, del-done, dpr-done, rewrite-done, lst-done, lst-base-done, lst-tree-done, lst-base-tree-done}
 use Rattle.elephant.proofs.entrance.grant.Statement.{statement}
 use Rattle.elephant.proofs.entrance.grant.Tie as tie
 
@@ -111,6 +111,15 @@ enum-known-asked-11 c = search needs
 
 lst-base-tree-requires : tie.Need-lst-base-tree-requires
 lst-base-tree-requires c κs = search needs
+
+enum-known-asked-12 : tie.Need-enum-known-asked-12
+enum-known-asked-12 c = search needs
+
+rewrite-requires : tie.Need-rewrite-requires
+rewrite-requires c κs =
+    let s = c .before .before .before .before .before .before .before .before in
+    let g = c .before .before .asked12 .given in
+    (s .pre .fit, line-short (s .pre), rewrite-ready (s .pre) (g .0 .0) (g .1))
 
 same-length : tie.Need-same-length
 same-length c = search needs
@@ -251,6 +260,16 @@ returns-12 c =
     let g = at-asked .asked11 .given in
     lst-base-tree-done (s .pre) (s .args .reply .now) (s .args .stop) _ _ (g .0 .0) (g .1) (c .before .before .lst-base-tree .ensures)
 
+same-length-18 : tie.Need-same-length-18
+same-length-18 c = search needs
+
+returns-13 : tie.Need-returns-13
+returns-13 c =
+    let at-asked = c .before .before .before .before .before in
+    let s = at-asked .before .before .before .before .before .before in
+    let g = at-asked .asked12 .given in
+    rewrite-done (s .pre) (s .args .reply .now) (s .args .stop) _ _ (g .0 .0) (g .1) (c .before .before .rewrite .ensures)
+
 pub grant-spec : {M : Type 1} → statement M
 grant-spec =
     tie.close
@@ -280,6 +299,8 @@ grant-spec =
     read-requires-3
     enum-known-asked-11
     lst-base-tree-requires
+    enum-known-asked-12
+    rewrite-requires
     same-length
     returns
     same-length-2
@@ -308,4 +329,6 @@ grant-spec =
     returns-11
     same-length-16
     same-length-17
-    returns-12)
+    returns-12
+    same-length-18
+    returns-13)

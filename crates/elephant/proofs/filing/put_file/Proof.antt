@@ -26,8 +26,8 @@ same-length c = search needs
 returns-2 : tie.Need-returns-2
 returns-2 c =
     let at-put = c .before .before .before .before .before .before in
-    let at-room-at = at-put .before in
-    let at-if1 = at-room-at .before .before .before .before in
+    let at-room-at = at-put .before .before in
+    let at-if1 = at-room-at .before .before .before in
     let start = at-if1 .before .before .before .before in
     rw (not-false (start .args .file .new) (at-if1 .if1 .left), ← at-room-at .room-at .ensures)
     (made-both _ _ _ _ _ _ _ _ (at-put .put .ensures) (c .before .before .put-texts .ensures))

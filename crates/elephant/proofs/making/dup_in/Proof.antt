@@ -1,8 +1,9 @@
 -- 14 is the plan's first check: it refuses, or the plan ends as without it.
 -- The entry followed is read before any store: the heading it names and its code are the plan's.
+use mathlib.Core.List.{[]}
 use mathlib.Core.Path.{sym, _∙_}
 use native.Mathlib.Omega.{arith}
-use Rattle.elephant.proofs.Walking.{shut-refused, open-ends}
+use Rattle.elephant.proofs.Walking.{shut-refused, open-ends, late-ends, no-late}
 use borrow.Author.Needs.{needs}
 use Rattle.elephant.proofs.making.dup_in.Statement.{statement}
 use Rattle.elephant.proofs.making.dup_in.Tie as tie
@@ -38,6 +39,9 @@ joined-requires c κs = search needs
 free-rooms-requires : tie.Need-free-rooms-requires
 free-rooms-requires c κs = search needs
 
+none-requires : tie.Need-none-requires
+none-requires c κs = search needs
+
 last-name-requires : tie.Need-last-name-requires
 last-name-requires c κs = search needs
 
@@ -46,7 +50,7 @@ part-requires c κs = search needs
 
 make-requires : tie.Need-make-requires
 make-requires c κs =
-    let at-free-rooms = c .before .before .before .before in
+    let at-free-rooms = c .before .before .before .before .before in
     let at-heading-named = at-free-rooms .before .before .before .before .before .before in
     let start = at-heading-named .before .before .before .before .before .before .before .before .before in
     let p = start .pre .named in
@@ -66,7 +70,7 @@ same-length c = search needs
 returns-2 : tie.Need-returns-2
 returns-2 c =
     let at-last-name = c .before .before .before .before .before .before in
-    let at-joined = at-last-name .before .before .before .before in
+    let at-joined = at-last-name .before .before .before .before .before in
     let at-entry-code = at-joined .before in
     let at-heading-named = at-entry-code .before .before in
     let at-or-else = at-heading-named .before .before in
@@ -76,6 +80,7 @@ returns-2 c =
     let start = at-end-of .before .before .before in
     let a = start .args in
     open-ends (a .table .now) (a .stop) _ _ _ _ (rw (at-inhibits-write .inhibits-write .ensures) at (at-if1 .if1 .left))
+    (late-ends (a .table .now) (a .stop) _ _ [] _ tt (no-late _ (at-last-name .before .none .ensures)) _ _
     (rw (
       at-end-of .end-of .ensures,
       at-last-name .last-name .ensures
@@ -85,7 +90,7 @@ returns-2 c =
       at-or-else .or-else .ensures,
       at-heading-named .heading-named .ensures .0,
     )
-    at (c .before .before .make .ensures))
+    at (c .before .before .make .ensures)))
 
 pub dup-in-spec : {M : Type 1} → statement M
 dup-in-spec =
@@ -100,6 +105,7 @@ dup-in-spec =
     entry-code-requires
     joined-requires
     free-rooms-requires
+    none-requires
     last-name-requires
     part-requires
     make-requires

@@ -2,7 +2,7 @@
 -- The code of the directory is what the walk joined.
 use mathlib.Core.List.{[]}
 use Rattle.paper.specs.Request.{own}
-use Rattle.elephant.proofs.Walking.{shut-refused, open-ends}
+use Rattle.elephant.proofs.Walking.{shut-refused, open-ends, late-ends, no-late}
 use borrow.Author.Needs.{needs}
 use Rattle.elephant.proofs.making.file_in.Statement.{statement}
 use Rattle.elephant.proofs.making.file_in.Tie as tie
@@ -23,6 +23,9 @@ returns c =
     (shut-refused (start .args .table .now) (start .args .stop) _ []
     (rw (c .before .before .before .inhibits-write .ensures) at (c .before .before .if1 .taken)))
 
+none-requires : tie.Need-none-requires
+none-requires c κs = search needs
+
 file-requires : tie.Need-file-requires
 file-requires c κs = search needs
 
@@ -31,13 +34,13 @@ same-length c = search needs
 
 returns-2 : tie.Need-returns-2
 returns-2 c =
-    let at-if1 = c .before .before .before .before in
+    let at-if1 = c .before .before .before .before .before in
     let at-inhibits-write = at-if1 .before in
     let start = at-inhibits-write .before .before .before .before .before in
     open-ends (start .args .table .now) (start .args .stop) _ own _ _ (rw (at-inhibits-write .inhibits-write .ensures) at (at-if1 .if1 .left))
-    (c .before .before .file .ensures)
+    (late-ends (start .args .table .now) (start .args .stop) _ own [] _ tt (no-late _ (c .before .before .before .none .ensures)) _ _ (c .before .before .file .ensures))
 
 pub file-in-spec : {M : Type 1} → statement M
 file-in-spec =
     tie.close
-    (tie.spec inhibits-write-requires end-of-requires refused-requires returns file-requires same-length returns-2)
+    (tie.spec inhibits-write-requires end-of-requires refused-requires returns none-requires file-requires same-length returns-2)

@@ -1,5 +1,5 @@
 -- A text that ends is answered, and so is a line that takes none;
--- a line whose first word is WRS waits for its text.
+-- a line whose first word is WRS or `WRS*` waits for its text.
 use mathlib.Core.Logic.{inl, inr}
 use mathlib.Core.Path.{refl, sym, _∙_}
 use Rattle.filebox.proofs.Steps.{answer-ends, text-asked}
@@ -24,14 +24,14 @@ returns c =
     answer-ends (a .table .now) (a .line .now) (a .text .now) (a .reply .now) (a .held) _ _ _
     (inl (at-if1 .if1 .taken)) (at-answer .answer .ensures)
 
-is-wrs-requires : tie.Need-is-wrs-requires
-is-wrs-requires c κs = tt
+takes-text-requires : tie.Need-takes-text-requires
+takes-text-requires c κs = tt
 
 returns-2 : tie.Need-returns-2
 returns-2 c =
     let a = c .before .before .before .before .before .before .before .args in
     text-asked (a .table .now) (a .line .now) (a .text .now) (a .reply .now) (a .held) _
-    (c .before .before .if1 .left) (sym (c .before .is-wrs .ensures) ∙ c .if2 .taken) refl refl refl refl
+    (c .before .before .if1 .left) (sym (c .before .takes-text .ensures) ∙ c .if2 .taken) refl refl refl refl
 
 answer-requires-2 : tie.Need-answer-requires-2
 answer-requires-2 c κs = tt
@@ -48,7 +48,7 @@ returns-3 c =
     let at-if2 = at-answer2 .before .before .before in
     let a = at-if2 .before .before .before .before .before .before .before .args in
     answer-ends (a .table .now) (a .line .now) (a .text .now) (a .reply .now) (a .held) _ _ _
-    (inr (sym (at-if2 .before .is-wrs .ensures) ∙ at-if2 .if2 .left)) (at-answer2 .answer2 .ensures)
+    (inr (sym (at-if2 .before .takes-text .ensures) ∙ at-if2 .if2 .left)) (at-answer2 .answer2 .ensures)
 
 pub end-spec : {M : Type 1} → statement M
 end-spec =
@@ -58,7 +58,7 @@ end-spec =
     same-length
     same-length-2
     returns
-    is-wrs-requires
+    takes-text-requires
     returns-2
     answer-requires-2
     same-length-3

@@ -52,38 +52,61 @@ returns-5 c =
     let r = rec (c10 .args .t .now) (c10 .args .i) in
     sym (heading-not r (λ (h : Heading r). let z : ⊥ = omega arith in z))
 
-are-zeros-requires : tie.Need-are-zeros-requires
-are-zeros-requires c κs = search needs
+is-mark-right-requires : tie.Need-is-mark-right-requires
+is-mark-right-requires c κs = search needs
 
 returns-6 : tie.Need-returns-6
 returns-6 c =
     let c8 = c .before .before .before .before .before .before .before .before in
     let c12 = c8 .before .before .before .before in
     let r = rec (c12 .args .t .now) (c12 .args .i) in
-    sym (heading-not r (λ (h : Heading r). true≢false (sym (h .gap) ∙ sym (c .before .are-zeros .ensures) ∙ not-true _ (c .if6 .taken))))
+    sym (heading-not r (λ (h : Heading r). true≢false (sym (h .mark) ∙ sym (c .before .is-mark-right .ensures) ∙ not-true _ (c .if6 .taken))))
 
-are-zeros-requires-2 : tie.Need-are-zeros-requires-2
-are-zeros-requires-2 c κs = search needs
+are-zeros-requires : tie.Need-are-zeros-requires
+are-zeros-requires c κs = search needs
 
 returns-7 : tie.Need-returns-7
 returns-7 c =
     let c8 = c .before .before .before .before .before .before .before .before in
     let c14 = c8 .before .before .before .before .before .before in
     let r = rec (c14 .args .t .now) (c14 .args .i) in
-    sym (heading-not r (λ (h : Heading r). true≢false (sym (h .rest) ∙ sym (c .before .are-zeros2 .ensures) ∙ not-true _ (c .if7 .taken))))
+    sym (heading-not r (λ (h : Heading r). true≢false (sym (h .gap) ∙ sym (c .before .are-zeros .ensures) ∙ not-true _ (c .if7 .taken))))
 
-is-plain-requires : tie.Need-is-plain-requires
-is-plain-requires c κs = search needs
+are-zeros-requires-2 : tie.Need-are-zeros-requires-2
+are-zeros-requires-2 c κs = search needs
 
 returns-8 : tie.Need-returns-8
 returns-8 c =
     let c8 = c .before .before .before .before .before .before .before .before in
-    let a = c8 .before .before .before .before .before .before .before .args in
+    let c16 = c8 .before .before .before .before .before .before .before .before in
+    let r = rec (c16 .args .t .now) (c16 .args .i) in
+    sym (heading-not r (λ (h : Heading r). true≢false (sym (h .rest) ∙ sym (c .before .are-zeros2 .ensures) ∙ not-true _ (c .if8 .taken))))
+
+is-plain-requires : tie.Need-is-plain-requires
+is-plain-requires c κs = search needs
+
+returns-9 : tie.Need-returns-9
+returns-9 c =
+    let zeros2 = c .before .before in
+    let zeros1 = zeros2 .before .before in
+    let mark = zeros1 .before .before in
+    let most = mark .before in
+    let some = most .before in
+    let code = some .before .before in
+    let grade = code .before .before in
+    let type = grade .before .before in
+    let a = type .before .before .before .args in
     let r = rec (a .t .now) (a .i) in
     c .is-plain .ensures
-    ∙ sym (heading-left r (omega arith) (omega arith) (omega arith) (omega arith) (omega arith)
-    (sym (c .before .before .before .before .are-zeros .ensures) ∙ not-false _ (c .before .before .before .if6 .left))
-    (sym (c .before .before .are-zeros2 .ensures) ∙ not-false _ (c .before .if7 .left)))
+    ∙ sym (heading-left r
+    (omega (arith, type .if1 .left, type .before .raw-of .ensures))
+    (omega (arith, grade .if2 .left, grade .before .raw-of2 .ensures))
+    (omega (arith, code .if3 .left, code .before .raw-of3 .ensures))
+    (omega (arith, some .if4 .left, some .before .raw-of4 .ensures))
+    (omega (arith, most .if5 .left, some .before .raw-of4 .ensures))
+    (sym (mark .is-mark-right .ensures) ∙ not-false _ (zeros1 .before .if6 .left))
+    (sym (zeros1 .are-zeros .ensures) ∙ not-false _ (zeros2 .before .if7 .left))
+    (sym (zeros2 .are-zeros2 .ensures) ∙ not-false _ (c .before .if8 .left)))
 
 pub is-heading-right-spec : {M : Type 1} → statement M
 is-heading-right-spec =
@@ -98,9 +121,11 @@ is-heading-right-spec =
     raw-of-requires-4
     returns-4
     returns-5
-    are-zeros-requires
+    is-mark-right-requires
     returns-6
-    are-zeros-requires-2
+    are-zeros-requires
     returns-7
+    are-zeros-requires-2
+    returns-8
     is-plain-requires
-    returns-8)
+    returns-9)

@@ -1,5 +1,5 @@
--- The parts of the test in turn.
--- It is asked of a directory's heading alone.
+-- The test is asked of a directory's heading alone.
+-- What is asked of one is what the called function tells.
 use borrow.Author.Tests.{ne-eqb}
 use borrow.Author.Needs.{needs}
 use Rattle.judge.proofs.heading.is_plain.Statement.{statement}
@@ -11,24 +11,11 @@ raw-of-requires c κs = search needs
 returns : tie.Need-returns
 returns c = rw (← c .before .raw-of .ensures, ne-eqb _ _ (c .if1 .taken))
 
-raw-of-requires-2 : tie.Need-raw-of-requires-2
-raw-of-requires-2 c κs = search needs
+is-medium-and-empty-requires : tie.Need-is-medium-and-empty-requires
+is-medium-and-empty-requires c κs = search needs
 
 returns-2 : tie.Need-returns-2
-returns-2 c =
-    let c3 = c .before .before .before in
-    rw (← c3 .raw-of .ensures, c .before .before .if1 .left, ← c .before .raw-of2 .ensures, ne-eqb _ _ (c .if2 .taken))
-
-two-of-requires : tie.Need-two-of-requires
-two-of-requires c κs = search needs
-
-returns-3 : tie.Need-returns-3
-returns-3 c =
-    let c3 = c .before .before .before in
-    let c4 = c3 .before in
-    rw (← c4 .raw-of .ensures, c3 .if1 .left, ← c .before .before .raw-of2 .ensures, c .before .if2 .left, ← c .two-of .ensures .0)
+returns-2 c = rw (← c .before .before .raw-of .ensures, c .before .if1 .left) (c .is-medium-and-empty .ensures)
 
 pub is-plain-spec : {M : Type 1} → statement M
-is-plain-spec =
-    tie.close
-    (tie.spec raw-of-requires returns raw-of-requires-2 returns-2 two-of-requires returns-3)
+is-plain-spec = tie.close (tie.spec raw-of-requires returns is-medium-and-empty-requires returns-2)

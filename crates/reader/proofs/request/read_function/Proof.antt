@@ -77,6 +77,12 @@ read-tree-requires c κs = tt
 enum-told-11 : tie.Need-enum-told-11
 enum-told-11 c = search needs
 
+read-rewrite-requires : tie.Need-read-rewrite-requires
+read-rewrite-requires c κs = tt
+
+enum-told-12 : tie.Need-enum-told-12
+enum-told-12 c = search needs
+
 returns : tie.Need-returns
 returns c =
     let told = c .before in
@@ -149,9 +155,16 @@ returns-10 c =
 
 returns-11 : tie.Need-returns-11
 returns-11 c =
+    let told = c .before in
+    let of = told .before .before in
+    let f = first-word _ _ _ _ _ (of .before .before .word-at .ensures) (of .before .lone-word .ensures) (of .of .ensures) in
+    rw (f (told .enum-told11 .given .1)) (c .read-rewrite .ensures)
+
+returns-12 : tie.Need-returns-12
+returns-12 c =
     let of = c .before .before in
     let f = first-word _ _ _ _ _ (of .before .before .word-at .ensures) (of .before .lone-word .ensures) (of .of .ensures) in
-    rw (f (c .enum-told11 .given .1))
+    rw (f (c .enum-told12 .given .1))
 
 pub read-function-spec : {M : Type 1} → statement M
 read-function-spec =
@@ -181,6 +194,8 @@ read-function-spec =
     enum-told-10
     read-tree-requires
     enum-told-11
+    read-rewrite-requires
+    enum-told-12
     returns
     returns-2
     returns-3
@@ -191,4 +206,5 @@ read-function-spec =
     returns-8
     returns-9
     returns-10
-    returns-11)
+    returns-11
+    returns-12)

@@ -26,6 +26,9 @@ enum-told-6 c = search needs
 enum-told-7 : tie.Need-enum-told-7
 enum-told-7 c = search needs
 
+enum-told-8 : tie.Need-enum-told-8
+enum-told-8 c = search needs
+
 returns : tie.Need-returns
 returns c = rw (c .before .enum-told .given .1, c .match2 .keys1)
 
@@ -56,27 +59,41 @@ returns-8 : tie.Need-returns-8
 returns-8 c = rw (c .before .enum-told4 .given .1, c .match5 .keys1)
 
 returns-9 : tie.Need-returns-9
-returns-9 c = rw (c .before .enum-told4 .given .1, ne-eqb (c .before .before .before .args .b) 32 (c .match5 .rest .1))
+returns-9 c = rw (c .before .enum-told4 .given .1, c .match5 .keys2)
 
 returns-10 : tie.Need-returns-10
-returns-10 c = rw (c .before .enum-told5 .given .1, c .match6 .keys1)
-
-returns-11 : tie.Need-returns-11
-returns-11 c = rw (c .before .enum-told5 .given .1, c .match6 .keys2)
-
-returns-12 : tie.Need-returns-12
-returns-12 c =
+returns-10 c =
     rw (
-      c .before .enum-told5 .given .1,
-      ne-eqb (c .before .before .before .args .b) 32 (c .match6 .rest .0 .1),
-      ne-eqb (c .before .before .before .args .b) 58 (c .match6 .rest .1),
+      c .before .enum-told4 .given .1,
+      ne-eqb (c .before .before .before .args .b) 32 (c .match5 .rest .0 .1),
+      ne-eqb (c .before .before .before .args .b) 42 (c .match5 .rest .1),
     )
 
+returns-11 : tie.Need-returns-11
+returns-11 c = rw (c .before .enum-told5 .given .1, c .match6 .keys1)
+
+returns-12 : tie.Need-returns-12
+returns-12 c = rw (c .before .enum-told5 .given .1, ne-eqb (c .before .before .before .args .b) 32 (c .match6 .rest .1))
+
 returns-13 : tie.Need-returns-13
-returns-13 c = search needs
+returns-13 c = rw (c .before .enum-told6 .given .1, c .match7 .keys1)
 
 returns-14 : tie.Need-returns-14
-returns-14 c = search needs
+returns-14 c = rw (c .before .enum-told6 .given .1, c .match7 .keys2)
+
+returns-15 : tie.Need-returns-15
+returns-15 c =
+    rw (
+      c .before .enum-told6 .given .1,
+      ne-eqb (c .before .before .before .args .b) 32 (c .match7 .rest .0 .1),
+      ne-eqb (c .before .before .before .args .b) 58 (c .match7 .rest .1),
+    )
+
+returns-16 : tie.Need-returns-16
+returns-16 c = search needs
+
+returns-17 : tie.Need-returns-17
+returns-17 c = search needs
 
 pub after-spec : {M : Type 1} → statement M
 after-spec =
@@ -89,6 +106,7 @@ after-spec =
     enum-told-5
     enum-told-6
     enum-told-7
+    enum-told-8
     returns
     returns-2
     returns-3
@@ -102,4 +120,7 @@ after-spec =
     returns-11
     returns-12
     returns-13
-    returns-14)
+    returns-14
+    returns-15
+    returns-16
+    returns-17)
