@@ -51,7 +51,7 @@ enum filebox_number {
     FILEBOX_NO_DIRECTORY = 12,   /* name before the last is no directory */
     FILEBOX_READ = 13,           /* read inhibited */
     FILEBOX_WRITE = 14,          /* write inhibited */
-    FILEBOX_TYPE = 15,           /* RDS, CPY: not simple; LST: no directory */
+    FILEBOX_TYPE = 15,           /* RDS, CPY, WRS*: not simple; LST: no directory */
     FILEBOX_BORNE = 16,          /* CHN: new name borne by an entry there, itself included; give: link taken */
     FILEBOX_FULL = 17,           /* directory or base list full, nothing displaced */
     FILEBOX_PEOPLED = 18,        /* file losing its last entry is a directory with entries */
@@ -59,6 +59,8 @@ enum filebox_number {
     FILEBOX_REPLY = 20,          /* reply buffer too short */
     FILEBOX_CODE = 21,           /* DPR: new code lacks a bit of the heading's */
     FILEBOX_STOPPED = 22,        /* stop number reached; the stores made stand */
+    FILEBOX_MARKED = 23,         /* RDS, CPY: marked, since a rewrite of it was cut */
+    FILEBOX_LIFETIME = 24,       /* WRS*: lifetime L */
     FILEBOX_LEVEL = 25,          /* CPY: level too low, below the source's */
     FILEBOX_NUMBER = 27,         /* RDS: bad number: not one to six octal digits, or a count of 0 */
     FILEBOX_BEYOND = 28          /* RDS: first beyond the end */
@@ -69,7 +71,7 @@ struct filebox_answer {
     uint32_t number;    /* one of the numbers above */
     uint32_t place;     /* the argument that was refused, from 1; 0 for the numbers 0..6, 10, 19, 20 and 22 */
     uint32_t link;      /* which link of that argument's chain, from 1, a supplied .W counted as link 1: for 7 and 8 the first wrong name,
-                           on the way down (11, 12, 13) the link refused, at its end (13 to 18) the last; 0 where place is 0, for a lone
+                           on the way down (11, 12, 13) the link refused, at its end (13 to 18, 23, 24) the last; 0 where place is 0, for a lone
                            dash, a chain that is only too long, and an argument that is no chain (a declaration, CHN's link, the numbers of
                            RDS and LST*) */
     uint32_t names;     /* names done: all of whose stores were made; 1 for a granted RDS, LST or LST* */
@@ -79,7 +81,7 @@ struct filebox_answer {
 };
 
 /*
- * One request: the function and its arguments in line, a WRS's content in text, for a user, with a stop number.
+ * One request: the function and its arguments in line, the content of a WRS or WRS* in text, for a user, with a stop number.
  *
  * A chain begins in the user's own base files. Two forms begin in another's; .nnnnnn is a point and the six digits of that user's number:
  *
@@ -99,19 +101,24 @@ struct filebox_answer {
  * blanks more in front for each level. Another digit gets 9. A directory that holds itself is shown again at each level; where the lines are
  * longer than reply, 20, told before anything is written and without counting them to their end. No reply length is enough for every tree.
  *
- * Granted (0): the whole job is done, exactly as document 01 has it, in table and reply.
- * Refused (1 to 21, 25, 27, 28): table and reply are as lent, byte for byte. Only a DEL of several names keeps what the names before the refused
- *   one did: names says how many, stores how many stores that took.
+ * WRS* M name rewrites a simple file of lifetime M: text becomes its content, for every entry that names it, and its heading stays in its
+ * place, with its level and codes. It needs write on the file, and nothing of the directory; its room is the free records and those of the
+ * old text. While it is under way the file is marked (byte 5 of its heading is 1) and has length 0. A file that a cut left marked is
+ * refused by RDS and CPY (23) and is otherwise a file as any; another WRS* repairs it.
+ *
+ * Granted (0): the whole job is done, exactly as the documents have it, in table and reply.
+ * Refused (1 to 21, 23 to 25, 27, 28): table and reply are as lent, byte for byte. Only a DEL of several names keeps what the names before
+ *   the refused one did: names says how many, stores how many stores that took.
  * Stopped (22): exactly the first stop stores of the request were made, and reply is as lent. filebox_mend then gives, byte for byte, the
- *   table before the request or the table after it (for a DEL: after some first part of its names). So a stop number stands for a power
- *   cut between two stores.
+ *   table before the request or the table after it (for a DEL: after some first part of its names; for a WRS* cut between its first and its
+ *   last store: the table after it with that one file marked and empty). So a stop number stands for a power cut between two stores.
  */
 struct filebox_answer filebox_request(uint8_t *table, size_t table_length, const uint8_t *line, size_t line_length, const uint8_t *text,
                                       size_t text_length, uint8_t *reply, size_t reply_length, uint32_t user, uint32_t stop);
 
 /*
- * Mending, after a power cut: clears every heading that no entry names, then every text record whose heading is not a simple file's.
- * A sound table is left as it is.
+ * Mending, after a power cut: clears every heading that no entry names, then every text record whose heading is not a simple file's, or is
+ * marked. A mark stays. A sound table is left as it is.
  *
  * Done (0): the table is sound. Refused (1, 2): it is as lent. Stopped (22): the first stop stores stand, and a mend cut anywhere and run
  * again ends as an uncut one. place, link, names, displaced and bytes are 0.
@@ -189,6 +196,11 @@ struct filebox_lamp filebox_lamp(uint8_t *table, size_t table_length, const uint
  * Within a phase any order will do. Whatever part of the unflushed phase is on the disk when the power fails, filebox_mend then answers 0
  * and gives, byte for byte, the table before the request or the table after it: after it once the record of phase 2 is there. A phase
  * without records needs no flush. A DEL of several names is written name by name; a mend writes what it clears in any order.
+ *
+ * A WRS* has phases of its own, which the tables before and after do not tell, since old and new text may share a record. With n the stores
+ * of its answer, write the records that differ between the table before and the one at stop number 1 (the heading, marked), a flush, those
+ * that differ between that and the table at stop number n - 1 (all text), a flush, those that differ between that and the table after (the
+ * heading), a flush. What is on the disk is mended to the table before, to the table after, or to that with the one file marked and empty.
  */
 enum filebox_disk_phase {
     FILEBOX_SAME = 0,  /* nothing to write */

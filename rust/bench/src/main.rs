@@ -2,9 +2,9 @@
 //! 2,048 records. The table is warm: it was just copied or read.
 //!
 //! `bench [TURNS]` prints a Markdown table, the time of the lamp beside its requests made one by one, that of a walk among
-//! names of other lengths beside one among names of one length, that of a part of a sheet beside a sheet of its length, and that of
-//! refusing a tree of more lines than anyone can write; it ends with status 1 if a ratio at 2,048 records, or one of these four, is
-//! above its bar. `bench count OPERATION RECORDS
+//! names of other lengths beside one among names of one length, that of a part of a sheet beside a sheet of its length, that of
+//! refusing a tree of more lines than anyone can write, and that of a rewrite beside a WRS over the same file; it ends with status 1 if a
+//! ratio at 2,048 records, or one of these five, is above its bar. `bench count OPERATION RECORDS
 //! TIMES` runs one operation so many times (`pass`: the pass), to count its instructions with
 //! `valgrind --tool=callgrind --toggle-collect='*counted*' target/release/bench count rds 2048 10`: what is collected is
 //! the calls alone, without setting the table right.
@@ -16,6 +16,7 @@ mod lamp;
 mod names;
 mod operations;
 mod parts;
+mod rewrites;
 mod tables;
 mod trees;
 
@@ -82,6 +83,9 @@ fn bench(turns: usize) -> ExitCode {
     }
     if !trees::bench(turns) {
         missing.push("a tree that is too long");
+    }
+    if !rewrites::bench(turns) {
+        missing.push("a rewrite");
     }
     if missing.is_empty() {
         println!("Each is within its bar.");

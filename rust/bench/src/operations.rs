@@ -35,7 +35,7 @@ fn files(line: &str, bytes: usize) -> Call {
     Call::Request { line, text }
 }
 
-pub const OPERATIONS: [Operation; 14] = [
+pub const OPERATIONS: [Operation; 15] = [
     Operation {
         name: "rds",
         title: "RDS of 24 bytes",
@@ -77,6 +77,13 @@ pub const OPERATIONS: [Operation; 14] = [
         bar: Some(12.0),
         table: with_room_for_another,
         calls: |records| vec![files("WRS M .R:LONG", long_text(records).len())],
+    },
+    Operation {
+        name: "rewrite",
+        title: "WRS* of 24,000 bytes onto 24,000",
+        bar: Some(12.0),
+        table: with_room_for_another,
+        calls: |records| vec![files("WRS* M .R:LONG", long_text(records).len())],
     },
     Operation {
         name: "lst",
@@ -239,7 +246,7 @@ mod tests {
                 let (ready, table) = after(name, records);
                 assert!(table.as_ref() == ready.before, "{name}");
             }
-            for name in ["wrs-over", "dup"] {
+            for name in ["wrs-over", "rewrite", "dup"] {
                 let (mut ready, table) = after(name, records);
                 assert!(table.as_ref() != ready.before, "{name}");
                 ready.set_right();

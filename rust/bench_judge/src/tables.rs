@@ -121,17 +121,30 @@ pub fn long_files(records: usize) -> Vec<u8> {
 
 /// Files of one block, a hundred to a directory.
 pub fn small_files(records: usize) -> Vec<u8> {
+    files_of(1, records)
+}
+
+/// Files without text, a hundred to a directory, every other one marked, as a cut rewrite leaves it.
+pub fn marked_files(records: usize) -> Vec<u8> {
+    let mut bytes = files_of(0, records);
+    let simple = bytes.chunks_mut(RECORD).filter(|r| r[..2] == [1, 1]);
+    simple.step_by(2).for_each(|heading| heading[5] = 1);
+    bytes
+}
+
+/// Files of so many blocks, a hundred to a directory.
+fn files_of(blocks: usize, records: usize) -> Vec<u8> {
     let mut t = Table::new(records);
     let mut user = 1;
     let mut directory = t.base(user);
     let mut inside = 0;
-    while t.left() >= 3 {
+    while t.left() >= 2 + blocks {
         if inside == 100 && t.left() >= 5 {
             user += 1;
             directory = t.base(user);
             inside = 0;
         }
-        t.file(directory, 1);
+        t.file(directory, blocks);
         inside += 1;
     }
     pad(t, directory)

@@ -7,9 +7,10 @@ use crate::request::{read, refusal, Place, Refusal};
 use crate::sound::{is_sound, sound, HIGHEST_USER};
 use crate::table::{length_fits, Table};
 
-/// The reply numbers: 0 to 22 of document 01, and 25, 27 and 28 of document 02.
-pub const NUMBERS: [u32; 26] = [
-    0, 1, 2, 3, 4, 5, 6, 7, 8, 9, 10, 11, 12, 13, 14, 15, 16, 17, 18, 19, 20, 21, 22, 25, 27, 28,
+/// The reply numbers: 0 to 22 of document 01, and 23 to 25, 27 and 28 of document 02.
+pub const NUMBERS: [u32; 28] = [
+    0, 1, 2, 3, 4, 5, 6, 7, 8, 9, 10, 11, 12, 13, 14, 15, 16, 17, 18, 19, 20, 21, 22, 23, 24, 25,
+    27, 28,
 ];
 /// As many counts as have one for each number.
 pub const COUNTS: usize = NUMBERS[NUMBERS.len() - 1] as usize + 1;

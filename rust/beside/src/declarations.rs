@@ -123,6 +123,15 @@ impl Declared {
         Some((lifetime?, guard))
     }
 
+    /// `WRS*`: "same heading, same level and codes, so the declaration may be only M".
+    pub fn for_rewrite(self) -> Option<()> {
+        let only_medium = Declared {
+            lifetime: Some(DeclaredLifetime::M),
+            ..Declared::default()
+        };
+        (self == only_medium).then_some(())
+    }
+
     /// "CPY may have M or L, else takes the source's."
     pub fn for_cpy(self) -> Option<(Option<Lifetime>, Guard)> {
         let lifetime = match self.lifetime {

@@ -47,6 +47,7 @@ pub fn outcome(asked: &Asked, request: &Request) -> Outcome {
             guard,
             name,
         } => asked.wrs(*lifetime, *guard, name),
+        Request::Rewrite { name } => asked.rewrite(name),
         Request::Rds { name, portion } => asked.rds(name, *portion),
         Request::Cpy {
             old,
@@ -97,6 +98,31 @@ fn on_the_way(argument: usize) -> impl Fn(Strayed) -> Refusal {
     move |Strayed { number, link }| refusal(number, Place::link(argument, link))
 }
 
+/// The text records of a file with this heading, by position.
+fn texts(heading: u16, content: &[u8]) -> impl Iterator<Item = Record> + '_ {
+    let blocks = content.chunks(BLOCK).enumerate();
+    blocks.map(move |(position, bytes)| {
+        Record::Text(Text {
+            heading,
+            position: position as u16,
+            bytes: bytes.to_vec(),
+        })
+    })
+}
+
+/// The store of a heading with this mark and length: "same heading, same level and codes".
+fn headed(number: u16, heading: &Heading, marked: bool, length: u16) -> Store {
+    let heading = Heading {
+        marked,
+        length,
+        ..heading.clone()
+    };
+    Store {
+        number: number.into(),
+        record: Record::Heading(heading),
+    }
+}
+
 impl Asked<'_> {
     /// Walk an old name to its file; with the place of the end checks that are about it.
     fn old_name(&self, argument: usize, chain: &Chain) -> Result<(File, Place), Refusal> {
@@ -127,6 +153,7 @@ impl Asked<'_> {
             level: guard.level.unwrap_or(Level::U),
             code: guard.digit.unwrap_or(0),
             lifetime: Lifetime::M,
+            marked: false,
             length: 0,
         };
         let numbers = new.numbers(self.table, 1, None)?;
@@ -142,6 +169,7 @@ impl Asked<'_> {
             level: guard.level.unwrap_or(Level::U),
             code: guard.digit.unwrap_or(0),
             lifetime,
+            marked: false,
             length: self.text.len() as u16,
         };
         let numbers = new.numbers(self.table, 1 + blocks(self.text.len()), None)?;
@@ -167,13 +195,38 @@ impl Asked<'_> {
             level: guard.level.unwrap_or(old.heading.level),
             code: guard.digit.unwrap_or(0),
             lifetime: lifetime.unwrap_or(old.heading.lifetime),
+            marked: false,
             length: old.heading.length,
         };
         let content = self.table.content(old.entry.heading);
         let numbers = new.numbers(self.table, 1 + blocks(content.len()), None)?;
+        check(!old.heading.marked, 23, end)?;
         let declaration = Place::no_chain(3);
         check(heading.level >= old.heading.level, 25, declaration)?;
         Ok(self.new_file(&new, numbers, heading, &content))
+    }
+
+    /// "`WRS*` decl name, with a text, rewrites an existing simple file of lifetime M": "the heading marked ... with
+    /// length 0, old text cleared by position, new text into the lowest records then free, heading unmarked with the new
+    /// length". "Room is free records plus the old text's."
+    fn rewrite(&self, name: &Chain) -> Result<Outcome, Refusal> {
+        let (file, end) = self.old_name(2, name)?;
+        let number = file.entry.heading;
+        check(file.may_be_written(), 14, end)?;
+        check(file.heading.file_type == Type::Simple, 15, end)?;
+        let mut table = self.table.clone();
+        let mut stores = vec![headed(number, &file.heading, true, 0)];
+        let old = self.table.texts_of(number).into_iter();
+        stores.extend(old.map(|(record, _)| cleared(record)));
+        table.make(&stores);
+        let free = table.free();
+        check(free.len() >= blocks(self.text.len()), 19, Place::NONE)?;
+        check(file.heading.lifetime == Lifetime::M, 24, end)?;
+        let new = free.into_iter().zip(texts(number, self.text));
+        stores.extend(new.map(|(number, record)| Store { number, record }));
+        let length = self.text.len() as u16;
+        stores.push(headed(number, &file.heading, false, length));
+        Ok(Outcome::stored(stores))
     }
 
     /// A new heading with its text and its entry. "In each the code goes into both heading and entry."
@@ -187,13 +240,7 @@ impl Asked<'_> {
         let number = numbers[0] as u16;
         let entry = new.entry(heading.code, number);
         let mut records = vec![Record::Heading(heading)];
-        for (position, bytes) in content.chunks(BLOCK).enumerate() {
-            records.push(Record::Text(Text {
-                heading: number,
-                position: position as u16,
-                bytes: bytes.to_vec(),
-            }));
-        }
+        records.extend(texts(number, content));
         records.push(Record::Entry(entry));
         self.named(new, numbers, records)
     }
@@ -296,6 +343,7 @@ impl Asked<'_> {
         let content = self.table.content(file.entry.heading);
         let part = portion.of(&content);
         let outcome = self.reply(part.unwrap_or_default().to_vec())?;
+        check(!file.heading.marked, 23, end)?;
         check(part.is_some(), 28, Place::no_chain(2))?;
         Ok(outcome)
     }

@@ -11,12 +11,12 @@ const USER: u32 = 1;
 const STOP: u32 = 65_535;
 const REPLY: usize = 24_000;
 
-/// Does this line take the next one as its text? It does when its first word is WRS, "refused or not".
+/// Does this line take the next one as its text? It does when its first word is WRS or `WRS*`, "refused or not".
 pub fn takes_text(line: &[u8]) -> bool {
     let words = words(line);
     words
         .first()
-        .is_some_and(|word| word.whole() == Some(b"WRS"))
+        .is_some_and(|word| matches!(word.whole(), Some(b"WRS" | b"WRS*")))
 }
 
 /// The next line without its byte 10; nothing at the end of the input.

@@ -49,6 +49,8 @@ pub struct Heading {
     pub level: Level,
     pub code: u8,
     pub lifetime: Lifetime,
+    /// "marked (byte 5 is 1)".
+    pub marked: bool,
     pub length: u16,
 }
 
@@ -135,6 +137,11 @@ impl Heading {
                 2 => Lifetime::L,
                 _ => return None,
             },
+            marked: match bytes[5] {
+                0 => false,
+                1 => true,
+                _ => return None,
+            },
             length: two_bytes(bytes[10], bytes[11]),
         })
     }
@@ -157,6 +164,7 @@ impl Heading {
             Lifetime::M => 1,
             Lifetime::L => 2,
         };
+        bytes[5] = self.marked.into();
         bytes[10..12].copy_from_slice(&self.length.to_le_bytes());
         bytes
     }

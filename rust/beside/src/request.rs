@@ -75,6 +75,9 @@ pub enum Request<'a> {
         guard: Guard,
         name: Chain<'a>,
     },
+    Rewrite {
+        name: Chain<'a>,
+    },
     Rds {
         name: Chain<'a>,
         portion: Portion,
@@ -114,6 +117,7 @@ pub enum Request<'a> {
 enum Function {
     Crd,
     Wrs,
+    Rewrite,
     Rds,
     Cpy,
     Dup,
@@ -150,6 +154,7 @@ fn function(word: &Word) -> Option<Function> {
     match word.whole()? {
         b"CRD" => Some(Function::Crd),
         b"WRS" => Some(Function::Wrs),
+        b"WRS*" => Some(Function::Rewrite),
         b"RDS" => Some(Function::Rds),
         b"CPY" => Some(Function::Cpy),
         b"DUP" => Some(Function::Dup),
@@ -167,7 +172,7 @@ fn form(function: Function) -> (usize, &'static [Part]) {
     use Part::{Count, Declaration, Depth, First, Link, Name, New, Old, Source};
     match function {
         Function::Crd => (1, &[Name, Declaration]),
-        Function::Wrs => (2, &[Declaration, Name]),
+        Function::Wrs | Function::Rewrite => (2, &[Declaration, Name]),
         Function::Rds => (1, &[Source, First, Count]),
         Function::Lst => (1, &[Source]),
         Function::Tree => (2, &[Source, Depth]),
@@ -265,6 +270,10 @@ fn make<'a>(function: Function, arguments: &[Word<'a>]) -> Option<Request<'a>> {
             guard: declared(1)?.for_crd()?,
         },
         Function::Wrs => make_wrs(declared(0)?, chain(1))?,
+        Function::Rewrite => {
+            declared(0)?.for_rewrite()?;
+            Request::Rewrite { name: chain(1) }
+        }
         Function::Rds => Request::Rds {
             name: chain(0),
             portion: Portion {
@@ -360,7 +369,8 @@ pub fn read(line: &[u8], text_length: usize) -> Result<Request<'_>, Refusal> {
     let unfit = refusal(9, Place::no_chain(declaration(parts)));
     let request = make(function, arguments).ok_or(unfit)?;
     all_arguments(27, parts, arguments, bad_number)?;
-    if function == Function::Wrs && text_length > LONGEST_TEXT {
+    let stores_text = matches!(function, Function::Wrs | Function::Rewrite);
+    if stores_text && text_length > LONGEST_TEXT {
         return Err(refusal(10, Place::NONE));
     }
     Ok(request)

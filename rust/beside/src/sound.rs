@@ -27,6 +27,7 @@ pub fn is_sound(table: &Table) -> bool {
         && every_heading_is_named(table)
         && no_list_is_too_long(table)
         && directories_are_medium_and_empty(table)
+        && marked_files_are_empty(table)
         && every_text_has_its_place(table)
         && every_simple_file_is_whole(table)
 }
@@ -93,6 +94,16 @@ fn directories_are_medium_and_empty(table: &Table) -> bool {
     table.headings().all(|(_, heading)| {
         heading.file_type == Type::Simple
             || (heading.lifetime == Lifetime::M && heading.length == 0)
+    })
+}
+
+/// "A marked file, simple, M, length 0, is sound": no other heading is marked.
+fn marked_files_are_empty(table: &Table) -> bool {
+    table.headings().all(|(_, heading)| {
+        let empty = heading.file_type == Type::Simple
+            && heading.lifetime == Lifetime::M
+            && heading.length == 0;
+        empty || !heading.marked
     })
 }
 

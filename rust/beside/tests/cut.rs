@@ -1,5 +1,5 @@
 //! "Cut after any number of stores, then mended: the table before, or the table after (for DEL, after some first
-//! part of its names), byte for byte." On tables grown by random requests, every request at every stop number,
+//! part of its names), byte for byte", for WRS* "before, after, or after with that one file marked and empty". On tables grown by random requests, every request at every stop number,
 //! every mend at every stop number again.
 
 mod common;
@@ -29,6 +29,11 @@ struct Met {
     rewritten_alike: usize,
     full_tables: usize,
     read_back: usize,
+    rewrites: usize,
+    rewrites_of_marked: usize,
+    cut_to_marked: usize,
+    marked_displaced: usize,
+    marked_deleted: usize,
 }
 
 /// Two bytes of a record as a number.
@@ -94,7 +99,9 @@ fn declaration(dice: &mut Dice, lifetime: &str) -> String {
 /// A request that is often granted.
 fn line(dice: &mut Dice, bench: &Bench) -> String {
     let (one, other) = (old(dice, bench), new(dice, bench));
-    match dice.below(28) {
+    match dice.below(40) {
+        28..=38 => format!("WRS* M {one}"),
+        39 => format!("RDS {one}"),
         0..=5 => format!("CRD {other} {}", declaration(dice, "")),
         6..=9 => {
             let lifetime = dice.pick(&["M", "L"]);
@@ -182,6 +189,60 @@ fn stations(bench: &Bench, line: &str, text: &[u8], names: u32) -> Vec<(u32, Vec
         stations.push((seen.answer.stores, seen.table));
     }
     stations
+}
+
+/// The file at the end of a chain that is there: the number of its heading.
+fn file_of(bench: &Bench, chain: &str) -> usize {
+    let supplied = if chain.starts_with('.') { "" } else { ".W:" };
+    let mut heading = 65_535;
+    for name in format!("{supplied}{chain}").split(':') {
+        let there = entries(&bench.table, heading, bench.user);
+        let bears = |entry: &&&[u8]| &entry[10..10 + usize::from(entry[9])] == name.as_bytes();
+        heading = two(there.iter().find(bears).expect("it is there"), 4);
+    }
+    heading
+}
+
+/// The table with this file marked and empty, made record by record.
+fn emptied(table: &[u8], file: usize) -> Vec<u8> {
+    let mut emptied = table.to_vec();
+    for (number, record) in emptied.chunks_mut(32).enumerate() {
+        if number == file {
+            record[5] = 1;
+            record[10..12].fill(0);
+        } else if record[0] == 3 && two(record, 2) == file {
+            record.fill(0);
+        }
+    }
+    emptied
+}
+
+/// Cut a rewrite at every stop number and mend it: before at none, after at all of its stores, and at every other the table
+/// with that one file marked and empty, which is the same made from before and from after. Hands that back.
+fn rewrite_everywhere(bench: &Bench, line: &str, text: &[u8], met: &mut Met) -> Vec<u8> {
+    let uncut = bench.ask(line, text);
+    let file = file_of(bench, line.rsplit(' ').next().unwrap_or_default());
+    let old = two(record(&bench.table, file), 10).div_ceil(24);
+    let needed = (2 + old + text.len().div_ceil(24)) as u32;
+    assert_eq!(uncut.answer, answer([0, 0, 0, 1, 0, 0, needed]), "{line}");
+    let empty = emptied(&bench.table, file);
+    assert_eq!(empty, emptied(&uncut.table, file), "{line}");
+    let mut before = bench.table.clone();
+    for stop in 0..needed {
+        let cut = bench.stop(stop).ask(line, text);
+        assert_eq!(cut.answer, answer([22, 0, 0, 0, 0, 0, stop]), "{line}");
+        assert!(differing(&before, &cut.table) <= 1, "{line}, {stop}");
+        let mended = mend_everywhere(&cut.table, met);
+        let expected = if stop == 0 { &bench.table } else { &empty };
+        assert_eq!(mended, *expected, "{line}, {stop}");
+        met.cuts += 1;
+        met.cut_to_marked += usize::from(stop > 0);
+        before = cut.table;
+    }
+    assert!(differing(&before, &uncut.table) <= 1, "{line}");
+    met.rewrites += 1;
+    met.rewrites_of_marked += usize::from(empty == bench.table);
+    empty
 }
 
 /// Cut a request at every stop number and mend it. One store changes one record, and once a cut is mended to a
@@ -311,6 +372,27 @@ fn shuffled(dice: &mut Dice, table: &[u8]) -> Vec<u8> {
     shuffled
 }
 
+/// How many marked files there are.
+fn marks(table: &[u8]) -> usize {
+    let is_marked = |record: &&[u8]| record[0] == 1 && record[5] == 1;
+    table.chunks(32).filter(is_marked).count()
+}
+
+/// A rewrite: cut everywhere, then done, and read back; or left cut, now and then.
+fn rewritten(bench: &mut Bench, dice: &mut Dice, line: &str, text: &[u8], met: &mut Met) {
+    let empty = rewrite_everywhere(bench, line, text, met);
+    let done = bench.ask(line, text).table;
+    assert!(sound(&empty) && sound(&done), "{line}");
+    bench.table = if dice.once_in(2) { empty } else { done };
+    let read = bench.ask(line.replace("WRS* M", "RDS"), b"").answer.number;
+    let fit: &[u32] = if marks(&bench.table) > 0 {
+        &[0, 13, 23]
+    } else {
+        &[0, 13]
+    };
+    assert!(fit.contains(&read), "{line}: {read}");
+}
+
 /// One request: cut everywhere, then done.
 fn step(bench: &mut Bench, dice: &mut Dice, met: &mut Met) {
     bench.user = 1 + dice.below(2) as u32;
@@ -324,13 +406,22 @@ fn step(bench: &mut Bench, dice: &mut Dice, met: &mut Met) {
     if seen.answer.number != 0 {
         met.refused.insert(seen.answer.number);
     }
+    if line.starts_with("RDS") {
+        return;
+    }
     if seen.answer.stores == 0 {
         assert_ne!(seen.answer.number, 0, "{line}");
         bench.refuse(&line, &text, seen.answer.number, seen.answer.argument);
         return;
     }
+    if line.starts_with("WRS*") {
+        return rewritten(bench, dice, &line, &text, met);
+    }
     assert!(seen.answer.number == 0 || line.starts_with("DEL"), "{line}");
     assert!(sound(&seen.table), "{line}");
+    let fewer = usize::from(marks(&seen.table) < marks(&bench.table));
+    met.marked_displaced += fewer * seen.answer.displaced as usize;
+    met.marked_deleted += fewer * usize::from(line.starts_with("DEL"));
     cut_everywhere(bench, &line, &text, met);
     count_up(bench, &line, &text, &seen, met);
     let new = seen.answer.displaced == 0;
@@ -353,7 +444,7 @@ fn run(seed: u64) {
         }
     }
     println!("{met:#?}");
-    let refusals = [11, 12, 13, 14, 15, 16, 18, 19, 21];
+    let refusals = [11, 12, 13, 14, 15, 16, 18, 19, 21, 23, 24];
     assert!(refusals.iter().all(|number| met.refused.contains(number)));
     assert!(met.granted > 1_000 && met.cuts > 3_000);
     assert!(met.cut_to_before > 1_000 && met.cut_to_after > 500);
@@ -364,6 +455,8 @@ fn run(seed: u64) {
     assert!(met.dels_of_several > 10 && met.dels_refused_midway > 30);
     assert!(met.loops > 200 && met.unreached_loops > 50);
     assert!(met.rewritten_alike > 5 && met.full_tables > 10);
+    assert!(met.rewrites > 100 && met.rewrites_of_marked > 30 && met.cut_to_marked > 400);
+    assert!(met.marked_displaced > 5 && met.marked_deleted > 10);
 }
 
 #[test]
@@ -392,6 +485,7 @@ fn all_lines(chains: &[&str]) -> Vec<String> {
     for one in chains {
         lines.push(format!("CRD {one}"));
         lines.push(format!("WRS M {one}"));
+        lines.push(format!("WRS* M {one}"));
         lines.push(format!("DEL {one}"));
         lines.push(format!("CHN {one} B"));
         for other in chains {
@@ -420,8 +514,15 @@ fn every_table_of_five_records_that_these_requests_reach() {
                 continue;
             }
             assert!(sound(&seen.table), "{line}");
-            cut_everywhere(&bench, line, b"T", &mut met);
-            count_up(&bench, line, b"T", &seen, &mut met);
+            if line.starts_with("WRS*") {
+                let empty = rewrite_everywhere(&bench, line, b"T", &mut met);
+                if reached.insert(empty.clone()) {
+                    left.push(empty);
+                }
+            } else {
+                cut_everywhere(&bench, line, b"T", &mut met);
+                count_up(&bench, line, b"T", &seen, &mut met);
+            }
             if reached.insert(seen.table.clone()) {
                 left.push(seen.table);
             }
@@ -431,4 +532,5 @@ fn every_table_of_five_records_that_these_requests_reach() {
     assert!(reached.len() > 5_000 && met.cuts > 50_000);
     assert!(met.loops > 1_000 && met.unreached_loops > 1_000);
     assert!(met.displaced_and_cleared > 1_000 && met.dels_refused_midway > 1_000);
+    assert!(met.rewrites > 1_000 && met.rewrites_of_marked > 500);
 }

@@ -74,7 +74,7 @@ fn text_of_a_directory_of_an_entry_or_of_nothing_is_cleared() {
 }
 
 #[test]
-fn kind_and_type_are_read_from_bytes_0_and_1_alone() {
+fn kind_type_and_mark_are_read_from_bytes_0_1_and_5_alone() {
     // An unnamed heading is cleared whatever its other bytes are, and so is text without a simple file.
     let mut heading = [0xFF; 32];
     heading[0] = 1;
@@ -174,14 +174,21 @@ fn damage(dice: &mut Dice, table: &mut [u8]) {
         let at = dice.below(table.len() / 32) * 32;
         let number = dice.below(30) as u16;
         let record = &mut table[at..at + 32];
-        match dice.below(5) {
+        match dice.below(6) {
             0 if record[0] == 0 => record.copy_from_slice(&simple(number)),
             1 if record[0] == 0 => record.copy_from_slice(&directory()),
             0..=2 if record[0] == 0 => record.copy_from_slice(&text(number, number % 3, b"T")),
             3 => record.fill(0),
+            4 if record[0] == 1 => mark(record),
             _ => record[dice.below(32)] = dice.below(256) as u8,
         }
     }
+}
+
+/// A heading as a cut rewrite leaves it: marked, with length 0.
+fn mark(heading: &mut [u8]) {
+    heading[5] = 1;
+    heading[10..12].fill(0);
 }
 
 /// Each record is as before, or was a heading or a text and is cleared.
@@ -202,7 +209,7 @@ fn tables_damaged_at_random() {
     let seed = 20_240_601;
     println!("seed {seed}");
     let mut dice = Dice(seed);
-    let (mut mended, mut untouched, mut lost) = (0, 0, 0);
+    let (mut mended, mut untouched, mut lost, mut marked) = (0, 0, 0, 0);
     for _ in 0..20_000 {
         let mut table = grown(&mut dice);
         damage(&mut dice, &mut table);
@@ -217,6 +224,8 @@ fn tables_damaged_at_random() {
                 assert!(sound(&table));
                 assert_eq!(only_cleared(&before, &table), stores as usize);
                 assert_eq!(stores == 0, sound(&before));
+                let is_marked = |record: &[u8]| record[0] == 1 && record[5] == 1;
+                marked += usize::from(stores > 0 && table.chunks(32).any(is_marked));
                 cut_everywhere(&before, &table, seen.stores);
                 *(if stores == 0 {
                     &mut untouched
@@ -227,8 +236,8 @@ fn tables_damaged_at_random() {
             _ => panic!("{seen:?}"),
         }
     }
-    println!("mended {mended}, sound as it was {untouched}, not to be mended {lost}");
-    assert!(mended > 2_000 && untouched > 500 && lost > 5_000);
+    println!("mended {mended}, with a marked file {marked}, sound as it was {untouched}, not to be mended {lost}");
+    assert!(mended > 2_000 && marked > 100 && untouched > 500 && lost > 5_000);
 }
 
 /// "a mend cut anywhere and run again ends as an uncut one."

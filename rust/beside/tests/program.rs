@@ -133,6 +133,47 @@ fn a_refused_wrs_takes_the_next_line_too() {
 }
 
 #[test]
+fn a_rewrite_takes_the_next_line_as_its_text_refused_or_not() {
+    let input = b"CRD .R\n\
+        WRS M .R:LIMITS\n\
+        5.0 V\n\
+        DUP .R:LIMITS .R:BOARD7\n\
+        WRS* M .R:LIMITS\n\
+        4.9 V to 5.1 V, from week 3 on\n\
+        RDS .R:BOARD7\n\
+        WRS* L .R:LIMITS\n\
+        CRD .G\n\
+        WRS*\n\
+        CRD .G\n\
+        WRS* M .R\n\
+        CRD .G\n\
+        wrs* M\n\
+        WRS* :A\n\
+        LST .\n\
+        WRS* M .R:BOARD7\n\
+        \n\
+        RDS .R:LIMITS\n\
+        WRS* M .R:LIMITS";
+    let expected = b"0 0 0 1 0 0 2\n\
+        0 0 0 1 0 0 3\n\
+        0 0 0 1 0 0 1\n\
+        0 0 0 1 0 0 5\n\
+        0 0 0 1 0 30 0\n\
+        4.9 V to 5.1 V, from week 3 on\
+        9 1 0 0 0 0 0\n\
+        6 0 0 0 0 0 0\n\
+        15 2 1 0 0 0 0\n\
+        4 0 0 0 0 0 0\n\
+        5 0 0 0 0 0 0\n\
+        0 0 0 1 0 13 0\n\
+        DM.U0    .R\r\n\
+        0 0 0 1 0 0 4\n\
+        0 0 0 1 0 0 0\n\
+        0 0 0 1 0 0 2\n";
+    prints(input, expected);
+}
+
+#[test]
 fn the_longest_text_goes_in_and_comes_out() {
     let text: Vec<u8> = (0..24_000u32).map(|at| b'A' + (at % 26) as u8).collect();
     let input = [

@@ -146,13 +146,18 @@ fn every_word_up_to_five_characters_is_a_declaration_or_not() {
 
 /// What each function that takes a declaration asks of it, and where the declaration stands: "CRD and CPY and WRS refuse a
 /// type. CRD refuses a lifetime; WRS needs one, M or L; CPY may have M or L ... DUP allows a digit only. DPR needs a digit and
-/// allows nothing else."
-fn asked_with(word: &str, d: Declared) -> [(String, bool, u32); 5] {
+/// allows nothing else." Of WRS*: "the declaration may be only M".
+fn asked_with(word: &str, d: Declared) -> [(String, bool, u32); 6] {
     let typeless = d.file_type.is_none();
     let medium_or_long = matches!(d.lifetime, Some(DeclaredLifetime::M | DeclaredLifetime::L));
     let crd = typeless && d.lifetime.is_none();
     let dup = crd && d.level.is_none();
+    let only_medium = Declared {
+        lifetime: Some(DeclaredLifetime::M),
+        ..Declared::default()
+    };
     [
+        (format!("WRS* {word} .R:A"), d == only_medium, 1),
         (format!("CRD .G {word}"), crd, 2),
         (format!("WRS {word} .G"), typeless && medium_or_long, 1),
         (
@@ -178,8 +183,8 @@ fn every_declaration_in_every_function_that_takes_one() {
             granted += u32::from(fits);
         }
     }
-    // with no type: no lifetime, M or L; then a level, a digit, both or neither, after a point, or nothing at all
-    assert_eq!(granted, 46 + 92 + 138 + 10 + 8);
+    // with no type: no lifetime, M or L; then a level, a digit, both or neither, after a point, or nothing at all; WRS* has M and M.
+    assert_eq!(granted, 46 + 92 + 138 + 10 + 8 + 2);
     for word in ["MF", "1", ".8", "DD", "UM", "M1", "M.1U", "MM", ".PP", "--"] {
         for (line, _, place) in asked_with(word, Declared::default()) {
             bench.refuse(&line, TEXT, 9, place);
@@ -219,9 +224,14 @@ fn words_are_the_same_when_the_blanks_are_taken_out_first() {
 }
 
 #[test]
-fn a_line_takes_a_text_when_its_first_word_is_wrs() {
+fn a_line_takes_a_text_when_its_first_word_is_wrs_with_or_without_an_asterisk() {
     for line in [
         "WRS",
+        "WRS*",
+        " WRS* ",
+        "WRS* M .R:A",
+        "WRS* wrong",
+        "WRS *",
         " WRS ",
         "WRS M .R:A",
         "WRS A B C D",
@@ -233,6 +243,13 @@ fn a_line_takes_a_text_when_its_first_word_is_wrs() {
     for line in [
         "",
         "WRSM .R:A",
+        "WRS*M .R:A",
+        "WRS** M .R:A",
+        "WRS*:A",
+        "WRS* :A",
+        "WRS:*",
+        "*WRS",
+        "LST* . 1",
         "WRS:A",
         "WRS :A",
         ": WRS",

@@ -98,7 +98,7 @@ fn a_headings_fields_are_in_range() {
 
 #[test]
 fn bytes_not_named_are_zero() {
-    for at in (5..10).chain(12..32) {
+    for at in (6..10).chain(12..32) {
         broken_byte(0, at, 1);
         broken_byte(2, at, 255);
     }
@@ -110,6 +110,27 @@ fn bytes_not_named_are_zero() {
         broken_byte(3, at, 1);
         broken_byte(4, at, 255);
     }
+}
+
+/// Document 02: "A marked file, simple, M, length 0, is sound".
+#[test]
+fn no_heading_is_marked_but_of_an_empty_medium_file() {
+    for byte in [1, 2, 255] {
+        broken_byte(0, 5, byte);
+        broken_byte(2, 5, byte);
+    }
+    let with = |mut heading: [u8; 32], byte| {
+        heading[5] = byte;
+        let mut records = good();
+        records[2] = heading;
+        records[3..5].fill(FREE);
+        records
+    };
+    assert!(is_sound(&with(simple(0), 0)));
+    assert!(is_sound(&with(simple(0), 1)));
+    is_broken(&with(simple(0), 2), "byte 5 is 2");
+    is_broken(&with(heading(1, 0, 0, 2, 0), 1), "marked and long");
+    is_broken(&with(directory(), 1), "a marked directory");
 }
 
 #[test]

@@ -5,11 +5,12 @@ use common::*;
 
 use beside::{words, Answer, Chain, COUNTS, NUMBERS};
 
-const FUNCTIONS: [&str; 9] = [
-    "CRD ", "WRS ", "RDS ", "CPY ", "DUP ", "CHN ", "DEL ", "DPR ", "LST ",
+const FUNCTIONS: [&str; 10] = [
+    "CRD ", "WRS ", "WRS* ", "RDS ", "CPY ", "DUP ", "CHN ", "DEL ", "DPR ", "LST ",
 ];
 
-const NAMES: [&str; 20] = [
+const NAMES: [&str; 21] = [
+    ".R:CUT",
     ".R",
     ".W",
     ".G",
@@ -40,7 +41,7 @@ const PARTS: [&str; 8] = ["0", "7", "36", "37", "777777", "-", "8", "1:2"];
 
 /// A line: any bytes; or one byte again and again; or words anyhow; or a function with what it could have.
 fn line(dice: &mut Dice) -> Vec<u8> {
-    let words = match dice.below(14) {
+    let words = match dice.below(16) {
         0 => {
             let length = dice.below(300);
             return dice.bytes(length);
@@ -57,6 +58,11 @@ fn line(dice: &mut Dice) -> Vec<u8> {
         8..=9 => vec![dice.pick(&FUNCTIONS), dice.pick(&NAMES)],
         10 => vec!["RDS ", dice.pick(&NAMES), dice.pick(&PARTS)],
         11 => vec!["CPY ", dice.pick(&NAMES), "B", dice.pick(&DECLARATIONS)],
+        12..=13 => vec![
+            "WRS* ",
+            dice.pick(&["M", "M", "M", "M.", "L"]),
+            dice.pick(&NAMES),
+        ],
         _ => vec![dice.pick(&FUNCTIONS), dice.pick(&NAMES), dice.pick(&NAMES)],
     };
     words.join(" ").into_bytes()
@@ -107,12 +113,16 @@ fn filled() -> Vec<u8> {
         "DUP .R:A .R:B .6",
         "CRD A .1",
         "WRS M.2 X",
+        "WRS M .R:CUT",
     ];
     let mut bench = Bench::grown(160, &lines);
     for at in 0..112 {
         bench.grant(&format!("DUP .R:A .FULL:{at}"), b"");
     }
     bench.grant("DPR .R:D .4", b"");
+    // a sheet that a cut rewrite left marked
+    bench.table = bench.stop(1).ask("WRS* M .R:CUT", b"").table;
+    assert_eq!(mend(&mut bench.table, 65_535).number, 0);
     bench.table
 }
 
@@ -132,7 +142,9 @@ fn fits(answer: Answer, stop: u32, line: &[u8], before: &[u8], after: &[u8]) {
     assert_eq!(answer.argument == 0, placeless, "{shown}: {answer:?}");
     assert!(answer.argument <= 8 && answer.names <= 8 && answer.displaced <= 1);
     let linkless = placeless || matches!(number, 9 | 21 | 25 | 27 | 28);
+    let linked = matches!(number, 23 | 24);
     assert!(answer.link == 0 || !linkless, "{shown}: {answer:?}");
+    assert!(answer.link > 0 || !linked, "{shown}: {answer:?}");
     assert!(answer.link <= links(line, answer.argument), "{shown}");
     assert!(answer.stores <= stop);
     if number != 0 {

@@ -4,7 +4,7 @@
 //! With `gives`, two users give and take.
 
 use beside::{COUNTS, NUMBERS};
-use random::{lines, shelves, Random};
+use random::{lines, rewrites, shelves, Random};
 use std::fmt::Write;
 
 const HEAD: &str = "-- Random cases: the second program's outcomes, held against the definitions.
@@ -61,6 +61,7 @@ impl Story {
         let shift = self.gives.then(|| random.pick(&SHIFTS));
         let line = match shift {
             Some(user) => shelves::line(random, &self.table, &SHIFTS, user),
+            None if random.once_in(3) => rewrites::about(random, &self.table, 1),
             None => lines::line(random),
         };
         let length = random.pick(&[0, 1, 5, 24, 25, 30, 48]);
@@ -76,8 +77,7 @@ impl Story {
         let mut before = self.table.clone();
         let damaged = random.once_in(8) && !before.is_empty();
         if damaged {
-            let at = random.below(before.len());
-            before[at] = random.pick(&[0, 1, 2, 3, 255, 46, 65]);
+            spoil(random, &mut before);
         }
         let (mut after, mut replied) = (before.clone(), reply.clone());
         let answer = beside::request(&mut after, &line, &text, &mut replied, user, stop);
@@ -107,7 +107,17 @@ impl Story {
     }
 }
 
-/// A table of few records, begun with up to four of the same requests.
+/// Change a byte, or the marks of the headings.
+fn spoil(random: &mut Random, table: &mut [u8]) {
+    if random.once_in(3) {
+        let records = table.chunks_exact_mut(32);
+        return records.for_each(|record| rewrites::mark(random, record));
+    }
+    let at = random.below(table.len());
+    table[at] = random.pick(&[0, 1, 2, 3, 255, 46, 65]);
+}
+
+/// A table of few records, begun with up to five of the same requests; now and then a sheet in it is marked, as a rewrite that is cut leaves it.
 fn few(random: &mut Random) -> Vec<u8> {
     let rooms = if random.once_in(8) {
         random.below(3)
@@ -115,10 +125,20 @@ fn few(random: &mut Random) -> Vec<u8> {
         4 + random.below(9)
     };
     let mut table = vec![0; rooms * 32];
-    let first = ["CRD .R", "CRD .W", "WRS M .R:A", "DUP .R .R:B"];
-    for line in first.iter().take(random.below(5)) {
+    let first = [
+        "CRD .R",
+        "CRD .W",
+        "WRS M .R:A",
+        "DUP .R .R:B",
+        "WRS L .R:C",
+    ];
+    for line in first.iter().take(random.below(6)) {
         // as far as there is room
         let _ = beside::request(&mut table, line.as_bytes(), b"sheet", &mut [], 1, 65_535);
+    }
+    if random.once_in(2) {
+        // where the sheet is there
+        let _ = beside::request(&mut table, b"WRS* M .R:A", b"", &mut [], 1, 2);
     }
     table
 }

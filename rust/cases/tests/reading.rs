@@ -86,6 +86,7 @@ fn made_of(line: &[u8]) -> String {
                 heading(1, life, *guard)
             )
         }
+        Request::Rewrite { name } => format!("0 WRS* {}", at(name)),
         Request::Rds { name, portion } => {
             let (first, count) = (shown(portion.first), shown(portion.count));
             format!("0 RDS {} {first} {count}", old(name))

@@ -4,6 +4,7 @@ use crate::handed::{self, Handed};
 use crate::links::{self, Links};
 use crate::met::Met;
 use crate::parted::Parted;
+use crate::rewritten::{self, Rewritten};
 use crate::treed::{self, Treed};
 
 /// The byte that fills a reply buffer before the call.
@@ -141,6 +142,8 @@ pub struct Comparison {
     pub parted: Parted,
     /// What an LST* met.
     pub treed: Treed,
+    /// What a WRS* and a marked file met.
+    pub rewritten: Rewritten,
     /// The requests of the stories.
     pub requests: u64,
     /// The calls made by both: these requests again and again, and mending.
@@ -166,7 +169,13 @@ impl Comparison {
             self.handed.count(case, proved.answer);
             self.parted.count(case, proved.answer);
             self.treed.count(case, &proved);
-            let broken = [handed::broken, links::broken, treed::broken];
+            self.rewritten.count(case, &proved);
+            let broken = [
+                handed::broken,
+                links::broken,
+                treed::broken,
+                rewritten::broken,
+            ];
             return match broken.iter().find_map(|broken| broken(case, &proved)) {
                 None => Ok(proved),
                 Some(wrong) => Err(must_not_be(case, wrong, &proved)),

@@ -1,9 +1,10 @@
 //! "Cut after any number of stores, then mended: the table before, or the table after (for DEL, after some first part of
-//! its names), byte for byte."
+//! its names), byte for byte"; for WRS* "before, after, or after with that one file marked and empty".
 
 use random::Random;
 
 use crate::case::{must_not_be, Case, Comparison, Difference, Outcome};
+use crate::rewritten::marked_and_empty;
 
 /// Every stop number below this is tried; of the others, some.
 const ALL_BELOW: u32 = 40;
@@ -25,6 +26,32 @@ fn stations(case: &Case, uncut: &Outcome) -> Vec<Vec<u8>> {
     }
     stations.push(uncut.table.clone());
     stations
+}
+
+/// What a cut may be mended to.
+enum Landings {
+    /// The table before and after each name.
+    Names(Vec<Vec<u8>>),
+    /// The table before, and the one with that file marked and empty.
+    Rewrite([Vec<u8>; 2]),
+}
+
+impl Landings {
+    fn of(case: &Case, uncut: &Outcome) -> Landings {
+        match marked_and_empty(case, uncut) {
+            Some(empty) => Landings::Rewrite([case.table.clone(), empty]),
+            None => Landings::Names(stations(case, uncut)),
+        }
+    }
+
+    /// Of this cut: after the names done, or after one name more. Of a rewrite exactly one: before its first store and after it.
+    fn fit(&self, cut: &Outcome) -> &[Vec<u8>] {
+        match self {
+            Landings::Names(stations) => &stations[cut.names() as usize..][..2],
+            Landings::Rewrite([before, _]) if cut.stores() == 0 => std::slice::from_ref(before),
+            Landings::Rewrite([_, empty]) => std::slice::from_ref(empty),
+        }
+    }
 }
 
 /// The stop numbers to try, from 0 up to the stores needed, less one.
@@ -60,9 +87,9 @@ fn cut_at(
     chosen: &[u32],
 ) -> Result<(), Box<Difference>> {
     let needed = uncut.stores();
-    let stations = stations(case, uncut);
+    let landings = Landings::of(case, uncut);
     for &stop in chosen {
-        cut_once(comparison, random, &case.stopped(stop), &stations)?;
+        cut_once(comparison, random, &case.stopped(stop), &landings)?;
     }
     for stop in [needed, needed + 1] {
         let case = case.stopped(stop);
@@ -74,22 +101,20 @@ fn cut_at(
     Ok(())
 }
 
-/// Cut a request once: mended, it is the table after the names done, or after one name more.
+/// Cut a request once, and mend it.
 fn cut_once(
     comparison: &mut Comparison,
     random: &mut Random,
     case: &Case,
-    stations: &[Vec<u8>],
+    landings: &Landings,
 ) -> Result<(), Box<Difference>> {
     let cut = comparison.compare(case)?;
     if (cut.number(), cut.stores()) != (22, case.stop) {
         return Err(must_not_be(case, "not cut at the stop number", &cut));
     }
     let mended = mend(comparison, random, &cut.table)?;
-    let done = cut.names() as usize;
-    let mut fit = stations[done..].iter().take(2);
-    if !fit.any(|station| *station == mended) {
-        let wrong = "mended to neither the table before nor after";
+    if !landings.fit(&cut).contains(&mended) {
+        let wrong = "mended to another table than it may be";
         return Err(must_not_be(case, wrong, &cut));
     }
     comparison.cuts += 1;
@@ -125,19 +150,18 @@ mod tests {
     use crate::case::Asked;
     use crate::tables::long_file;
 
-    /// The most stores that a request can need: a file as long as it may be, written over one as long.
-    #[test]
-    fn the_longest_request_is_cut_at_every_store() {
+    /// A file as long as it may be, written over one as long by this line, cut at every store.
+    fn cut_at_every_store(table: &[u8], line: &[u8], stores: u32) {
         let mut comparison = Comparison::default();
         let asked = Asked {
-            line: b"WRS M .R:A".to_vec(),
+            line: line.to_vec(),
             text: vec![b'X'; 24_000],
             reply: 0,
             user: 1,
         };
-        let case = Case::request(&long_file(2048), asked);
+        let case = Case::request(table, asked);
         let uncut = comparison.compare(&case).expect("both do the same");
-        assert_eq!((uncut.number(), uncut.stores()), (0, 2003));
+        assert_eq!((uncut.number(), uncut.stores()), (0, stores));
         let every: Vec<u32> = (0..uncut.stores()).collect();
         cut_at(
             &mut comparison,
@@ -146,7 +170,19 @@ mod tests {
             &uncut,
             &every,
         )
-        .expect("every cut is mended to the table before or after");
-        assert_eq!(comparison.cuts, 2003);
+        .expect("every cut is mended to a table that it may be");
+        assert_eq!(comparison.cuts, stores.into());
+    }
+
+    /// The most stores that a request can need.
+    #[test]
+    fn the_longest_request_is_cut_at_every_store() {
+        cut_at_every_store(&long_file(2048, "L"), b"WRS M .R:A", 2003);
+    }
+
+    /// In a table without a free record.
+    #[test]
+    fn the_longest_rewrite_is_cut_at_every_store() {
+        cut_at_every_store(&long_file(1012, "M"), b"WRS* M .R:A", 2002);
     }
 }

@@ -25,7 +25,7 @@ pub struct Needed {
 /// 7 befalls none by a lone dash and a chain only too long; 7, 8 and 16 by CHN's link; 9, 21 and 25 are a declaration's,
 /// 27 and 28 a number's.
 pub const IN_REQUESTS: Needed = Needed {
-    with: &[7, 8, 11, 12, 13, 14, 15, 17, 18],
+    with: &[7, 8, 11, 12, 13, 14, 15, 17, 18, 23, 24],
     far: &[7, 11],
     without: &[7, 8, 9, 16, 21, 25, 27, 28],
 };
@@ -83,7 +83,7 @@ pub fn broken(case: &Case, outcome: &Outcome) -> Option<&'static str> {
         _ if argument == 0 => link == 0,
         9 | 21 | 25 | 27 | 28 => link == 0,
         8 => link <= 1,
-        11 | 12 | 13 | 14 | 15 | 17 | 18 => link >= 1,
+        11 | 12 | 13 | 14 | 15 | 17 | 18 | 23 | 24 => link >= 1,
         _ => true,
     };
     match right && link <= length(case, argument) {
@@ -142,6 +142,8 @@ mod tests {
         assert!(!kept(b"CPY .R A:B", 12, 1, 2));
         assert!(kept(b"DPR .R:A .1", 21, 2, 0));
         assert!(!kept(b"DPR .R:A .1", 21, 2, 1));
+        assert!(kept(b"WRS* M .R:A", 24, 2, 2));
+        assert!(!kept(b"WRS* M .R:A", 24, 2, 0));
         assert!(!kept(b"RDS .1:A", 8, 1, 2));
         assert!(kept(b"CRD .R", 19, 0, 0));
         assert!(!kept(b"CRD .R", 19, 0, 1));

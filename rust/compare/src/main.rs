@@ -2,8 +2,8 @@
 //! grow by them. Answer, whole table and whole reply buffer are compared byte for byte, every storing request on a sound
 //! table is cut at its stop numbers and mended, every sheet read whole is read in pieces, every tree a level less, and every table is
 //! mended. At the first difference it prints a case to paste into a test and ends with status 1; also when a reply number was met
-//! fewer than a hundred times, with a link of a chain or without, where it has the one or the other, or a branch of RDS's parts or
-//! of LST*.
+//! fewer than a hundred times, with a link of a chain or without, where it has the one or the other, or a branch of RDS's parts, of
+//! LST* or of WRS*.
 //!
 //! `compare jobs [COUNT [SEED]]`: the same with the lamp, COUNT jobs, each cut at its stop numbers and mended; ends with
 //! status 1 also when a light was met fewer than a hundred times.
@@ -23,6 +23,7 @@ mod links;
 mod met;
 mod parted;
 mod pieces;
+mod rewritten;
 mod sheets;
 mod shown;
 mod story;
@@ -93,9 +94,11 @@ fn requests(count: u64, seed: u64) -> ExitCode {
     show(&comparison, seed, start);
     let (met, links) = (&comparison.met, &comparison.links);
     let (parted, treed) = (&comparison.parted, &comparison.treed);
+    let rewritten = &comparison.rewritten;
     let linked = links.missed(&links::IN_REQUESTS);
-    let missed = [met.missed(), linked, parted.missed(), treed.missed()].concat();
-    let shown = format!("{met}{links}\n{parted}\n{treed}");
+    let branches = [parted.missed(), treed.missed(), rewritten.missed()].concat();
+    let missed = [met.missed(), linked, branches].concat();
+    let shown = format!("{met}{links}\n{parted}\n{treed}\n{rewritten}");
     verdict(ended, shown, &missed)
 }
 

@@ -6,11 +6,11 @@ use beside::{COUNTS, NUMBERS};
 
 use crate::case::Case;
 
-const ROWS: [&str; 12] = [
-    "CRD", "WRS", "RDS", "CPY", "DUP", "CHN", "DEL", "DPR", "LST", "LST*", "none", "mend",
+const ROWS: [&str; 13] = [
+    "CRD", "WRS", "WRS*", "RDS", "CPY", "DUP", "CHN", "DEL", "DPR", "LST", "LST*", "none", "mend",
 ];
-const NONE: usize = 10;
-const MEND: usize = 11;
+const NONE: usize = 11;
+const MEND: usize = 12;
 /// How often each number must be met.
 const ENOUGH: u64 = 100;
 

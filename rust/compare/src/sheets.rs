@@ -19,13 +19,14 @@ const LINKS: [&str; 10] = [
 ];
 const TOO_HIGH: [u32; 3] = [1_000_000, 16_777_217, u32::MAX];
 /// Chains that the line's rules refuse, or nearly.
-const ODD_CHAINS: [&str; 18] = [
+const ODD_CHAINS: [&str; 19] = [
     "",
     " ",
     ":",
     ":R",
     ":R .R", // the declaration is M:R
     ":R X",
+    ":A .W",
     ".R:",
     ".R::A",
     ".1",

@@ -1,11 +1,12 @@
 //! A story: one table, the requests of several users on it, and what befalls it on the way.
 
-use random::{requests, shelves, trees, Random};
+use random::{requests, rewrites, shelves, trees, Random};
 
 use crate::case::{must_not_be, Asked, Case, Comparison, Difference};
 use crate::cut::cut_everywhere;
 use crate::levels::in_levels;
 use crate::pieces::in_pieces;
+use crate::rewritten::marked_and_empty;
 use crate::tables::{shuffled, spoiled, Start};
 
 type Told = Result<(), Box<Difference>>;
@@ -21,6 +22,7 @@ pub struct Story<'a> {
     long_texts: bool,
     long_chains: bool,
     trees: bool,
+    rewrites: bool,
     cast: Cast,
 }
 
@@ -42,6 +44,7 @@ impl<'a> Story<'a> {
             long_texts: start.long_texts,
             long_chains: start.long_chains,
             trees: start.trees,
+            rewrites: start.rewrites,
             cast: Cast::Anything(others),
         }
     }
@@ -91,6 +94,9 @@ impl<'a> Story<'a> {
                 let other = random.pick(&[1, 1, others[0], others[1]]);
                 trees::line(random, &self.table, user, other)
             }
+            Cast::Anything(_) if self.rewrites && !random.once_in(5) => {
+                rewrites::about(random, &self.table, user)
+            }
             Cast::Anything(_) => requests::line(random, &self.table, user),
             Cast::Shelves(users) => shelves::line(random, &self.table, users, user),
         };
@@ -124,7 +130,8 @@ impl<'a> Story<'a> {
         Ok(())
     }
 
-    /// The request, with no stop number and with all; the table after it is the story's.
+    /// The request, with no stop number and with all; the table after it is the story's, or, of a rewrite, now and then the one that a cut
+    /// leaves, mended.
     fn on_the_sound_table(&mut self, asked: Asked) -> Told {
         let case = Case::request(&self.table, asked);
         let uncut = self.comparison.compare(&case)?;
@@ -140,7 +147,8 @@ impl<'a> Story<'a> {
         if self.comparison.compare(&mend)?.answer != [0; 7] {
             return Err(must_not_be(&case, "not sound after the request", &uncut));
         }
-        self.table = uncut.table;
+        let cut = marked_and_empty(&case, &uncut).filter(|_| self.random.once_in(3));
+        self.table = cut.unwrap_or(uncut.table);
         Ok(())
     }
 

@@ -2,7 +2,7 @@
 
 use filebox::NO_STOP;
 use random::damage::{damage, litter};
-use random::{requests, Random};
+use random::{requests, rewrites, Random};
 
 /// Make these requests of a user on a table, each with this text; each must be granted.
 fn grow_for(user: u32, table: &mut [u8], lines: impl IntoIterator<Item = String>, text: &[u8]) {
@@ -44,13 +44,13 @@ fn crowded_base_list(files: usize) -> Vec<u8> {
     table
 }
 
-/// A file as long as it may be and two short ones, in so many records.
-pub fn long_file(records: usize) -> Vec<u8> {
+/// A file as long as it may be, of this lifetime, and two short ones, in so many records.
+pub fn long_file(records: usize, lifetime: &str) -> Vec<u8> {
     let mut table = vec![0; records * 32];
     let text: Vec<u8> = (0..24_000).map(|at| (at % 249) as u8).collect();
     grow(
         &mut table,
-        ["CRD .R", "CRD .W", "WRS L .R:A"].map(String::from),
+        ["CRD .R", "CRD .W", &format!("WRS {lifetime} .R:A")].map(String::from),
         &text,
     );
     grow(
@@ -102,6 +102,42 @@ pub fn knot() -> Vec<u8> {
     table
 }
 
+/// Sheets that are rewritten: medium ones, one of them read-inhibited, one with the pen capped, one in a capped directory and one in a directory that
+/// is shut, a long one, and three that a cut left marked, two of them of level S. So many records are free.
+pub fn sheets(free: usize) -> Vec<u8> {
+    let mut table = vec![0; 64 * 32];
+    let lines = [
+        "CRD .R",
+        "WRS M .R:A",
+        "DUP .R:A .R:B .1",
+        "WRS L.P .R:L",
+        "WRS M.6 .R:SHUT",
+        "CRD .R:D",
+        "WRS M .R:D:B",
+        "DPR .R:D .1",
+        "CRD .R:Q",
+        "DUP .R:A .R:Q:A",
+        "DPR .R:Q .2",
+        "WRS M.P .R:CUT",
+        "WRS M.S .R:CUTS",
+        "WRS M.S .CUT",
+        "WRS M .ABC",
+    ];
+    grow(&mut table, lines.map(String::from), &[b's'; 30]);
+    for line in ["WRS* M .R:CUT", "WRS* M .R:CUTS", "WRS* M .CUT"] {
+        let cut = beside::request(&mut table, line.as_bytes(), b"", &mut [], 1, 3);
+        assert_eq!(cut.number, 22, "{line}");
+    }
+    // the room that the marked ones left is taken, as far as it is not to be free
+    let taken = table.chunks(32).rposition(|record| record[0] != 0);
+    table.truncate(taken.map_or(0, |last| last + 1) * 32);
+    let left = table.chunks(32).filter(|record| record[0] == 0).count();
+    let more = (free..left).map(|number| format!("DUP .R:A .R:N{number}"));
+    grow(&mut table, more, b"");
+    table.resize(table.len() + free.saturating_sub(left) * 32, 0);
+    table
+}
+
 /// A table to begin with.
 pub struct Start {
     pub table: Vec<u8>,
@@ -113,6 +149,8 @@ pub struct Start {
     pub long_chains: bool,
     /// Are its requests mostly LST*?
     pub trees: bool,
+    /// Are its requests mostly WRS*, and about what these leave?
+    pub rewrites: bool,
 }
 
 /// The tables that take long to grow.
@@ -121,6 +159,7 @@ pub struct Starts {
     long: [Vec<u8>; 3],
     nest: Vec<u8>,
     knot: Vec<u8>,
+    sheets: [Vec<u8>; 5],
 }
 
 impl Starts {
@@ -132,16 +171,17 @@ impl Starts {
                 crowded_base_list(100),
                 crowded_base_list(99),
             ],
-            long: [1_020, 2_030, 2_048].map(long_file),
+            long: [(1_020, "M"), (2_030, "L"), (2_048, "M")].map(|(n, life)| long_file(n, life)),
             nest: nest(),
             knot: knot(),
+            sheets: [0, 1, 2, 5, 12].map(sheets),
         }
     }
 
     /// One of these, or records that are all free.
     pub fn start(&self, random: &mut Random) -> Start {
         let free = |records: usize| vec![0; records * 32];
-        let kind = random.below(80);
+        let kind = random.below(98);
         let (table, requests) = match kind {
             0 => (self.long[random.below(3)].clone(), 6),
             1..=32 => (self.crowded[random.below(4)].clone(), 12),
@@ -149,14 +189,16 @@ impl Starts {
             47 => (free(200 + random.below(1_849)), 20),
             48..=63 => (free(13 + random.below(50)), 160),
             64..=71 => (self.nest.clone(), 60),
-            _ => (self.knot.clone(), 40),
+            72..=81 => (self.knot.clone(), 40),
+            _ => (self.sheets[random.below(5)].clone(), 40),
         };
         Start {
             table,
             requests,
             long_texts: kind == 0,
             long_chains: (64..=71).contains(&kind),
-            trees: kind > 71,
+            trees: (72..=81).contains(&kind),
+            rewrites: kind > 81,
         }
     }
 }
@@ -205,6 +247,7 @@ pub fn shelves(random: &mut Random, users: [u32; 3]) -> Start {
         long_texts: false,
         long_chains: false,
         trees: false,
+        rewrites: false,
     }
 }
 
@@ -233,17 +276,29 @@ pub fn shuffled(random: &mut Random, table: &[u8]) -> Vec<u8> {
 /// The table left by a request that is stopped early.
 fn cut(random: &mut Random, table: &[u8], user: u32) -> Vec<u8> {
     let mut cut = table.to_vec();
-    let line = requests::granted(random, table, user);
+    let line = match random.once_in(3) {
+        true => rewrites::line(random, table, user),
+        false => requests::granted(random, table, user).into_bytes(),
+    };
     let (text, stop) = (random.bytes(60), 1 + random.below(4) as u32);
     // cut or not, and perhaps refused
-    let _ = beside::request(&mut cut, line.as_bytes(), &text, &mut [], user, stop);
+    let _ = beside::request(&mut cut, &line, &text, &mut [], user, stop);
     cut
 }
 
-/// A table that is likely not sound: damaged, littered, cut, of an odd length, too long, or rubbish.
+/// The table with the marks of some of its headings changed.
+fn marked(random: &mut Random, table: &mut [u8]) {
+    for record in table.chunks_exact_mut(32) {
+        if random.once_in(4) {
+            rewrites::mark(random, record);
+        }
+    }
+}
+
+/// A table that is likely not sound: damaged, marked, littered, cut, of an odd length, too long, or rubbish.
 pub fn spoiled(random: &mut Random, table: &[u8], user: u32) -> Vec<u8> {
     let mut spoiled = table.to_vec();
-    match random.below(16) {
+    match random.below(18) {
         0 => spoiled.truncate(random.below(table.len() + 1)),
         1 => spoiled.resize(table.len() + 1 + random.below(40), 0),
         2 => spoiled.resize(random.pick(&[65_537, 65_567, 65_568, 70_000]), 0),
@@ -253,6 +308,7 @@ pub fn spoiled(random: &mut Random, table: &[u8], user: u32) -> Vec<u8> {
             .for_each(|byte| *byte = random.pick(&[0, 1, 2, 3])),
         5..=7 => spoiled = cut(random, table, user),
         8..=10 => litter(random, &mut spoiled),
+        16 | 17 => marked(random, &mut spoiled),
         _ => (0..=random.below(3)).for_each(|_| damage(random, &mut spoiled)),
     }
     spoiled
@@ -269,6 +325,7 @@ mod tests {
         let all = [
             &starts.crowded[..],
             &starts.long,
+            &starts.sheets,
             &[starts.nest, starts.knot],
         ];
         for table in all.concat().iter() {

@@ -69,6 +69,8 @@
 //!
 //! A tree: a directory and, two blanks further in at each level, the directories in it, to a depth of 1 to 8. See [`Table::tree`].
 //!
+//! Rewrite a sheet, and every link to it sees the new text. See [`Table::rewrite`].
+//!
 //! A refusal says the number and why, the argument, and which link of its chain, the supplied `.W` counted; it leaves the table
 //! as it was:
 //!

@@ -84,7 +84,7 @@ pub fn request(
     Answer::from(seven)
 }
 
-/// Mend a table: clear the headings that no entry names, then the text of no simple file. Exactly the first `stop` stores
+/// Mend a table: clear the headings that no entry names, then the text of no simple file or of a marked one. Exactly the first `stop` stores
 /// are made; a mend that was cut is run again.
 ///
 /// ```

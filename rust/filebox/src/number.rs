@@ -11,7 +11,7 @@ use std::fmt;
 /// assert_eq!(Number::CodeLacksBit.code(), 21);
 /// assert_eq!(Number::try_from(2), Ok(Number::TableNotSound));
 /// assert_eq!(Number::TableNotSound.to_string(), "table not sound");
-/// assert!(Number::try_from(23).is_err());
+/// assert!(Number::try_from(26).is_err());
 /// ```
 #[derive(Debug, Clone, Copy, PartialEq, Eq, PartialOrd, Ord, Hash)]
 #[repr(u32)]
@@ -46,7 +46,7 @@ pub enum Number {
     ReadInhibited = 13,
     /// Write inhibited.
     WriteInhibited = 14,
-    /// RDS, CPY: not simple; LST: no directory.
+    /// RDS, CPY, WRS*: not simple; LST: no directory.
     WrongType = 15,
     /// CHN: new name borne by an entry there, itself included; give: link taken.
     NameBorne = 16,
@@ -62,6 +62,10 @@ pub enum Number {
     CodeLacksBit = 21,
     /// Stop number reached; the stores made stand.
     Stopped = 22,
+    /// RDS, CPY: marked, since a rewrite of it was cut.
+    Marked = 23,
+    /// WRS*: lifetime L.
+    LifetimeLong = 24,
     /// CPY: level too low, below the source's.
     LevelTooLow = 25,
     /// RDS: bad number: not one to six octal digits, or a count of 0.
@@ -71,8 +75,8 @@ pub enum Number {
 }
 
 impl Number {
-    /// All numbers, in order: 0 to 22, 25, 27 and 28.
-    pub const ALL: [Number; 26] = [
+    /// All numbers, in order: 0 to 25, 27 and 28.
+    pub const ALL: [Number; 28] = [
         Number::Done,
         Number::TableLength,
         Number::TableNotSound,
@@ -96,6 +100,8 @@ impl Number {
         Number::ReplyTooShort,
         Number::CodeLacksBit,
         Number::Stopped,
+        Number::Marked,
+        Number::LifetimeLong,
         Number::LevelTooLow,
         Number::BadNumber,
         Number::FirstBeyondEnd,
@@ -106,7 +112,7 @@ impl Number {
         self as u32
     }
 
-    /// What document 01's list says of it, and of 8, 16 and from 25 on document 02.
+    /// What document 01's list says of it, and of 8, 15, 16 and from 23 on document 02.
     fn given_when(self) -> &'static str {
         match self {
             Number::Done => "done",
@@ -126,7 +132,7 @@ impl Number {
             Number::NoDirectoryBefore => "name before the last is no directory",
             Number::ReadInhibited => "read inhibited",
             Number::WriteInhibited => "write inhibited",
-            Number::WrongType => "RDS, CPY: not simple; LST: no directory",
+            Number::WrongType => "RDS, CPY, WRS*: not simple; LST: no directory",
             Number::NameBorne => {
                 "CHN: new name borne by an entry there, itself included; give: link taken"
             }
@@ -138,6 +144,8 @@ impl Number {
             Number::ReplyTooShort => "reply buffer too short",
             Number::CodeLacksBit => "DPR: new code lacks a bit of the heading's",
             Number::Stopped => "stop number reached; the stores made stand",
+            Number::Marked => "RDS, CPY: marked, since a rewrite of it was cut",
+            Number::LifetimeLong => "WRS*: lifetime L",
             Number::LevelTooLow => "CPY: level too low, below the source's",
             Number::BadNumber => "RDS: bad number: not one to six octal digits, or a count of 0",
             Number::FirstBeyondEnd => "RDS: first beyond the end",
@@ -151,7 +159,7 @@ impl fmt::Display for Number {
     }
 }
 
-/// No reply number: the documents have 0 to 22, 25, 27 and 28.
+/// No reply number: the documents have 0 to 25, 27 and 28.
 #[derive(Debug, Clone, Copy, PartialEq, Eq)]
 pub struct NoSuchNumber(pub u32);
 
@@ -179,8 +187,8 @@ mod tests {
 
     #[test]
     fn each_number_is_found_by_its_code() {
-        assert_eq!(Number::ALL.map(Number::code)[..23], Vec::from_iter(0..23));
-        assert_eq!(Number::ALL.map(Number::code)[23..], [25, 27, 28]);
+        assert_eq!(Number::ALL.map(Number::code)[..26], Vec::from_iter(0..26));
+        assert_eq!(Number::ALL.map(Number::code)[26..], [27, 28]);
         for number in Number::ALL {
             assert_eq!(Number::try_from(number.code()), Ok(number));
         }
@@ -188,7 +196,7 @@ mod tests {
 
     #[test]
     fn no_other_number_is_one() {
-        for code in [23, 24, 26, 255, 256, u32::MAX] {
+        for code in [26, 29, 255, 256, u32::MAX] {
             assert_eq!(Number::try_from(code), Err(NoSuchNumber(code)));
         }
     }

@@ -10,8 +10,7 @@ pub const RECORD_BYTES: usize = 32;
 pub const MOST_RECORDS: usize = 2_048;
 /// The longest text of a file, in bytes.
 pub const LONGEST_TEXT: usize = 24_000;
-/// A stop number that no call reaches: a call stores no record twice, so it makes 2,048 stores at most. `FILEBOX_NO_STOP` of
-/// the C header.
+/// A stop number that no call reaches: no request and no mend makes more than 2,048 stores. `FILEBOX_NO_STOP` of the C header.
 pub const NO_STOP: u32 = 65_535;
 
 /// The bytes of the longest listing: 112 lines of a name of ten characters.
@@ -112,7 +111,47 @@ impl<B: AsMut<[u8]>> Table<B> {
         self.request(user, &line, text, &mut []).granted()
     }
 
-    /// RDS: the text of a sheet. A name with a blank in it is refused by 7, as in [`Table::file`].
+    /// WRS*: rewrite a sheet of lifetime M. Its heading stays, with level and codes, so every link to it sees the new text; a copy of
+    /// it does not. It needs write on the sheet, and as much room as the free records and the old text's. A sheet of lifetime L gets 24; a
+    /// name that is not there 11, since no file is made; a name with a blank in it 7, as in [`Table::file`].
+    ///
+    /// Test limits change weekly and every link sees the new text:
+    ///
+    /// ```
+    /// use filebox::{Number, Table};
+    ///
+    /// let mut table = Table::free(16);
+    /// table.ask(1, "CRD .R").unwrap();
+    /// table.file(1, "M", ".R:LIMITS", b"5.0 V").unwrap();
+    /// table.ask(1, "DUP .R:LIMITS .R:BOARD7").unwrap();
+    /// table.rewrite(1, ".R:LIMITS", b"4.9 V to 5.1 V").unwrap();
+    /// assert_eq!(table.sheet(1, ".R:BOARD7").unwrap(), b"4.9 V to 5.1 V");
+    /// let refused = table.rewrite(1, ".R:KEYS", b"9 9 9").unwrap_err();
+    /// assert_eq!(refused.answer().number, Number::NameNotThere);
+    /// ```
+    ///
+    /// A rewrite that was cut leaves the sheet marked and empty, and the next one repairs it:
+    ///
+    /// ```
+    /// use filebox::{request, Number, Table};
+    ///
+    /// let mut table = Table::free(16);
+    /// table.file(1, "M", ".LIMITS", b"5.0 V").unwrap();
+    /// let cut = request(table.as_mut(), b"WRS* M .LIMITS", b"4.9 V", &mut [], 1, 3);
+    /// assert_eq!((cut.number, cut.stores), (Number::Stopped, 3));
+    /// table.mend().unwrap();
+    /// let refused = table.sheet(1, ".LIMITS").unwrap_err();
+    /// assert_eq!(refused.to_string(), "23: RDS, CPY: marked, since a rewrite of it was cut (argument 1, link 1)");
+    /// table.rewrite(1, ".LIMITS", b"4.9 V").unwrap();
+    /// assert_eq!(table.sheet(1, ".LIMITS").unwrap(), b"4.9 V");
+    /// ```
+    pub fn rewrite(&mut self, user: u32, name: &str, text: &[u8]) -> Result<Answer, Refused> {
+        without_blank(name, Number::MalformedName, 2)?;
+        let line = format!("WRS* M {name}");
+        self.request(user, &line, text, &mut []).granted()
+    }
+
+    /// RDS: the text of a sheet. A sheet that a cut rewrite left marked gets 23. A name with a blank in it is refused by 7, as in [`Table::file`].
     pub fn sheet(&mut self, user: u32, name: &str) -> Result<Vec<u8>, Refused> {
         without_blank(name, Number::MalformedName, 1)?;
         self.reply(user, &format!("RDS {name}"), LONGEST_TEXT)

@@ -99,6 +99,44 @@ fn what_was_displaced_is_said() -> Result<(), Refused> {
 }
 
 #[test]
+fn a_rewrite_is_seen_by_every_link_and_makes_no_file() -> Result<(), Refused> {
+    let mut table = Table::free(MOST_RECORDS);
+    let new: Vec<u8> = (0..LONGEST_TEXT).map(|at| (at % 251) as u8).collect();
+    table.ask(1, "CRD .W")?;
+    table.file(1, "M.P4", "LIMITS", &[b'L'; LONGEST_TEXT])?;
+    table.ask(1, "DUP LIMITS BOARD7")?;
+    table.ask(1, "CPY LIMITS OLD")?;
+    let rewritten = table.rewrite(1, "BOARD7", &new)?;
+    assert_eq!(rewritten.numbers(), [0, 0, 0, 1, 0, 0, 2_002]);
+    assert_eq!(table.sheet(1, "LIMITS")?, new);
+    assert_eq!(table.sheet(1, "OLD")?, [b'L'; LONGEST_TEXT]);
+    let listed = b"FM.P4    BOARD7\r\nFM.P4    LIMITS\r\nFM.P0    OLD\r\n";
+    assert_eq!(table.list(1, ".W")?, listed);
+    table.rewrite(1, "LIMITS", b"")?;
+    assert_eq!(table.sheet(1, "BOARD7")?, b"");
+    table.file(1, "L", "AUDIT", b"5.0 V")?;
+    let before = table.clone();
+    let wrong = [
+        ("KEYS", "11: name not there (argument 2, link 2)"),
+        ("AUDIT", "24: WRS*: lifetime L (argument 2, link 2)"),
+        (
+            ".W",
+            "15: RDS, CPY, WRS*: not simple; LST: no directory (argument 2, link 1)",
+        ),
+        ("A B", "7: malformed name or chain (argument 2)"),
+        (".000002:A", "8: illegal base name (also CHN's link for a base file, a user's number out of place) (argument 2, link 1)"),
+    ];
+    for (name, said) in wrong {
+        let refused = table.rewrite(1, name, b"NEW").unwrap_err();
+        assert_eq!(refused.to_string(), said);
+    }
+    let refused = table.rewrite(1, "LIMITS", &[0; LONGEST_TEXT + 1]);
+    assert_eq!(refused.unwrap_err().answer().number, Number::TextAbove);
+    assert_eq!(table, before);
+    Ok(())
+}
+
+#[test]
 fn a_reply_buffer_too_short_is_left_alone() -> Result<(), Refused> {
     let mut table = Table::free(16);
     table.ask(1, "CRD .W")?;

@@ -7,7 +7,7 @@ use filebox::{mend, Answer, Number, NO_STOP, RECORD_BYTES};
 
 use crate::disk::Disk;
 use crate::phases;
-use crate::steps::{Job, Lit, Request};
+use crate::steps::{Job, Lit, Request, Step};
 
 /// Why a table cannot be kept, or a call has no answer.
 #[derive(Debug)]
@@ -98,11 +98,11 @@ impl<D: Disk> Kept<D> {
     }
 
     /// Write step after step.
-    fn store(&mut self, steps: Vec<Vec<u8>>) -> Result<(), Wrong> {
-        for after in steps {
+    fn store(&mut self, steps: Vec<Step>) -> Result<(), Wrong> {
+        for step in steps {
             self.doubtful = true;
-            phases::write(&mut self.disk, &self.table, &after)?;
-            self.table = after;
+            phases::write(&mut self.disk, &self.table, &step)?;
+            self.table = step.after();
             self.doubtful = false;
         }
         Ok(())
@@ -123,6 +123,6 @@ fn settled(disk: &mut impl Disk) -> Result<(Vec<u8>, Answer), Wrong> {
         _ => return Err(Wrong::NotSound),
     }
     phases::write_all(disk, found.chunks(RECORD_BYTES).enumerate())?;
-    phases::write_mended(disk, &found, &mended)?;
+    phases::write_differing(disk, &found, &mended)?;
     Ok((mended, answer))
 }

@@ -16,7 +16,7 @@ pub enum Unended {
     Nothing,
 }
 
-/// Is the first word of a line WRS? Told byte by byte, so that a line of any length needs no room.
+/// Is the first word of a line WRS or WRS*? Told byte by byte, so that a line of any length needs no room.
 #[derive(Debug, Clone, Copy, PartialEq, Eq)]
 enum FirstWord {
     /// Blanks alone.
@@ -24,7 +24,8 @@ enum FirstWord {
     W,
     Wr,
     Wrs,
-    /// WRS and blanks: a colon would join a name to it.
+    Rewrite,
+    /// One of these two and blanks: a colon would join a name to it.
     Gap,
     Is,
     IsNot,
@@ -37,7 +38,8 @@ impl FirstWord {
             (FirstWord::Blanks, b'W') => FirstWord::W,
             (FirstWord::W, b'R') => FirstWord::Wr,
             (FirstWord::Wr, b'S') => FirstWord::Wrs,
-            (FirstWord::Wrs | FirstWord::Gap, b' ') => FirstWord::Gap,
+            (FirstWord::Wrs, b'*') => FirstWord::Rewrite,
+            (FirstWord::Wrs | FirstWord::Rewrite | FirstWord::Gap, b' ') => FirstWord::Gap,
             (FirstWord::Gap, b':') => FirstWord::IsNot,
             (FirstWord::Gap | FirstWord::Is, _) => FirstWord::Is,
             _ => FirstWord::IsNot,
@@ -45,8 +47,9 @@ impl FirstWord {
     }
 
     /// Where the line ends here.
-    fn is_wrs(self) -> bool {
-        matches!(self, FirstWord::Wrs | FirstWord::Gap | FirstWord::Is)
+    fn takes_text(self) -> bool {
+        use FirstWord::{Gap, Is, Rewrite, Wrs};
+        matches!(self, Wrs | Rewrite | Gap | Is)
     }
 }
 
@@ -66,7 +69,7 @@ enum End {
 pub struct Held {
     /// Its first 257 bytes.
     pub line: Vec<u8>,
-    /// The first 24,001 bytes of the line after a WRS; nothing after any other.
+    /// The first 24,001 bytes of the line after a WRS or WRS*; nothing after any other.
     pub text: Vec<u8>,
 }
 
@@ -81,7 +84,7 @@ impl Held {
             word = word.after(byte);
         })?;
         let line = end == End::Ended || (end == End::Cut && unended == Unended::Line);
-        if !line || !word.is_wrs() {
+        if !line || !word.takes_text() {
             return Ok(line);
         }
         let end = bytes(input, |byte| hold(&mut self.text, MOST_TEXT, byte))?;
@@ -147,9 +150,30 @@ mod tests {
     }
 
     #[test]
+    fn a_line_after_a_rewrite_is_its_text_too() {
+        for portion in [1, 2, 3, 100] {
+            let met = requests(
+                b"WRS* M A\ntext\nLST* . 2\nWRS** M\nWRS*\n\nWRS* :A\nRDS A\n",
+                portion,
+                Unended::Line,
+            );
+            let expected = [
+                ("WRS* M A", "text"),
+                ("LST* . 2", ""),
+                ("WRS** M", ""),
+                ("WRS*", ""),
+                ("WRS* :A", ""),
+                ("RDS A", ""),
+            ];
+            assert_eq!(met, expected.map(|(line, text)| pair(line, text)));
+        }
+    }
+
+    #[test]
     fn what_goes_away_in_the_middle_asks_nothing() {
         assert!(requests(b"DEL .R:LIMITS", 100, Unended::Nothing).is_empty());
         assert!(requests(b"WRS M .R:A\nhalf", 100, Unended::Nothing).is_empty());
+        assert!(requests(b"WRS* M .R:A\nhalf", 100, Unended::Nothing).is_empty());
         assert_eq!(
             requests(b"LST .\nDEL", 100, Unended::Nothing),
             [pair("LST .", "")]
@@ -170,13 +194,12 @@ mod tests {
     fn the_first_word_is_told_as_the_second_program_tells_it() {
         let mut random = random::Random::new(1971);
         for _ in 0..200_000 {
-            let line: Vec<u8> = (0..random.below(12))
-                .map(|_| random.pick(b"WRS :A"))
-                .collect();
+            let mut line = random.pick(&["", "", "WRS", "WRS*"]).as_bytes().to_vec();
+            line.extend((0..random.below(12)).map(|_| random.pick(b"WRS :*A")));
             let word = line
                 .iter()
                 .fold(FirstWord::Blanks, |word, byte| word.after(*byte));
-            assert_eq!(word.is_wrs(), beside::takes_text(&line), "{line:?}");
+            assert_eq!(word.takes_text(), beside::takes_text(&line), "{line:?}");
         }
     }
 }

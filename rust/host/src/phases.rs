@@ -6,12 +6,24 @@ use filebox::disk::{phase, Phase};
 use filebox::RECORD_BYTES;
 
 use crate::disk::Disk;
+use crate::steps::Step;
 
-/// Write what differs between the tables before and after one step: a request, or one name of a DEL, or one sheet of a job.
-/// First the records that were free, then the entry, then the records that are freed, a flush after each; a phase without
-/// a record has no flush. Cut anywhere, with any part of what was not flushed on the disk, mending gives one of the two
-/// tables.
-pub fn write(disk: &mut impl Disk, before: &[u8], after: &[u8]) -> io::Result<()> {
+/// Write one step on the table before it, phase after phase, a flush after each; a phase without a record has no flush. Cut anywhere,
+/// with any part of what was not flushed on the disk, mending gives the table before or after; of a rewrite, from its first
+/// phase to its last, the table after with that one file marked and empty.
+pub fn write(disk: &mut impl Disk, before: &[u8], step: &Step) -> io::Result<()> {
+    match step {
+        Step::Whole(after) => write_whole(disk, before, after),
+        Step::Rewrite([marked, filled, after]) => {
+            write_differing(disk, before, marked)?;
+            write_differing(disk, marked, filled)?;
+            write_differing(disk, filled, after)
+        }
+    }
+}
+
+/// First the records that were free, then the entry, then the records that are freed.
+fn write_whole(disk: &mut impl Disk, before: &[u8], after: &[u8]) -> io::Result<()> {
     let records = after.chunks(RECORD_BYTES).enumerate();
     let differing: Vec<(Phase, usize, &[u8])> = records
         .map(|(number, record)| (phase(before, after, number), number, record))
@@ -24,8 +36,8 @@ pub fn write(disk: &mut impl Disk, before: &[u8], after: &[u8]) -> io::Result<()
     Ok(())
 }
 
-/// Write what mending changed, which may land in any order: one flush.
-pub fn write_mended(disk: &mut impl Disk, before: &[u8], after: &[u8]) -> io::Result<()> {
+/// Write what differs, which may land in any order: one flush. What mending changed, or one phase of a rewrite.
+pub fn write_differing(disk: &mut impl Disk, before: &[u8], after: &[u8]) -> io::Result<()> {
     let old = before.chunks(RECORD_BYTES);
     let new = after.chunks(RECORD_BYTES);
     let differing = new

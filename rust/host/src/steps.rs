@@ -1,6 +1,29 @@
-//! The tables between a call's start and its end: after each name of a DEL, after each sheet of a job.
+//! The tables between a call's start and its end: after each name of a DEL, after each sheet of a job, and between the phases of a rewrite.
 
-use filebox::{NotGreen, Phase, Sheet, Table, NO_STOP};
+use filebox::{Answer, NotGreen, Number, Phase, Sheet, Table, NO_STOP, RECORD_BYTES};
+
+/// What is written as one: cut anywhere, mending gives the table before it or after it, or, of a rewrite, after it with that one file marked
+/// and empty.
+#[derive(Debug, Clone, PartialEq, Eq)]
+pub enum Step {
+    /// The table after a request, one name of a DEL, or one sheet of a job. Which record is written when is told by the tables before and after.
+    Whole(Vec<u8>),
+    /// A rewrite: the tables with its heading marked, with all its text besides, and after it. Old and new text may share a record, so
+    /// that the tables before and after do not tell.
+    Rewrite([Vec<u8>; 3]),
+}
+
+impl Step {
+    /// The table after it.
+    pub fn after(self) -> Vec<u8> {
+        match self {
+            Step::Whole(after) | Step::Rewrite([_, _, after]) => after,
+        }
+    }
+}
+
+/// Byte 0 of an entry.
+const ENTRY: u8 = 2;
 
 /// A request of a user: its line and its text.
 #[derive(Debug, Clone, Copy)]
@@ -9,30 +32,35 @@ pub struct Request<'a> {
     pub user: u32,
     /// The request line.
     pub line: &'a [u8],
-    /// The text, for a WRS.
+    /// The text, for a WRS or WRS*.
     pub text: &'a [u8],
 }
 
 impl Request<'_> {
     /// The answer with a stop number, and the table then.
-    fn stopped(&self, table: &[u8], reply: &mut [u8], stop: u32) -> (filebox::Answer, Vec<u8>) {
+    fn stopped(&self, table: &[u8], reply: &mut [u8], stop: u32) -> (Answer, Vec<u8>) {
         let mut table = table.to_vec();
         let Request { user, line, text } = *self;
         let answer = filebox::request(&mut table, line, text, reply, user, stop);
         (answer, table)
     }
 
-    /// The answer on this table, and the table after each name that was done; the last is the table after the request.
-    pub fn steps(&self, table: &[u8], reply: &mut [u8]) -> (filebox::Answer, Vec<Vec<u8>>) {
+    /// The answer on this table, and a step for each name that was done; after the last is the table after the request.
+    pub fn steps(&self, table: &[u8], reply: &mut [u8]) -> (Answer, Vec<Step>) {
         let (answer, after) = self.stopped(table, reply, NO_STOP);
+        if is_rewrite(answer, table, &after) {
+            let at = |stop| self.stopped(table, &mut [], stop).1;
+            let tables = [at(1), at(answer.stores - 1), after];
+            return (answer, vec![Step::Rewrite(tables)]);
+        }
         let mut steps = Vec::new();
         let mut least = 0;
         for names in 1..answer.names {
             let (stop, between) = self.least_stop(table, names, least..answer.stores);
             least = stop;
-            steps.push(between);
+            steps.push(Step::Whole(between));
         }
-        steps.push(after);
+        steps.push(Step::Whole(after));
         (answer, steps)
     }
 
@@ -51,6 +79,17 @@ impl Request<'_> {
     }
 }
 
+/// Is this what a rewrite leaves? It was granted with more than one store and changed something, and no entry: every other request of more than
+/// one store stores an entry that is new, names another file, or is cleared.
+fn is_rewrite(answer: Answer, before: &[u8], after: &[u8]) -> bool {
+    let pairs = before.chunks(RECORD_BYTES).zip(after.chunks(RECORD_BYTES));
+    let mut changed = pairs.filter(|(old, new)| old != new).peekable();
+    let several = answer.number == Number::Done && answer.stores > 1;
+    several
+        && changed.peek().is_some()
+        && changed.all(|(old, new)| ![old[0], new[0]].contains(&ENTRY))
+}
+
 /// A job of a user: the sheets that are filed in the directory of a chain.
 #[derive(Debug, Clone, Copy)]
 pub struct Job<'a> {
@@ -66,8 +105,8 @@ pub struct Job<'a> {
 pub type Lit = Result<filebox::Light, NotGreen>;
 
 impl Job<'_> {
-    /// The light on this table, and the table after each sheet that was filed; the last is the table after the job.
-    pub fn steps(&self, table: &[u8]) -> (Lit, Vec<Vec<u8>>) {
+    /// The light on this table, and a step for each sheet that was filed; after the last is the table after the job.
+    pub fn steps(&self, table: &[u8]) -> (Lit, Vec<Step>) {
         let mut after = Table::of(table.to_vec());
         let lit = after.light(self.user, self.chain, self.sheets);
         let mut between = Table::of(table.to_vec());
@@ -75,9 +114,9 @@ impl Job<'_> {
         for sheet in self.sheets.iter().take(filed(&lit, self.sheets.len())) {
             // its light is part of the job's; what it leaves is the table with this sheet filed
             let _ = between.light(self.user, self.chain, &[*sheet]);
-            steps.push(between.clone().into_bytes());
+            steps.push(Step::Whole(between.clone().into_bytes()));
         }
-        steps.push(after.into_bytes());
+        steps.push(Step::Whole(after.into_bytes()));
         (lit, steps)
     }
 }

@@ -35,6 +35,68 @@ fn ask_does_one_request() {
 }
 
 #[test]
+fn ask_rewrites_a_sheet() {
+    let folder = Folder::new();
+    let requests: [(&str, &[u8]); 3] = [
+        ("CRD .R", b""),
+        ("WRS M .R:A", b"5.0 V"),
+        ("DUP .R:A .R:B", b""),
+    ];
+    let path = folder.file("line.table", &table(16, &requests));
+    let sheet = folder.file("limits", b"4.9 V");
+    let ran = run(&["ask", &path, "1", "WRS* M .R:A", &sheet]);
+    assert_eq!((ran.status, ran.out().as_str()), (0, "0 0 0 1 0 0 4\n"));
+    assert_eq!(
+        run(&["ask", &path, "1", "RDS .R:B"]).out(),
+        "0 0 0 1 0 5 0\n4.9 V"
+    );
+    let refused = run(&["ask", &path, "1", "WRS* M .R", &sheet]);
+    assert_eq!(
+        (refused.status, refused.out().as_str()),
+        (1, "15 2 1 0 0 0 0\n")
+    );
+    assert_eq!(
+        refused.err,
+        "15: RDS, CPY, WRS*: not simple; LST: no directory (argument 2, link 1)\n"
+    );
+}
+
+#[test]
+fn a_rewrite_that_was_cut_is_mended_and_shown_as_marked() {
+    let folder = Folder::new();
+    let requests: [(&str, &[u8]); 3] = [
+        ("CRD .R", b""),
+        ("WRS M.P .R:A", &[b'x'; 30]),
+        ("WRS M .R:B", b"4.9 V"),
+    ];
+    let mut cut = table(12, &requests);
+    let answer = filebox::request(&mut cut, b"WRS* M .R:A", b"y", &mut [], 1, 2);
+    assert_eq!(answer.stores, 2);
+    let path = folder.file("cut", &cut);
+    let picture = "\
+user 1
+  .R                             DM.U0 directory
+    A                            FM.P0 marked: a rewrite was cut
+    B                            FM.U0 bytes 5
+
+   0 DeF.xeFte...
+
+. free 4, D directories 1, F files 2, e entries 3, t text 1, x mending would clear 1
+";
+    assert_eq!(
+        run(&["show", &path]).out(),
+        format!("{path}: 12 records\n\n{picture}")
+    );
+    let ran = run(&["ask", &path, "1", "RDS .R:A"]);
+    assert!(ran.err.contains("mended: 1 record"), "{ran:?}");
+    assert_eq!((ran.status, ran.out().as_str()), (1, "23 1 2 0 0 0 0\n"));
+    let sheet = folder.file("limits", b"5.0 V");
+    let repaired = run(&["ask", &path, "1", "WRS* M .R:A", &sheet]);
+    assert_eq!(repaired.out(), "0 0 0 1 0 0 3\n");
+    assert!(run(&["show", &path]).out().contains("FM.P0 bytes 5\n"));
+}
+
+#[test]
 fn ask_takes_a_text_that_is_too_long_to_the_box() {
     let folder = Folder::new();
     let path = folder.file("line.table", &table(16, &[]));
@@ -226,6 +288,7 @@ fn help_says_every_command_and_its_examples_work() {
         "--fixture",
         "DPR",
         "LST* name digit",
+        "WRS* M name",
         "Status",
     ] {
         assert!(help.out().contains(word), "{word}");

@@ -107,6 +107,86 @@ fn three_phases_a_flush_after_each_and_none_for_an_empty_one() {
 }
 
 #[test]
+fn a_rewrite_marks_its_heading_then_writes_all_text_then_takes_the_mark_off() {
+    let done = |calls: &str| (Number::Done, calls.to_string());
+    let three = done("2 | 3 4 | 2 |");
+    // two blocks, one, none: what the old text leaves is cleared with the new text
+    assert_eq!(calls("WRS* M .R:A", &[b'y'; 25]), three);
+    assert_eq!(calls("WRS* M .R:A", b"y"), three);
+    assert_eq!(calls("WRS* M .R:A", b""), three);
+    assert_eq!(calls("WRS* M .R:A", &[b'y'; 60]), done("2 | 3 4 6 | 2 |"));
+    // a block that is in its place already is not written, and the same text not at all
+    let other = [&[b'x'; 24][..], b"y"].concat();
+    assert_eq!(calls("WRS* M .R:A", &other), done("2 | 4 | 2 |"));
+    assert_eq!(calls("WRS* M .R:A", &[b'x'; 30]), done(""));
+    for (line, number) in [
+        ("WRS* M .R", Number::WrongType),
+        ("WRS* L .R:A", Number::DeclarationUnfit),
+        ("WRS* M .R:B", Number::NameNotThere),
+    ] {
+        assert_eq!(calls(line, b"y"), (number, String::new()), "{line}");
+    }
+}
+
+/// A table of 12 records in which `.R:A`, of 30 bytes in 2 to 4, was left marked and empty by a cut; `.R:B` is another entry of it.
+fn marked() -> Vec<u8> {
+    let requests: [(&str, &[u8]); 3] = [
+        ("CRD .R", b""),
+        ("WRS M .R:A", &[b'x'; 30]),
+        ("DUP .R:A .R:B", b""),
+    ];
+    let mut table = table(12, &requests);
+    let cut = filebox::request(&mut table, b"WRS* M .R:A", b"y", &mut [], 1, 3);
+    assert_eq!((cut.number, cut.stores), (Number::Stopped, 3));
+    table
+}
+
+#[test]
+fn a_marked_file_is_repaired_in_two_phases_and_is_otherwise_a_file_as_any() {
+    let asked = |line: &str, text: &[u8]| {
+        let (mut kept, disk) = kept(&marked());
+        let answer = ask(&mut kept, line, text).unwrap();
+        assert_eq!(&disk.bytes.borrow()[..], kept.table());
+        let calls = disk.calls.borrow().join(" ");
+        (answer.number, calls)
+    };
+    let done = |calls: &str| (Number::Done, calls.to_string());
+    assert_eq!(asked("WRS* M .R:B", &[b'y'; 30]), done("3 4 | 2 |"));
+    assert_eq!(asked("WRS* M .R:A", b""), done("2 |"));
+    // a marked file somewhere makes no other request a rewrite
+    assert_eq!(asked("WRS M .R:C", b"y"), done("3 4 | 7 |"));
+    assert_eq!(asked("DPR .R:A .4", b""), done("2 |"));
+    assert_eq!(asked("DUP .R:A .R:C", b""), done("3 |"));
+    assert_eq!(asked("DEL .R:A .R:B", b""), done("5 | 6 | 2 |"));
+    assert_eq!(asked("RDS .R:A", b""), (Number::Marked, String::new()));
+}
+
+#[test]
+fn after_a_disk_error_in_a_rewrite_it_is_as_before_or_marked_or_rewritten() {
+    let before = table(12, &[("CRD .R", b""), ("WRS M .R:A", &[b'x'; 30])]);
+    // the mark, a flush, two records of text, a flush, the heading, a flush; what a call before wrote is in the machine's memory
+    for fails in 0..7 {
+        let (mut kept, disk) = kept(&before);
+        *disk.fails.borrow_mut() = Some(fails);
+        let Err(Wrong::Disk(_)) = ask(&mut kept, "WRS* M .R:A", &[b'y'; 25]) else {
+            panic!("answered, though call {fails} failed");
+        };
+        let answer = ask(&mut kept, "RDS .R:A", b"").unwrap();
+        let expected = match fails {
+            0 => (Number::Done, 30),
+            1..=5 => (Number::Marked, 0),
+            _ => (Number::Done, 25),
+        };
+        assert_eq!((answer.number, answer.bytes), expected, "call {fails}");
+        // and the next rewrite is whole
+        let again = ask(&mut kept, "WRS* M .R:A", &[b'z'; 30]).unwrap();
+        assert_eq!(again.number, Number::Done);
+        assert_eq!(ask(&mut kept, "RDS .R:A", b"").unwrap().bytes, 30);
+        assert_eq!(&disk.bytes.borrow()[..], kept.table());
+    }
+}
+
+#[test]
 fn a_del_goes_name_by_name() {
     let requests: [(&str, &[u8]); 4] = [
         ("CRD .R", b""),

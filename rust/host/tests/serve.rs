@@ -24,6 +24,16 @@ fn it_makes_the_file_and_answers_as_the_program_does() {
 }
 
 #[test]
+fn a_rewrite_takes_the_next_line_as_its_text() {
+    let folder = Folder::new();
+    let path = folder.at("line.table");
+    let script = b"CRD .R\nWRS M .R:LIMITS\n5.0 V\nDUP .R:LIMITS .R:BOARD7\nWRS* M .R:LIMITS\n4.9 V\nRDS .R:BOARD7\nWRS* L .R:LIMITS\nLST .\n";
+    let answers = "0 0 0 1 0 0 2\n0 0 0 1 0 0 3\n0 0 0 1 0 0 1\n0 0 0 1 0 0 4\n0 0 0 1 0 5 0\n4.9 V9 1 0 0 0 0 0\n";
+    let ran = run_with(&["serve", &path], script);
+    assert_eq!((ran.status, ran.out().as_str()), (0, answers), "{ran:?}");
+}
+
+#[test]
 fn it_keeps_the_table_and_says_that_nothing_is_to_be_mended() {
     let folder = Folder::new();
     let path = folder.at("line.table");

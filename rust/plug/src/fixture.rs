@@ -10,8 +10,8 @@ use std::time::Duration;
 
 use random::Random;
 
-use crate::seen::{equal, stations, Checked};
-use crate::sent::{requests, Sent};
+use crate::seen::{emptied, equal, stations, Checked};
+use crate::sent::{requests, About, Sent};
 use crate::wire::{received, ANSWER_BYTES};
 
 const RECORDS: usize = 256;
@@ -35,6 +35,8 @@ pub struct Counts {
     pub answered: u64,
     /// Kills after which the file held some but not all stores of a request.
     pub half_stored: u64,
+    /// Of these, in a rewrite, mended to the file marked and empty.
+    pub half_rewritten: u64,
     /// Kills after which the file held some but not all stores of the host's mending.
     pub half_mended: u64,
 }
@@ -70,7 +72,7 @@ pub fn pull(program: &Path, kills: u64, seed: u64) -> Result<Counts, String> {
     };
     for kill in 0..kills {
         if kill % KILLS == 0 {
-            fixture.table = vec![0; RECORDS * 32];
+            fixture.table = About::Rewrites.begun(RECORDS);
             let begun = fs::write(&fixture.file.0, &fixture.table);
             begun.map_err(|error| format!("the file: {error}"))?;
         }
@@ -85,7 +87,11 @@ impl Fixture<'_> {
     /// One host: started, asked, killed; then the file.
     fn kill_once(&mut self) -> Checked {
         let left = self.left()?;
-        let sent = requests(&mut self.random, &self.table, SENT, LONGEST_TEXT);
+        let about = match self.random.once_in(4) {
+            true => About::Rewrites,
+            false => About::Anything,
+        };
+        let sent = requests(&mut self.random, &self.table, about, SENT, LONGEST_TEXT);
         let answers = self
             .run(&sent)
             .map_err(|error| format!("the host: {error}"))?;
@@ -180,6 +186,9 @@ impl Fixture<'_> {
         }
         let half = stations.iter().all(|station| station != file);
         self.counts.half_stored += u64::from(half);
+        let empty = emptied(|stop| request.stopped(stop));
+        let marked = empty.is_some_and(|(_, empty)| empty == mended);
+        self.counts.half_rewritten += u64::from(marked);
         Ok(())
     }
 }

@@ -20,3 +20,4 @@ mod sent;
 mod wire;
 
 pub use fixture::{pull, Counts};
+pub use sent::About;

@@ -1,15 +1,20 @@
 //! `plug [KILLS [SEED]]`: start a host, kill it in the middle of its stores, look at its file, and so on. `plug host FILE`
 //! is that host.
 //!
-//! `plug reorder [REQUESTS [SEED]]`: the writing of `rust/host` over a disk that lets any of its writes land.
+//! `plug reorder [REQUESTS [SEED]]`: the writing of `rust/host` over a disk that lets any of its writes land. `plug rewrites [REQUESTS
+//! [SEED]]`: the same, mostly WRS*.
 //! `plug crowd [REQUESTS [SEED]]`: `filebox-host` under fourteen clients with so many requests each. `plug killed [KILLS
 //! [SEED]]`: the same, killed. `plug serve ..` is `filebox-host serve ..`.
 
 use std::path::Path;
 use std::process::ExitCode;
 
+use plug::reorder::reorder;
+use plug::About;
+
 fn usage() -> String {
-    "plug [KILLS [SEED]], plug reorder|crowd|killed [COUNT [SEED]], or plug host FILE".to_string()
+    "plug [KILLS [SEED]], plug reorder|rewrites|crowd|killed [COUNT [SEED]], or plug host FILE"
+        .to_string()
 }
 
 /// A count and a seed, if they are given.
@@ -32,11 +37,12 @@ fn pull(program: &Path, words: &[&str]) -> Result<(), String> {
     }
 }
 
-/// The host of `rust/host`, tried in one of three ways.
+/// The host of `rust/host`, tried in one of four ways.
 fn hosted(program: &Path, way: &str, words: &[&str]) -> Result<(), String> {
     let (count, seed) = numbers(words, 1_000)?;
     let seen = match way {
-        "reorder" => format!("{:?}", plug::reorder::reorder(count, seed, None)?),
+        "reorder" => format!("{:?}", reorder(About::Anything, count, seed, None)?),
+        "rewrites" => format!("{:?}", reorder(About::Rewrites, count, seed, None)?),
         "crowd" => format!("{:?}", plug::crowd::whole(program, count as usize, seed)?),
         _ => format!("{:?}", plug::crowd::killed(program, count, seed)?),
     };
@@ -48,7 +54,9 @@ fn tried(words: &[&str]) -> Result<(), String> {
     let program = std::env::current_exe().map_err(|error| error.to_string())?;
     match *words {
         ["host", file] => plug::host::serve(Path::new(file)).map_err(|error| error.to_string()),
-        [way @ ("reorder" | "crowd" | "killed"), ref rest @ ..] => hosted(&program, way, rest),
+        [way @ ("reorder" | "rewrites" | "crowd" | "killed"), ref rest @ ..] => {
+            hosted(&program, way, rest)
+        }
         _ => pull(&program, words),
     }
 }

@@ -1,12 +1,13 @@
 //! The host's own writing over a disk that keeps writes back: pulled anywhere, with any part of what was kept back on the
-//! disk, it is mended to the table before a request or after it; the fixture's answer says which, if it came.
+//! disk, it is mended to the table before a request or after it, or, of a rewrite, after it with that one file marked and empty; the
+//! fixture's answer says which, if it came.
 
 use host::{Kept, Request};
 use random::Random;
 
 use crate::machine::{Fault, Machine};
-use crate::seen::{equal, tables, Checked};
-use crate::sent::{requests, Sent};
+use crate::seen::{emptied, equal, is_marked, tables, Checked};
+use crate::sent::{requests, About, Sent};
 
 const RECORDS: usize = 40;
 /// Requests on one table, before a new one is begun.
@@ -26,6 +27,8 @@ pub struct Tried {
     pub halves: u64,
     /// Pulls in the mending that came after a pull or a kill.
     pub mends: u64,
+    /// Pulls that were mended to a rewrite's file marked and empty.
+    pub marked: u64,
     /// Disk errors that the host went on after.
     pub errors: u64,
     /// Flushes, of requests that changed something.
@@ -38,24 +41,29 @@ struct Story {
     random: Random,
     table: Vec<u8>,
     tried: Tried,
-    /// The flush of each request that is left out, from 0: a plant, which must be found.
+    /// Of the request that is under way, if it is a rewrite: its file, and the table with that marked and empty.
+    empty: Option<(usize, Vec<u8>)>,
+    /// The flush of each request, or of each rewrite, that is left out, from 0: a plant, which must be found.
     planted: Option<u64>,
+    about: About,
 }
 
 /// So many requests, each pulled at every call of the disk, and a story of pulls, kills and disk errors beside. A plant leaves
-/// out a flush of each request, from 0.
-pub fn reorder(count: u64, seed: u64, planted: Option<u64>) -> Result<Tried, String> {
+/// out a flush of each request, from 0; where rewrites are asked, of these alone.
+pub fn reorder(about: About, count: u64, seed: u64, planted: Option<u64>) -> Result<Tried, String> {
     let mut story = Story {
         random: Random::new(seed),
-        table: vec![0; RECORDS * 32],
+        table: Vec::new(),
         tried: Tried::default(),
+        empty: None,
         planted,
+        about,
     };
     for at in 0..count {
         if at % STORY as u64 == 0 {
-            story.table = vec![0; RECORDS * 32];
+            story.table = about.begun(RECORDS);
         }
-        let sent = requests(&mut story.random, &story.table, 1, LONGEST_TEXT).remove(0);
+        let sent = requests(&mut story.random, &story.table, about, 1, LONGEST_TEXT).remove(0);
         let line = String::from_utf8_lossy(&sent.asked.line).into_owned();
         story
             .request(&sent)
@@ -83,6 +91,7 @@ impl Story {
     /// One request, pulled everywhere; then done in some way, which gives the next table.
     fn request(&mut self, sent: &Sent) -> Checked {
         let stations = tables(|stop| sent.stopped(stop));
+        self.empty = emptied(|stop| sent.stopped(stop));
         let machine = Machine::of(&self.table);
         let mut host = opened(&machine)?;
         let (calls, flushes) = (machine.calls(), machine.flushes());
@@ -107,7 +116,8 @@ impl Story {
     fn pull(&mut self, sent: &Sent, stations: &[Vec<u8>], call: u64) -> Checked {
         let machine = Machine::of(&self.table);
         let mut host = opened(&machine)?;
-        if let Some(flush) = self.planted {
+        let spared = self.about == About::Rewrites && self.empty.is_none();
+        if let Some(flush) = self.planted.filter(|_| !spared) {
             machine.skip_flush(flush);
         }
         machine.fail_after(call, Fault::Gone, 0);
@@ -138,7 +148,7 @@ impl Story {
     }
 
     /// What a pull left is mended to one of these tables, also where its mending is pulled in turn. Once the one entry is there,
-    /// that is the table after.
+    /// that is the table after. Of a rewrite it is the third exactly where the heading is marked; else nothing is mended.
     fn mended(&mut self, left: &[u8], stations: &[Vec<u8>]) -> Result<Vec<u8>, String> {
         self.tried.pulls += 1;
         self.tried.halves += u64::from(stations.iter().all(|station| station != left));
@@ -149,14 +159,19 @@ impl Story {
         if !stations.contains(&table) {
             return Err("mended to neither the table before nor after".to_string());
         }
-        if let [before, after] = stations {
-            let whole = if entry_there(before, after, left) {
-                after
-            } else {
-                before
-            };
-            equal("the mended table", &table, whole)?;
-        }
+        let whole = match (&self.empty, stations) {
+            (Some((file, empty)), _) if is_marked(left, *file) => &empty[..],
+            (Some(_), _) => left,
+            (None, [before, after]) if entry_there(before, after, left) => after,
+            (None, [before, _]) => before,
+            (None, _) => &table[..],
+        };
+        equal("the mended table", &table[..], whole)?;
+        let marked = self
+            .empty
+            .as_ref()
+            .is_some_and(|(_, empty)| *empty == table);
+        self.tried.marked += u64::from(marked);
         let call = self.random.below(machine.calls().max(1) as usize) as u64;
         self.mended_in_turn(left, call, &table)
     }

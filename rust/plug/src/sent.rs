@@ -1,8 +1,44 @@
 //! Requests that are sent to the host, and what the second program says that each must come to.
 
-use random::{requests, Random};
+use random::{requests, rewrites, Random};
 
 use crate::wire::Asked;
+
+/// What is asked.
+#[derive(Debug, Clone, Copy, PartialEq, Eq)]
+pub enum About {
+    /// Anything, mostly granted.
+    Anything,
+    /// Mostly a rewrite, or something about a sheet that one may have left marked.
+    Rewrites,
+}
+
+impl About {
+    /// The table to begin with, of so many records: free, or with a few sheets.
+    pub fn begun(self, records: usize) -> Vec<u8> {
+        let mut table = vec![0; records * filebox::RECORD_BYTES];
+        let lines = [
+            "CRD .R",
+            "WRS M .R:A",
+            "WRS M .R:B",
+            "WRS M .AB",
+            "WRS L .R:C",
+        ];
+        for line in lines.iter().filter(|_| self == About::Rewrites) {
+            let (line, text) = (line.as_bytes(), [b's'; 60]);
+            let answer = beside::request(&mut table, line, &text, &mut [], 1, filebox::NO_STOP);
+            assert_eq!(answer.number, 0);
+        }
+        table
+    }
+
+    fn line(self, random: &mut Random, table: &[u8], user: u32) -> Vec<u8> {
+        match self {
+            About::Rewrites if !random.once_in(4) => rewrites::about(random, table, user),
+            _ => requests::granted(random, table, user).into_bytes(),
+        }
+    }
+}
 
 /// A request that was sent, and what it must come to.
 pub struct Sent {
@@ -39,16 +75,25 @@ impl Sent {
     }
 }
 
-/// So many requests of two users, each for the table after those before, with texts of fewer bytes than this.
-pub fn requests(random: &mut Random, table: &[u8], count: usize, longest: usize) -> Vec<Sent> {
+/// So many requests of two users, rewrites of one, each for the table after those before, with texts of fewer bytes than this.
+pub fn requests(
+    random: &mut Random,
+    table: &[u8],
+    about: About,
+    count: usize,
+    longest: usize,
+) -> Vec<Sent> {
     let mut table = table.to_vec();
     let mut sent = Vec::new();
     for _ in 0..count {
-        let user = random.pick(&[1, 1, 2]);
+        let user = match about {
+            About::Anything => random.pick(&[1, 1, 2]),
+            About::Rewrites => 1,
+        };
         let length = random.below(longest);
         let asked = Asked {
             user,
-            line: requests::granted(random, &table, user).into_bytes(),
+            line: about.line(random, &table, user),
             text: random.bytes(length),
         };
         let request = Sent::new(asked, table);

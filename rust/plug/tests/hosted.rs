@@ -2,8 +2,8 @@
 
 use std::path::Path;
 
-use plug::crowd;
 use plug::reorder::reorder;
+use plug::{crowd, About};
 
 fn program() -> &'static Path {
     Path::new(env!("CARGO_BIN_EXE_plug"))
@@ -11,7 +11,7 @@ fn program() -> &'static Path {
 
 #[test]
 fn any_part_of_what_was_not_flushed_is_mended_to_the_table_before_or_after() {
-    let tried = reorder(4_000, 1971, None).expect("every pull");
+    let tried = reorder(About::Anything, 4_000, 1971, None).expect("every pull");
     println!("{tried:?}");
     assert!(
         tried.halves > 10_000 && tried.mends > 10_000 && tried.errors > 20,
@@ -21,15 +21,30 @@ fn any_part_of_what_was_not_flushed_is_mended_to_the_table_before_or_after() {
 }
 
 #[test]
+fn any_part_of_a_rewrite_is_mended_to_the_table_before_or_after_or_marked_and_empty() {
+    let tried = reorder(About::Rewrites, 2_000, 1971, None).expect("every pull");
+    println!("{tried:?}");
+    assert!(
+        tried.marked > 10_000 && tried.halves > 10_000 && tried.errors > 20,
+        "{tried:?}"
+    );
+    assert!(tried.flushes <= 3 * tried.changing, "{tried:?}");
+}
+
+/// A flush of each request left out is found, and where it is a rewrite's.
+#[test]
 fn one_flush_fewer_is_found() {
     let wrong = [
         "mending does not make it sound",
         "the mended table is not what it should be",
+        "mended to neither the table before nor after",
     ];
-    for flush in [0, 1] {
-        let found = reorder(2_000, 1971, Some(flush)).expect_err("found");
-        println!("without flush {flush}: {found}");
-        assert!(wrong.iter().any(|wrong| found.contains(wrong)), "{found}");
+    for about in [About::Anything, About::Rewrites] {
+        for flush in [0, 1] {
+            let found = reorder(about, 2_000, 1971, Some(flush)).expect_err("found");
+            println!("{about:?}, without flush {flush}: {found}");
+            assert!(wrong.iter().any(|wrong| found.contains(wrong)), "{found}");
+        }
     }
 }
 

@@ -10,4 +10,5 @@ fn a_killed_host_is_mended_to_the_table_before_or_after() {
     assert_eq!(counts.kills, 2_000);
     assert!(counts.answered > 1_000, "{counts:?}");
     assert!(counts.half_stored > 0, "{counts:?}");
+    assert!(counts.half_rewritten > 0, "{counts:?}");
 }

@@ -54,6 +54,33 @@ pub fn old(random: &mut Random, table: &[u8], user: u32) -> String {
     }
 }
 
+/// Does the chain come to a simple file?
+fn is_sheet(table: &[u8], user: u32, chain: &str) -> bool {
+    let mut heading = BASE_FILE;
+    for link in chain.split(':') {
+        let there = entries(table, heading, user);
+        match there.into_iter().find(|entry| name(entry) == link) {
+            Some(entry) => heading = two(entry, 4),
+            None => return false,
+        }
+    }
+    table
+        .get(heading * 32..)
+        .is_some_and(|at| at[..2] == [1, 1])
+}
+
+/// The same, of a simple file, where some tries come to one.
+pub fn sheet(random: &mut Random, table: &[u8], user: u32) -> String {
+    let mut chain = old(random, table, user);
+    for _ in 0..6 {
+        if is_sheet(table, user, &chain) {
+            break;
+        }
+        chain = old(random, table, user);
+    }
+    chain
+}
+
 /// A long chain, of up to twenty names, by entries that are there; mostly with one name in it, anywhere, that may not be there,
 /// or that no entry may have.
 pub fn long(random: &mut Random, table: &[u8], user: u32) -> String {

@@ -5,6 +5,7 @@ pub mod damage;
 pub mod lines;
 pub mod parts;
 pub mod requests;
+pub mod rewrites;
 pub mod shelves;
 pub mod trees;
 
@@ -92,6 +93,48 @@ mod tests {
             .iter()
             .all(|word| shallow.contains(word)));
         assert!(!shallow.contains(&"4"));
+    }
+
+    #[test]
+    fn every_kind_of_rewrite_comes() {
+        // a directory, which is user 1's `.R`, and an entry A in it that names an empty sheet
+        let mut table = vec![0; 128];
+        table[0] = 1;
+        table[32..44].copy_from_slice(&[2, 0, 255, 255, 0, 0, 1, 0, 0, 2, b'.', b'R']);
+        table[64..75].copy_from_slice(&[2, 0, 0, 0, 3, 0, 0, 0, 0, 1, b'A']);
+        table[96..101].copy_from_slice(&[1, 1, 0, 0, 1]);
+        let mut random = Random::new(1);
+        let lines: Vec<Vec<u8>> = (0..3_000)
+            .map(|_| rewrites::line(&mut random, &table, 1))
+            .collect();
+        for line in [
+            "WRS* M .R:A",
+            "WRS* M. .R:A",
+            "WRS* M .R",
+            "WRS* L .R:A",
+            "WRS* M -",
+            "WRS* M .1",
+            "WRS* M",
+        ] {
+            assert!(lines.iter().any(|met| met == line.as_bytes()), "{line}");
+        }
+    }
+
+    #[test]
+    fn a_heading_is_marked_and_nothing_else_is() {
+        let mut random = Random::new(1);
+        let mut met = [0; 3];
+        for _ in 0..100 {
+            let mut record = [1, 1, 0, 0, 1, 0, 0, 0, 0, 0, 5, 0];
+            rewrites::mark(&mut random, &mut record);
+            met[usize::from(record[5])] += 1;
+        }
+        assert!(met.iter().all(|times| *times > 0));
+        for kind in [0, 2, 3] {
+            let mut record = [kind; 12];
+            rewrites::mark(&mut random, &mut record);
+            assert_eq!(record, [kind; 12]);
+        }
     }
 
     #[test]

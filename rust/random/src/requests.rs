@@ -3,6 +3,7 @@
 use crate::chains::{self, base, link, new, old};
 use crate::lines;
 use crate::parts::part;
+use crate::rewrites::medium;
 use crate::trees::depth;
 use crate::Random;
 
@@ -23,7 +24,7 @@ pub fn declaration(random: &mut Random, lifetime: &str) -> String {
 /// A well-formed line of one of the functions over chains of the table.
 pub fn granted(random: &mut Random, table: &[u8], user: u32) -> String {
     let (one, other) = (old(random, table, user), new(random, table, user));
-    match random.below(46) {
+    match random.below(50) {
         0..=5 => format!("CRD {other} {}", declaration(random, "")),
         6..=10 => {
             let lifetime = random.pick(&["M", "L"]);
@@ -47,6 +48,7 @@ pub fn granted(random: &mut Random, table: &[u8], user: u32) -> String {
         34..=38 => format!("RDS {one}{}", part(random)),
         39 | 40 => format!("LST {one}"),
         41 => "LST .".to_string(),
+        46..=49 => format!("WRS* {} {one}", medium(random)),
         42..=44 => format!("LST* {one} {}", depth(random)),
         _ => format!("LST* . {}", depth(random)),
     }
@@ -55,7 +57,7 @@ pub fn granted(random: &mut Random, table: &[u8], user: u32) -> String {
 /// A line of one of the functions with a long chain, which may be wrong at any link.
 pub fn long(random: &mut Random, table: &[u8], user: u32) -> Vec<u8> {
     let (chain, other) = (chains::long(random, table, user), old(random, table, user));
-    let line = match random.below(13) {
+    let line = match random.below(14) {
         0 => format!("CRD {chain}"),
         1 => format!("WRS M {chain}"),
         2 => format!("RDS {chain}"),
@@ -67,6 +69,7 @@ pub fn long(random: &mut Random, table: &[u8], user: u32) -> Vec<u8> {
         8 => format!("CHN {chain} {}", link(random)),
         9 => format!("DPR {chain} .4"),
         10 => format!("DEL {chain}"),
+        12 => format!("WRS* M {chain}"),
         11 => format!("LST* {chain} {}", depth(random)),
         _ => format!("DEL {other} {chain}"),
     };
@@ -87,7 +90,7 @@ fn renamed<'a>(random: &mut Random, chain: &'a str) -> &'a str {
 fn slipped(random: &mut Random, line: &mut Vec<u8>) {
     for _ in 0..=random.below(3) {
         let at = random.below(line.len() + 1);
-        let byte = random.pick(b" :.-@:  AR017MD_`a");
+        let byte = random.pick(b" :.-@:  AR017MD_`a*");
         match random.below(6) {
             0 if at < line.len() => drop(line.remove(at)),
             1 if at < line.len() => line.insert(at, line[at]),

@@ -22,7 +22,7 @@ fn misplaced(random: &mut Random, table: &[u8], user: u32, other: u32) -> String
         0 => format!(".{other:06}"),
         _ => format!(".{other:06}:{link}"),
     };
-    match random.below(14) {
+    match random.below(15) {
         0 => format!("CRD {name}"),
         1 => format!("WRS M {name}"),
         2 => format!("CPY {own} {name}"),
@@ -34,6 +34,7 @@ fn misplaced(random: &mut Random, table: &[u8], user: u32, other: u32) -> String
         9 => format!("DUP {own} .{other:06}"),
         10 => format!("DUP {own} {name}:{link}"),
         11 => format!("DUP {own} .{other:05}:{link}"),
+        13 => format!("WRS* M {name}"),
         12 => format!("RDS .{other:07}:{link}"),
         _ => format!("LST .{other:05}{}", random.pick(&["A", ".", "_"])),
     }

@@ -19,10 +19,11 @@ fn beside(table: &[u8]) -> u8 {
 /// chains are too long for.
 fn table(random: &mut Random, collided: &[u8]) -> Vec<u8> {
     let records = random.pick(&[5, 6, 9, 12, 40, 130, 400]);
-    let mut table = match random.below(13) {
+    let mut table = match random.below(16) {
         0..=3 => tables::long_files(records),
         4..=7 => tables::small_files(records),
         8..=11 => tables::directories(records),
+        12..=14 => tables::marked_files(records),
         _ => collided.to_vec(),
     };
     for _ in 0..random.below(4) {

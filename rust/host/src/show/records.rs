@@ -21,6 +21,7 @@ pub struct Heading {
     pub level: char,
     pub code: u8,
     pub lifetime: char,
+    pub marked: bool,
     pub length: u16,
 }
 
@@ -54,6 +55,7 @@ impl Record {
                 level: letter("UPAS", record[2]),
                 code: record[3],
                 lifetime: letter("?ML", record[4]),
+                marked: record[5] == 1,
                 length: two(record, 10),
             }),
             2 => Record::Entry(Entry {

@@ -104,13 +104,14 @@ impl Trees {
     }
 }
 
-/// What an entry is: type, lifetime, level and code as LST shows them; the heading's own code; the length.
+/// What an entry is: type, lifetime, level and code as LST shows them; the heading's own code; the length, or that the file is marked.
 fn said(entry: &Entry, heading: Heading) -> String {
     let Heading {
         directory,
         level,
         code,
         lifetime,
+        marked,
         length,
     } = heading;
     let kind = if directory { 'D' } else { 'F' };
@@ -118,9 +119,10 @@ fn said(entry: &Entry, heading: Heading) -> String {
         0 => String::new(),
         code => format!(", code of the file {code}"),
     };
-    let long = match directory {
-        true => "directory".to_string(),
-        false => format!("bytes {length}"),
+    let long = match (directory, marked) {
+        (true, _) => "directory".to_string(),
+        (false, true) => "marked: a rewrite was cut".to_string(),
+        (false, false) => format!("bytes {length}"),
     };
     format!("{kind}{lifetime}.{level}{} {long}{own}", entry.code)
 }
