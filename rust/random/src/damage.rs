@@ -14,7 +14,7 @@ fn likely(random: &mut Random, table: &[u8]) -> u8 {
 }
 
 /// Change one of the first twenty bytes of a record, which hold all fields but a text's; or point a field at another
-/// record; or copy or clear a record; or mark every heading in some stretch of the table.
+/// record; or copy or clear a record; or mark the headings among three records.
 pub fn damage(random: &mut Random, table: &mut [u8]) {
     let records = table.len() / 32;
     if records == 0 {
