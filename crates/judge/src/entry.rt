@@ -9,7 +9,7 @@ use crate::read::three_of;
 use crate::read::two_of;
 use crate::twins::Walked;
 use crate::twins::chain_turn;
-use crate::zeros::are_zeros;
+use crate::zeros::are_twelve_zeros;
 use records::bytes::Room;
 use records::code::Code;
 use records::entry::Entry;
@@ -18,12 +18,12 @@ ghost use mathlib.Core.Path.{_≡_};
 ghost use mathlib.Core.Bool.{true, false};
 ghost use Prim.Native.Nat.{_+_, _<_, _≤_, _%_};
 ghost use lib.ListN.{length};
-ghost use Rattle.paper.specs.Record.{isKind, headingNamed, holderOf, userOf, nameLength};
+ghost use Rattle.paper.specs.Record.{isKind, directory, headingNamed, holderOf, userOf, nameLength};
 ghost use Rattle.paper.specs.Sound.{isBase, noneCrowded, sound};
 ghost use Rattle.paper.specs.Table.{rooms, rec};
 ghost use Rattle.judge_laws.specs.Mask.{without};
 ghost use Rattle.judge_laws.specs.Shapes.{baseRight, entryRight, Classed};
-ghost use Rattle.judge_laws.specs.Pass.{naming, Held, Numbered, Entries};
+ghost use Rattle.judge_laws.specs.Pass.{naming, Held, Found, Numbered, Entries};
 
 // Whether the entry i of a base file, its name n bytes, has a fit user and a legal base name.
 fn is_base_right(t: &[u8], i: usize, n: usize) -> bool
@@ -37,9 +37,30 @@ fn is_base_right(t: &[u8], i: usize, n: usize) -> bool
     is_legal_base(t, i, n)
 }
 
+// Whether record d is a directory's heading that stays: what holds an entry was found to be one.
+fn is_holder(t: &[u8], gone: &[u8; Room::MOST], held: &[u8; Room::MOST], d: usize) -> bool
+    requires { ⌜ (length (now t) % 32 ≡ 0) × (length (now t) ≤ 65536) × Found (now gone) (now t) (now held) ⌝ }
+    ensures { λ r. ⌜ r ≡ directory (rec (without (now (gone .entry)) (now (t .entry))) d) ⌝ }
+{
+    if t.len() / Room::SIZE <= d {
+        return false;
+    }
+    if held[d] != 0 {
+        return true;
+    }
+    is_directory(t, gone, d)
+}
+
 // Whether entry i is right.
-fn is_entry_right(t: &[u8], gone: &[u8; Room::MOST], class: &[u8; 256], i: usize) -> bool
-    requires { ⌜ (i < rooms (now t)) × (length (now t) % 32 ≡ 0) × (length (now t) ≤ 65536) × Classed (now class) ⌝ }
+fn is_entry_right(
+    t: &[u8],
+    gone: &[u8; Room::MOST],
+    class: &[u8; 256],
+    held: &[u8; Room::MOST],
+    i: usize,
+) -> bool
+    requires { ⌜ (i < rooms (now t)) × (length (now t) % 32 ≡ 0) × (length (now t) ≤ 65536) × Classed (now class)
+        × Found (now gone) (now t) (now held) ⌝ }
     ensures { λ r. ⌜ r ≡ entryRight (without (now (gone .entry)) (now (t .entry))) (rec (now (t .entry)) i) ⌝ }
 {
     if Code::ALL < raw_of(t, i, Entry::CODE) {
@@ -49,10 +70,7 @@ fn is_entry_right(t: &[u8], gone: &[u8; Room::MOST], class: &[u8; 256], i: usize
     if Entry::MOST_NAME < n {
         return false;
     }
-    if !are_zeros(t, i, Entry::REST, Entry::REST_SIZE) {
-        return false;
-    }
-    if !are_zeros(t, i, Entry::NAME + n, Entry::MOST_NAME - n) {
+    if !are_twelve_zeros(t, i, Entry::REST) {
         return false;
     }
     if !is_heading(t, gone, two_of(t, i, Entry::HEADING)) {
@@ -65,7 +83,7 @@ fn is_entry_right(t: &[u8], gone: &[u8; Room::MOST], class: &[u8; 256], i: usize
     if holder == Holder::BASE {
         return is_base_right(t, i, n);
     }
-    if !is_directory(t, gone, holder) {
+    if !is_holder(t, gone, held, holder) {
         return false;
     }
     three_of(t, i, Entry::USER) == 0
@@ -112,12 +130,12 @@ pub(crate) fn entry_turn(
     left: usize,
 ) -> Walked
     requires { ⌜ (i < rooms (now t)) × (length (now t) % 32 ≡ 0) × (length (now t) ≤ 65536) × (isKind 2 (rec (now t) i) ≡ true)
-        × Classed (now class) × Entries (now t) (now named) (now held) (now head) (now next) left i ⌝ }
+        × Classed (now class) × Entries (now t) (now named) (now held) (now head) (now next) left i × Found (now gone) (now t) (now held) ⌝ }
     ensures { λ r. ⌜ (r .right ≡ false → sound (without (now (gone .entry)) (now (t .entry))) ≡ false)
         × (r .right ≡ true → (entryRight (without (now (gone .entry)) (now (t .entry))) (rec (now (t .entry)) i) ≡ true)
         × Entries (now (t .entry)) (now (named .exit)) (now (held .exit)) (now (head .exit)) (now (next .exit)) (r .left) (i + 1)) ⌝ }
 {
-    if !is_entry_right(t, gone, class, i) {
+    if !is_entry_right(t, gone, class, held, i) {
         return Walked { right: false, left };
     }
     if !hold_turn(t, held, i) {

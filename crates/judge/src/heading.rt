@@ -1,6 +1,9 @@
 // A heading, by itself and as other records name it.
+use crate::read::byte_of;
 use crate::read::raw_of;
 use crate::read::two_of;
+use crate::read::wide;
+use crate::zeros::are_twenty_zeros;
 use crate::zeros::are_zeros;
 use records::block::blocks;
 use records::bytes::Bytes;
@@ -12,7 +15,7 @@ ghost use mathlib.Core.Bool.{_&&_};
 ghost use Prim.Native.Nat.{_<_, _≤_, _%_};
 ghost use lib.Dec.{eqb, leb};
 ghost use lib.ListN.{length};
-ghost use Rattle.paper.specs.Record.{isKind, lifetime, textLength, directory, simple};
+ghost use Rattle.paper.specs.Record.{isKind, headingType, lifetime, textLength, directory, simple};
 ghost use Rattle.paper.specs.Sound.{markRight};
 ghost use Rattle.paper.specs.Table.{rooms, rec};
 ghost use Rattle.judge_laws.specs.Mask.{without};
@@ -33,6 +36,15 @@ pub(crate) fn is_heading(t: &[u8], gone: &[u8; Room::MOST], h: usize) -> bool
     gone[h] == 0
 }
 
+// Whether record i is a heading of this type: both bytes at once.
+fn is_of_type(t: &[u8], i: usize, sought: u8) -> bool
+    requires { ⌜ i < rooms (now t) ⌝ }
+    ensures { λ r. ⌜ r ≡ (isKind 1 (rec (now (t .entry)) i) && eqb (headingType (rec (now (t .entry)) i)) sought) ⌝ }
+{
+    let found = byte_of(t, i, Room::KIND) + byte_of(t, i, Heading::TYPE) * 256;
+    found == wide(Heading::KIND) + wide(sought) * 256
+}
+
 // Whether record h is a directory's heading that stays.
 pub(crate) fn is_directory(t: &[u8], gone: &[u8; Room::MOST], h: usize) -> bool
     requires { ⌜ (length (now t) % 32 ≡ 0) × (length (now t) ≤ 65536) ⌝ }
@@ -41,10 +53,7 @@ pub(crate) fn is_directory(t: &[u8], gone: &[u8; Room::MOST], h: usize) -> bool
     if t.len() / Room::SIZE <= h {
         return false;
     }
-    if raw_of(t, h, Room::KIND) != Heading::KIND {
-        return false;
-    }
-    if raw_of(t, h, Heading::TYPE) != Heading::DIRECTORY {
+    if !is_of_type(t, h, Heading::DIRECTORY) {
         return false;
     }
     gone[h] == 0
@@ -55,10 +64,7 @@ pub(crate) fn is_simple(t: &[u8], gone: &[u8; Room::MOST], i: usize) -> bool
     requires { ⌜ (i < rooms (now t)) × (length (now t) % 32 ≡ 0) × (length (now t) ≤ 65536) ⌝ }
     ensures { λ r. ⌜ r ≡ simple (rec (without (now (gone .entry)) (now (t .entry))) i) ⌝ }
 {
-    if raw_of(t, i, Room::KIND) != Heading::KIND {
-        return false;
-    }
-    if raw_of(t, i, Heading::TYPE) != Heading::SIMPLE {
+    if !is_of_type(t, i, Heading::SIMPLE) {
         return false;
     }
     gone[i] == 0
@@ -142,19 +148,19 @@ fn is_heading_right(t: &[u8], i: usize) -> bool
     if !are_zeros(t, i, Heading::GAP, Heading::GAP_SIZE) {
         return false;
     }
-    if !are_zeros(t, i, Heading::REST, Heading::REST_SIZE) {
+    if !are_twenty_zeros(t, i, Heading::REST) {
         return false;
     }
     is_plain(t, i)
 }
 
-// Whether heading i is right and its length fit.
+// Whether the length of heading i is fit and the heading right.
 pub(crate) fn heading_turn(t: &[u8], i: usize) -> bool
     requires { ⌜ i < rooms (now t) ⌝ }
     ensures { λ r. ⌜ r ≡ (headingRight (rec (now (t .entry)) i) && leb (textLength (rec (now (t .entry)) i)) 24000) ⌝ }
 {
-    if !is_heading_right(t, i) {
+    if Heading::MOST_LENGTH < two_of(t, i, Heading::LENGTH) {
         return false;
     }
-    two_of(t, i, Heading::LENGTH) <= Heading::MOST_LENGTH
+    is_heading_right(t, i)
 }

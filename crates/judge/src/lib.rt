@@ -15,7 +15,7 @@ use crate::crowds::crowd_all;
 use crate::name::classes;
 use crate::named::mark_named;
 use crate::order::none_are_twins;
-use crate::pass::are_named;
+use crate::pass::count_named;
 use crate::pass::pass_all;
 use crate::text::lay_out;
 use records::bytes::Room;
@@ -35,8 +35,9 @@ fn is_sound(table: &[u8], gone: &[u8; Room::MOST]) -> bool
     ensures { λ r. ⌜ r ≡ sound (without (now (gone .entry)) (now (table .entry))) ⌝ }
 {
     let mut start = [0u16; Room::MOST];
-    let slots = lay_out(table, gone, &mut start);
-    if table.len() / Room::SIZE < slots {
+    let n = table.len() / Room::SIZE;
+    let asked = lay_out(table, gone, &mut start);
+    if n < asked.slots {
         return false;
     }
     let class = classes();
@@ -59,10 +60,10 @@ fn is_sound(table: &[u8], gone: &[u8; Room::MOST]) -> bool
     if !s.right {
         return false;
     }
-    if s.texts != slots {
+    if s.texts != asked.slots {
         return false;
     }
-    if !are_named(table, gone, &named) {
+    if count_named(&named, n) != asked.headings {
         return false;
     }
     if !none_are_twins(table, s.left, &mut next) {

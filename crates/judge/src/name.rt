@@ -4,43 +4,45 @@ use crate::read::raw_of;
 use crate::read::wide;
 use records::entry::Entry;
 ghost use mathlib.Core.Path.{_≡_};
-ghost use mathlib.Core.Bool.{true};
+ghost use mathlib.Core.Bool.{_&&_};
 ghost use Prim.Native.Nat.{_+_, _-_, _<_, _≤_};
 ghost use Rattle.paper.specs.Record.{nameLength, nameOf, zeros};
 ghost use Rattle.paper.specs.Name.{inBase, all, linkName, legalBase};
 ghost use Rattle.paper.specs.Table.{rooms, rec};
 ghost use Rattle.judge_laws.specs.Shapes.{area, Classed};
 
-// The class of each byte, "characters from 33..95 except @ and :": 1 for these.
+// The class of each byte: 1 for "characters from 33..95 except @ and :", 0 for zero, 2 for any other.
 pub(crate) fn classes() -> [u8; 256]
     ensures { λ r. ⌜ Classed r ⌝ }
 {
-    let mut class = [0u8; 256];
+    let mut class = [2u8; 256];
     let mut b: usize = 33;
     while b < 96 {
         class[b] = 1;
         b += 1;
     }
-    class[58] = 0;
-    class[64] = 0;
+    class[0] = 0;
+    class[58] = 2;
+    class[64] = 2;
     class
 }
 
-// Whether the padded name of entry i, n bytes, is a link name: of the ten bytes as many may be in a name as it has.
+// Whether the name of entry i, n bytes, is padded and a link name: the ten classes, each worth half of the next, are n ones.
 pub(crate) fn is_link(class: &[u8; 256], t: &[u8], i: usize, n: usize) -> bool
-    requires { ⌜ (i < rooms (now t)) × (n ≡ nameLength (rec (now t) i)) × (n ≤ 10) × (zeros (10 + n) (10 - n) (rec (now t) i) ≡ true) × Classed (now class) ⌝ }
-    ensures { λ r. ⌜ r ≡ linkName (nameOf (rec (now (t .entry)) i)) ⌝ }
+    requires { ⌜ (i < rooms (now t)) × (n ≡ nameLength (rec (now t) i)) × (n ≤ 10) × Classed (now class) ⌝ }
+    ensures { λ r. ⌜ r ≡ (zeros (10 + nameLength (rec (now (t .entry)) i)) (10 - nameLength (rec (now (t .entry)) i)) (rec (now (t .entry)) i)
+        && linkName (nameOf (rec (now (t .entry)) i))) ⌝ }
 {
     if n == 0 {
         return false;
     }
     let mut sum: usize = 0;
-    let mut j: usize = 0;
-    while j < Entry::MOST_NAME {
-        sum += wide(class[byte_of(t, i, Entry::NAME + j)]);
-        j += 1;
+    let mut j = Entry::MOST_NAME;
+    while 0 < j {
+        j -= 1;
+        sum = sum * 2 + wide(class[byte_of(t, i, Entry::NAME + j)]);
     }
-    sum == n
+    sum + 1 == 1usize << n
 }
 
 // "letters and points"

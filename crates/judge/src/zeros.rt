@@ -55,3 +55,28 @@ pub(crate) fn is_free(t: &[u8], i: usize) -> bool
     }
     eight_of(t, i, 24) == 0
 }
+
+// Whether the twelve bytes of record i from place j on are zero: two reads.
+pub(crate) fn are_twelve_zeros(t: &[u8], i: usize, j: usize) -> bool
+    requires { ⌜ (i < rooms (now t)) × (j ≤ 20) ⌝ }
+    ensures { λ r. ⌜ r ≡ zeros j 12 (rec (now (t .entry)) i) ⌝ }
+{
+    if eight_of(t, i, j) != 0 {
+        return false;
+    }
+    four_of(t, i, j + 8) == 0
+}
+
+// Whether the twenty bytes of record i from place j on are zero: three reads.
+pub(crate) fn are_twenty_zeros(t: &[u8], i: usize, j: usize) -> bool
+    requires { ⌜ (i < rooms (now t)) × (j ≤ 12) ⌝ }
+    ensures { λ r. ⌜ r ≡ zeros j 20 (rec (now (t .entry)) i) ⌝ }
+{
+    if eight_of(t, i, j) != 0 {
+        return false;
+    }
+    if eight_of(t, i, j + 8) != 0 {
+        return false;
+    }
+    four_of(t, i, j + 16) == 0
+}

@@ -3,22 +3,23 @@
 use mathlib.Core.Bool.{Bool, true, false, _&&_, _||_, cond, true≢false}
 use mathlib.Core.List.{List, [], _∷_}
 use mathlib.Core.Logic.{_≢_, by-cases}
-use mathlib.Core.Path.{_≡_, refl, sym, _∙_}
-use Prim.Native.Nat.{ℕ, zero, suc, _+_, _-_, _≤_, _<_}
+use mathlib.Core.Path.{_≡_, refl, sym, ap, _∙_}
+use Prim.Native.Nat.{ℕ, zero, suc, _+_, _-_, _*_, _^_, _≤_, _<_}
 use native.Mathlib.Omega.{arith}
 use native.Mathlib.Decide.{ℕ-discrete, decLt}
+use native.Mathlib.Nat.{pow-suc}
+use native.Mathlib.Numerals.{add-one}
 use lib.ListN.{length, getD, set, length-set, length-take, length-drop}
 use lib.Seq.{getD-take, getD-drop, getD-set-same, getD-set-other}
 use lib.Dec.{eqb, leb, ltb}
+use lib.Pow.{pow-mono}
 use borrow.Author.Tests.{eqb-true, eq-eqb, ne-eqb, leb-true, le-leb, lt-leb, ltb-true, lt-ltb, le-ltb}
-use Rattle.judge_laws.specs.Shapes.{area, Classed, inNames}
+use Rattle.judge_laws.specs.Shapes.{area, classOf, Classed, nameBits}
 use Rattle.paper.specs.Name.{same, all, inName, linkName, pointed, inBase, legalBase}
 use Rattle.paper.specs.Record.{byte, nameLength, nameOf, zeros}
-use Rattle.paper.specs.Scan.{countBelow}
-use Rattle.laws.proofs.Counts.{count-more, count-most}
-use Rattle.laws.proofs.Scans.{all-true}
-use Rattle.laws.proofs.Tests.{and-left, and-right, and-both, and-no-right, false-by, joined, joined-first, joined-part, same-truth}
-use Rattle.judge_laws.proofs.Lasts.{count-drop}
+use Rattle.laws.proofs.Fields.{zeros-by}
+use Rattle.laws.proofs.Tests.{and-left, and-right, and-both, and-no-right, false-by, joined, joined-first, joined-part, same-truth, clash}
+use Rattle.judge_laws.proofs.Shapes.{zeros-at}
 
 -- tests over a list are tests at each place
 pub all-at : (p : ℕ → Bool) (m : List ℕ) → all p m ≡ true → (j : ℕ) → j < length m → p (getD m j 0) ≡ true
@@ -70,60 +71,137 @@ module _ (r : List ℕ) (w : length r ≡ 32) (s : nameLength r ≤ 10) where
   pub link-none : nameLength r < 1 → linkName (nameOf r) ≡ false
   link-none l = false-by (linkName (nameOf r)) (λ e. let h = link-view r w s e in let z : ⊥ = omega arith in z)
 
--- as many as there are: every one
-count-full : (p : ℕ → Bool) (n : ℕ) → countBelow p n ≡ n → (j : ℕ) → j < n → p j ≡ true
-unfolding countBelow
-count-full p zero e j l = let z : ⊥ = omega arith in absurd z
-count-full p (suc n) e j l = go (p n) refl e (λ f m. count-full p n f j m)
+-- what a class says
+class-most : (b : ℕ) → classOf b ≤ 2
+class-most b = go (inName b) (eqb b 0)
   where
-    go : (b : Bool) → p n ≡ b → cond b (countBelow p n + 1) (countBelow p n) ≡ suc n → (countBelow p n ≡ n → j < n → p j ≡ true) → p j ≡ true
-    go true q f h = by-cases (ℕ-discrete j n) (λ (x : j ≡ n). rw x q) (λ (x : j ≢ n). h (omega arith) (omega arith))
-    go false q f h = let z : ⊥ = omega (arith, count-most p n) in absurd z
+    go : (x y : Bool) → cond x 1 (cond y 0 2) ≤ 2
+    go true y = omega arith
+    go false true = omega arith
+    go false false = omega arith
 
-full-count : (p : ℕ → Bool) (n : ℕ) → ((j : ℕ) → j < n → p j ≡ true) → countBelow p n ≡ n
-unfolding countBelow
-full-count p zero h = refl
-full-count p (suc n) h = rw (h n (omega arith), full-count p n (λ j l. h j (omega arith))) (omega arith)
-
-pub names-none : (r : List ℕ) → inNames r 0 ≡ 0
-unfolding inNames countBelow
-names-none r = refl
-
-pub names-more : (r : List ℕ) (j : ℕ) → inNames r (j + 1) ≡ inNames r j + cond (inName (byte r (10 + j))) 1 0
-unfolding inNames
-names-more r j = count-more (λ m. inName (byte r (10 + m))) j ∙ go (inName (byte r (10 + j)))
+class-one : (b : ℕ) → classOf b ≡ 1 → inName b ≡ true
+class-one b e = go (inName b) (eqb b 0) e
   where
-    go : (b : Bool) → cond b (inNames r j + 1) (inNames r j) ≡ inNames r j + cond b 1 0
-    go true = refl
-    go false = omega arith
+    go : (x y : Bool) → _≡_ {A = ℕ} (cond x 1 (cond y 0 2)) 1 → x ≡ true
+    go true y e = refl
+    go false true e = clash e
+    go false false e = let z : ⊥ = omega arith in absurd z
 
-pub names-most : (r : List ℕ) (j : ℕ) → inNames r j ≤ j
-unfolding inNames
-names-most r j = count-most (λ m. inName (byte r (10 + m))) j
+class-none : (b : ℕ) → classOf b ≡ 0 → b ≡ 0
+class-none b e = eqb-true b 0 (go (inName b) (eqb b 0) e)
+  where
+    go : (x y : Bool) → _≡_ {A = ℕ} (cond x 1 (cond y 0 2)) 0 → y ≡ true
+    go true y e = let z : ⊥ = omega arith in absurd z
+    go false true e = refl
+    go false false e = let z : ⊥ = omega arith in absurd z
 
--- a padded name is a link name when as many of the ten bytes may be in a name as it has: no byte past it may
-module _ (r : List ℕ) (w : length r ≡ 32) (s : nameLength r ≤ 10) (l : 1 ≤ nameLength r)
-    (z : zeros (10 + nameLength r) (10 - nameLength r) r ≡ true) where
-  past : (j : ℕ) → nameLength r ≤ j → j < 10 → inName (byte r (10 + j)) ≡ false
-  unfolding zeros
-  past j a b =
-      let q : 10 + j ≡ (10 + nameLength r) + (j - nameLength r) = omega arith in
-      let e : byte r ((10 + nameLength r) + (j - nameLength r)) ≡ 0 =
-      eqb-true _ _ (all-true (λ i. eqb (byte r ((10 + nameLength r) + i)) 0) (10 - nameLength r) (j - nameLength r) (omega arith) z) in
-      rw (q, e)
+pub bits-none : (r : List ℕ) → nameBits r 0 ≡ 0
+unfolding nameBits
+bits-none r = refl
 
-  pub link-count : eqb (inNames r 10) (nameLength r) ≡ linkName (nameOf r)
-  unfolding inNames
-  link-count =
-      same-truth (eqb (inNames r 10) (nameLength r)) _
-      (λ e. link-made r w s (record { some = l; bytes = count-full p (nameLength r) (sym same ∙ eqb-true _ _ e) }))
-      (λ e. eq-eqb _ _ (same ∙ full-count p (nameLength r) (link-view r w s e .bytes)))
+pub bits-more : (r : List ℕ) (m j : ℕ) → j + m ≡ 9 → nameBits r (m + 1) ≡ nameBits r m * 2 + classOf (byte r (10 + j))
+unfolding nameBits
+bits-more r m j e = let q : 9 - m ≡ j = omega arith in rw (add-one m, q)
+
+-- they are no more than twos
+bits-bound : (r : List ℕ) (m : ℕ) → nameBits r m + 2 ≤ 2 ^ (m + 1)
+unfolding nameBits
+bits-bound r zero = omega arith
+bits-bound r (suc m) =
+    let h = bits-bound r m in
+    let c = class-most (byte r (10 + (9 - m))) in
+    let p : 2 ^ (suc m + 1) ≡ 2 ^ (m + 1) * 2 = rw (add-one (suc m), pow-suc, add-one m) in
+    omega arith
+
+pub bits-most : (r : List ℕ) (m : ℕ) → m ≤ 10 → nameBits r m ≤ 2046
+bits-most r m l = let p : 2 ^ (m + 1) ≤ 2 ^ 11 = pow-mono {i = m + 1} {j = 11} (omega arith) in omega (arith, bits-bound r m)
+
+-- byte j is as it is in a padded link name of n bytes
+record Placed (r : List ℕ) (n j : ℕ) : Type 0 where
+  inside : j < n → inName (byte r (10 + j)) ≡ true
+  past : n ≤ j → byte r (10 + j) ≡ 0
+
+-- one less than a power of 2 has ones alone, so the number is that one exactly when every byte is as it is in such a name
+module _ (r : List ℕ) (n : ℕ) (s : n ≤ 10) where
+  power-more : (k : ℕ) → 2 ^ suc k ≡ 2 ^ k * 2
+  power-more k = rw pow-suc
+
+  bits-placed : (m : ℕ) → m ≤ 10 → nameBits r m + 1 ≡ 2 ^ (n - (10 - m)) → (j : ℕ) → 10 - m ≤ j → j < 10 → Placed r n j
+  unfolding nameBits
+  bits-placed zero l e j a b = let z : ⊥ = omega arith in absurd z
+  bits-placed (suc m) l e j a b =
+      by-cases (decLt (9 - m) n)
+      (λ (d : 9 - m < n).
+      let q : n - (10 - suc m) ≡ suc (n - (10 - m)) = omega arith in
+      let f : nameBits r m * 2 + c + 1 ≡ 2 ^ (n - (10 - m)) * 2 = e ∙ rw q (power-more (n - (10 - m))) in
+      let o : c ≡ 1 = omega (arith, most) in
+      at (bits-placed m (omega arith) (omega arith)) (record { inside = λ _. class-one x o; past = λ v. let z : ⊥ = omega arith in absurd z }))
+      (λ (d : ¬ (9 - m < n)).
+      let q : n - (10 - suc m) ≡ 0 = omega arith in
+      let v : n - (10 - m) ≡ 0 = omega arith in
+      let f : nameBits r m * 2 + c + 1 ≡ 1 = e ∙ rw q in
+      let g : nameBits r m ≡ 0 = omega arith in
+      let o : c ≡ 0 = omega arith in
+      at (bits-placed m (omega arith) (rw (g, v))) (record { inside = λ v. let z : ⊥ = omega arith in absurd z; past = λ _. class-none x o }))
     where
-      p : ℕ → Bool
-      p m = inName (byte r (10 + m))
+      x : ℕ
+      x = byte r (10 + (9 - m))
 
-      same : countBelow p 10 ≡ countBelow p (nameLength r)
-      same = count-drop p (nameLength r) 10 s past
+      c : ℕ
+      c = classOf x
+
+      most : c ≤ 2
+      most = class-most x
+
+      at : ((i : ℕ) → 10 - m ≤ i → i < 10 → Placed r n i) → Placed r n (9 - m) → Placed r n j
+      at h k = by-cases (ℕ-discrete j (9 - m)) (λ (y : j ≡ 9 - m). rw y k) (λ (y : j ≢ 9 - m). h j (omega arith) b)
+
+  placed-bits : (m : ℕ) → m ≤ 10 → ((j : ℕ) → 10 - m ≤ j → j < 10 → Placed r n j) → nameBits r m + 1 ≡ 2 ^ (n - (10 - m))
+  unfolding nameBits
+  placed-bits zero l h = let q : n - 10 ≡ 0 = omega arith in rw q
+  placed-bits (suc m) l h =
+      let i = placed-bits m (omega arith) (λ j a b. h j (omega arith) b) in
+      let p = h (9 - m) (omega arith) (omega arith) in
+      by-cases (decLt (9 - m) n)
+      (λ (d : 9 - m < n).
+      let q : n - (10 - suc m) ≡ suc (n - (10 - m)) = omega arith in
+      let o : classOf (byte r (10 + (9 - m))) ≡ 1 = rw (p .inside d) in
+      rw (q, power-more (n - (10 - m)), o) (omega arith))
+      (λ (d : ¬ (9 - m < n)).
+      let q : n - (10 - suc m) ≡ 0 = omega arith in
+      let v : n - (10 - m) ≡ 0 = omega arith in
+      let o : classOf (byte r (10 + (9 - m))) ≡ 0 = rw (p .past (omega arith)) in
+      let g : nameBits r m + 1 ≡ 1 = i ∙ rw v in
+      rw (q, o) (omega arith))
+
+module _ (r : List ℕ) (w : length r ≡ 32) (s : nameLength r ≤ 10) (l : 1 ≤ nameLength r) where
+  pub link-bits : eqb (nameBits r 10 + 1) (2 ^ nameLength r) ≡ (zeros (10 + nameLength r) (10 - nameLength r) r && linkName (nameOf r))
+  link-bits = same-truth (eqb (nameBits r 10 + 1) (2 ^ nameLength r)) _ into from
+    where
+      whole : 2 ^ (nameLength r - (10 - 10)) ≡ 2 ^ nameLength r
+      whole = let q : nameLength r - (10 - 10) ≡ nameLength r = omega arith in ap (λ (k : ℕ). 2 ^ k) q
+
+      into : eqb (nameBits r 10 + 1) (2 ^ nameLength r) ≡ true → (zeros (10 + nameLength r) (10 - nameLength r) r && linkName (nameOf r)) ≡ true
+      into e =
+          let h = bits-placed r (nameLength r) s 10 (omega arith) (eqb-true (nameBits r 10 + 1) (2 ^ nameLength r) e ∙ sym whole) in
+          and-both (zeros (10 + nameLength r) (10 - nameLength r) r) (linkName (nameOf r))
+          (zeros-by (10 + nameLength r) (10 - nameLength r) r
+          (λ k b. let q : 10 + nameLength r + k ≡ 10 + (nameLength r + k) = omega arith in
+          rw q (h (nameLength r + k) (omega arith) (omega arith) .past (omega arith))))
+          (link-made r w s (record { some = l; bytes = λ j b. h j (omega arith) (omega arith) .inside b }))
+
+      from : (zeros (10 + nameLength r) (10 - nameLength r) r && linkName (nameOf r)) ≡ true → eqb (nameBits r 10 + 1) (2 ^ nameLength r) ≡ true
+      from e =
+          let z = and-left (zeros (10 + nameLength r) (10 - nameLength r) r) (linkName (nameOf r)) e in
+          let v = link-view r w s (and-right (zeros (10 + nameLength r) (10 - nameLength r) r) (linkName (nameOf r)) e) in
+          eq-eqb (nameBits r 10 + 1) (2 ^ nameLength r)
+          (placed-bits r (nameLength r) s 10 (omega arith)
+          (λ j a b. record {
+            inside = v .bytes j;
+            past = λ y. let q : 10 + j ≡ 10 + nameLength r + (j - nameLength r) = omega arith in
+                rw q (zeros-at (10 + nameLength r) (10 - nameLength r) r z (j - nameLength r) (omega arith));
+          }) ∙ whole)
 
 -- a legal base name, by its length
 pub legal-plain : (m : List ℕ) → (getD m 0 0 ≡ 46 → ⊥) → legalBase m ≡ false
@@ -185,15 +263,15 @@ module _ (r : List ℕ) (w : length r ≡ 32) (s : nameLength r ≤ 10) where
       false-by (all inBase (nameOf r))
       (λ a. true≢false (sym (all-at inBase (nameOf r) a j (omega (arith, name-length r w s))) ∙ rw (name-at r w s j l) e))
 
--- the classes, byte by byte: 1 from 33 on below b, and then without the two that may not be in a name
+-- the classes, byte by byte: 1 from 33 on below b and else 2, and then without zero and the two that may not be in a name
 pub record Ranged (class : List ℕ) (b : ℕ) : Type 0 where
-  pub at : (x : ℕ) → x < 256 → getD class x 0 ≡ cond (leb 33 x && ltb x b) 1 0
+  pub at : (x : ℕ) → x < 256 → getD class x 0 ≡ cond (leb 33 x && ltb x b) 1 2
   pub long : length class ≡ 256
 
-pub ranged-none : (class : List ℕ) → length class ≡ 256 → ((x : ℕ) → x < 256 → getD class x 0 ≡ 0) → Ranged class 33
+pub ranged-none : (class : List ℕ) → length class ≡ 256 → ((x : ℕ) → x < 256 → getD class x 0 ≡ 2) → Ranged class 33
 ranged-none class l z = record { at = λ x b. z x b ∙ sym (go x (decLt x 33)); long = l }
   where
-    go : (x : ℕ) → Dec (x < 33) → _≡_ {A = ℕ} (cond (leb 33 x && ltb x 33) 1 0) 0
+    go : (x : ℕ) → Dec (x < 33) → _≡_ {A = ℕ} (cond (leb 33 x && ltb x 33) 1 2) 2
     go x d =
         by-cases d (λ (q : x < 33). rw (lt-leb 33 x q))
         (λ (q : ¬ (x < 33)). rw (and-no-right (leb 33 x) (ltb x 33) (le-ltb x 33 (omega arith))))
@@ -211,29 +289,34 @@ ranged-more class b h a l =
     below x q = same-truth (ltb x b) (ltb x (b + 1)) (λ e. lt-ltb x (b + 1) (omega (arith, ltb-true x b e)))
         (λ e. lt-ltb x b (omega (arith, ltb-true x (b + 1) e)))
 
-pub ranged-classed : (class : List ℕ) → Ranged class 96 → Classed (set (set class 58 0) 64 0)
+pub ranged-classed : (class : List ℕ) → Ranged class 96 → Classed (set (set (set class 0 0) 58 2) 64 2)
 ranged-classed class h =
     record {
-      at = λ x m. at x m (ℕ-discrete x 64) (ℕ-discrete x 58);
-      long = length-set (set class 58 0) 64 0 ∙ length-set class 58 0 ∙ h .long;
+      at = λ x m. at x m (ℕ-discrete x 64) (ℕ-discrete x 58) (ℕ-discrete x 0);
+      long = length-set (set (set class 0 0) 58 2) 64 2 ∙ long;
     }
   where
-    long : length (set class 58 0) ≡ 256
-    long = length-set class 58 0 ∙ h .long
+    short : length (set class 0 0) ≡ 256
+    short = length-set class 0 0 ∙ h .long
+
+    long : length (set (set class 0 0) 58 2) ≡ 256
+    long = length-set (set class 0 0) 58 2 ∙ short
 
     upper : (x : ℕ) → ltb x 96 ≡ leb x 95
     upper x = same-truth (ltb x 96) (leb x 95) (λ e. le-leb x 95 (omega (arith, ltb-true x 96 e))) (λ e. lt-ltb x 96 (omega (arith, leb-true x 95 e)))
 
-    plain : (a b : Bool) → _≡_ {A = ℕ} (cond (a && b) 1 0) (cond (a && b && true && true) 1 0)
+    plain : (a b : Bool) → _≡_ {A = ℕ} (cond (a && b) 1 2) (cond (a && b && true && true) 1 2)
     plain true true = refl
     plain true false = refl
     plain false b = refl
 
-    at : (x : ℕ) → x < 256 → Dec (x ≡ 64) → Dec (x ≡ 58) → getD (set (set class 58 0) 64 0) x 0 ≡ cond (inName x) 1 0
-    at x m d f =
-        by-cases d (λ (q : x ≡ 64). rw q (getD-set-same (set class 58 0) 64 0 0 (omega (arith, long))))
-        (λ (q : x ≢ 64). by-cases f
-        (λ (r : x ≡ 58). rw r (getD-set-other (set class 58 0) 64 58 0 0 (omega arith) ∙ getD-set-same class 58 0 0 (omega (arith, h .long))))
-        (λ (r : x ≢ 58).
-        getD-set-other (set class 58 0) 64 x 0 0 q ∙ getD-set-other class 58 x 0 0 r ∙ h .at x m
-        ∙ rw (upper x, ne-eqb x 64 q, ne-eqb x 58 r) (plain (leb 33 x) (leb x 95))))
+    at : (x : ℕ) → x < 256 → Dec (x ≡ 64) → Dec (x ≡ 58) → Dec (x ≡ 0) → getD (set (set (set class 0 0) 58 2) 64 2) x 0 ≡ classOf x
+    at x m d f g =
+        by-cases d (λ (q : x ≡ 64). rw q (getD-set-same (set (set class 0 0) 58 2) 64 2 0 (omega (arith, long))))
+        (λ (q : x ≢ 64). getD-set-other (set (set class 0 0) 58 2) 64 x 2 0 q ∙ by-cases f
+        (λ (r : x ≡ 58). rw r (getD-set-same (set class 0 0) 58 2 0 (omega (arith, short))))
+        (λ (r : x ≢ 58). getD-set-other (set class 0 0) 58 x 2 0 r ∙ by-cases g
+        (λ (z : x ≡ 0). rw z (getD-set-same class 0 0 0 (omega (arith, h .long))))
+        (λ (z : x ≢ 0).
+        getD-set-other class 0 x 0 0 z ∙ h .at x m
+        ∙ rw (upper x, ne-eqb x 64 q, ne-eqb x 58 r, ne-eqb x 0 z) (plain (leb 33 x) (leb x 95)))))

@@ -13,7 +13,8 @@ use lib.Dec.{eqb, leb}
 use borrow.Author.Count.{below-more, below-none}
 use borrow.Author.Tests.{eqb-true, eq-eqb, ne-eqb, leb-true, leb-false, le-leb, lt-leb}
 use Rattle.judge_laws.specs.Mask.{stays, without}
-use Rattle.judge_laws.specs.Pass.{naming, holding, baseEntry, basing, Numbered, Held, Entries, Passed}
+use Rattle.judge_laws.specs.Naming.{headed, headings, nonzeros}
+use Rattle.judge_laws.specs.Pass.{naming, holding, baseEntry, basing, Numbered, Held, Found, Entries, Passed}
 use Rattle.judge_laws.specs.Places.{textFits, shortAt, textSound, texts, starts, slotOf, Laid, Marked, fresh}
 use Rattle.judge_laws.specs.Shapes.{headingRight, entryRight, rightAt, shaped}
 use Rattle.judge_laws.specs.Twins.{hashOf, single, noTwins}
@@ -22,17 +23,19 @@ use Rattle.paper.specs.Record.{byte, isKind, headingType, textLength, simple, d
 use Rattle.paper.specs.Scan.{anyBelow, countBelow}
 use Rattle.paper.specs.Sound.{textAsAbove, isBase, notCrowded, noneCrowded, allNamed, inPlace, sound}
 use Rattle.paper.specs.Table.{rooms, rec}
-use Rattle.laws.proofs.Counts.{count-more, count-none, count-up, count-most, count-mono, count-least}
+use Rattle.laws.proofs.Counts.{count-cong, count-more, count-none, count-up, count-most, count-mono, count-least}
 use Rattle.laws.proofs.Entries.{stands-true}
 use Rattle.laws.proofs.Lay.{Whole, within}
-use Rattle.laws.proofs.Scans.{any-true, any-here}
+use Rattle.laws.proofs.Scans.{all-true, any-true, any-here}
 use Rattle.laws.proofs.Sound.{every-here, every-true}
-use Rattle.laws.proofs.Tests.{truth, and-left, and-right, and-both, and-no-right, not-both, false-by, implies-by}
+use Rattle.laws.proofs.Tests.{truth, and-left, and-right, and-both, and-no-right, not-both, false-by, implies-use, implies-by, same-truth}
 use Rattle.judge_laws.proofs.Chains.{chains-none, chains-other}
 use Rattle.judge_laws.proofs.Clauses.{shaped-all, shaped-not, right-heading, right-entry, right-text, right-other}
-use Rattle.judge_laws.proofs.Mask.{rooms-without, whole-without, rec-stays, rec-entry, text-without, simple-without, right-gone, twins-without, crowded-without}
-use Rattle.judge_laws.proofs.Shapes.{heading-view, Entered, entry-view, base-holder, base-user}
-use Rattle.judge_laws.proofs.Sound.{sound-not-shaped, sound-not-text, sound-not-twins, sound-not-crowded, sound-left}
+use Rattle.judge_laws.proofs.Mask.{rooms-without, whole-without, rec-stays, rec-entry, text-without, simple-without, right-gone, named-without, twins-without, crowded-without}
+use Rattle.judge_laws.proofs.Naming.{all-headed, count-same}
+use Rattle.judge_laws.proofs.Shapes.{heading-view, entry-view, base-holder, base-user}
+use Rattle.judge_laws.proofs.Sound.{sound-not-shaped, sound-not-named, sound-not-text, sound-not-twins, sound-not-crowded, sound-left}
+use Rattle.judge_laws.proofs.Tests.{and-past}
 use Rattle.judge_laws.proofs.Text.{by-slots, sound-not-long, sound-not-apart}
 use Rattle.judge_laws.proofs.TextTurns.{marked-none, marked, unmarked, mark-refused, code-slot, starts-up, texts-none, texts-more, texts-most}
 use Rattle.judge_laws.proofs.Twins.{single-all, twin-one}
@@ -183,6 +186,11 @@ few-bases t named held head next left s few users there = every-here 2 (notCrowd
         let u : userOf (rec t i) ≡ 0 = eqb-true _ _ (rw b at (users i l k)) in
         rw (b, u) (le-leb (countBelow (λ j. stands (inDirectory (holderOf (rec t i))) (rec t j)) (rooms t)) 112 (s .holding .most _ (there i l k b)))
 
+-- the numbers tell whether a heading is named
+pub named-tells : (t a : List ℕ) (i : ℕ) → Numbered (naming t (rooms t)) a → i < 2048 → not (eqb (getD a i 0) 0) ≡ named t i
+unfolding naming named
+named-tells t a i n l = rw (n .at i l) (counted-any (λ j. names i (rec t j)) (rooms t))
+
 module _ (gone t : List ℕ) (w : Whole t) where
   -- an entry that is right names a record of the table, and stands in one or in a base list
   pub entry-names : (r : List ℕ) → entryRight (without gone t) r ≡ true → headingNamed r < rooms t
@@ -291,8 +299,15 @@ module _ (gone t : List ℕ) (w : Whole t) where
 
     -- in the file of heading h, from slot v on
     module _ (h v : ℕ) (eh : h ≡ headingOf (rec t i)) where
-      pub misplaced : inPlace (rec (without gone t) h) (rec t i) ≡ false → sound (without gone t) ≡ false
+      misplaced : inPlace (rec (without gone t) h) (rec t i) ≡ false → sound (without gone t) ≡ false
       misplaced e = stale (rw (kind, same, ← eh, e))
+
+      pub text-refuted : (textAsAbove 0 (rec t i) && inPlace (rec (without gone t) h) (rec t i)) ≡ false → sound (without gone t) ≡ false
+      text-refuted e = go (truth (textAsAbove 0 (rec t i)))
+        where
+          go : (textAsAbove 0 (rec t i) ≡ true) ⊎ (textAsAbove 0 (rec t i) ≡ false) → sound (without gone t) ≡ false
+          go (inl q) = misplaced (sym (and-past (textAsAbove 0 (rec t i)) (inPlace (rec (without gone t) h) (rec t i)) q) ∙ e)
+          go (inr q) = refuted i l (text-right ∙ q)
 
       module _ (p : ℕ) (ep : p ≡ position (rec t i)) (e : inPlace (rec (without gone t) h) (rec t i) ≡ true) (ev : v ≡ getD start h 0) where
         slot : (v + p ≡ slotOf (without gone t) i) × (v + p < 2048)
@@ -403,6 +418,69 @@ module _ (gone t : List ℕ) (w : Whole t) where
         let y : (m : ℕ) → (byte (rec t i) 0 ≡ m → ⊥) → isKind m (rec (without gone t) i) ≡ false = λ m n. rw z (ne-eqb (byte (rec t i) 0) m n) in
         passed-plain (ne-eqb (byte (rec t i) 0) 2 n2) (y 3 n3) (free-right i l n1 n2 n3 s ∙ e) (rw (y 1 n1))
 
+  -- an entry that is right as a record
+  right-is-entry : (i : ℕ) → rightAt (without gone t) i ≡ true → byte (rec t i) 0 ≡ 2 → entryRight (without gone t) (rec t i) ≡ true
+  right-is-entry i r k =
+      let z = rec-entry gone t w i (eq-eqb _ _ k) in
+      rw (← z) (sym (right-entry (without gone t) i (ap (λ r. byte r 0) z ∙ k)) ∙ r)
+
+  -- what holds an entry that is right is a directory
+  pub found : (held : List ℕ) (i : ℕ) → Held t held i → ((j : ℕ) → j < i → rightAt (without gone t) j ≡ true) → Found gone t held
+  unfolding holding
+  found held i s r = record { at = at; long = s .counts .long }
+    where
+      go : (d j : ℕ) → d < 2048 → j < i → stands (inDirectory d) (rec t j) ≡ true → directory (rec (without gone t) d) ≡ true
+      go d j l b e =
+          let f = stands-true (inDirectory d) (rec t j) e in
+          let h : holderOf (rec t j) ≡ d = f .heading in
+          let n : isBase (rec t j) ≡ false = ne-eqb (holderOf (rec t j)) 65535 (λ (x : holderOf (rec t j) ≡ 65535). let z : ⊥ = omega arith in z) in
+          let p = entry-view (without gone t) (rec t j) (right-is-entry j (r j b) (f .kind)) .place in
+          rw (← h) (rw n at (base-holder (without gone t) (rec t j) p))
+
+      at : (d : ℕ) → d < 2048 → (getD held d 0 ≡ 0 → ⊥) → directory (rec (without gone t) d) ≡ true
+      at d l n =
+          let p : not (eqb (countBelow (λ j. stands (inDirectory d) (rec t j)) i) 0) ≡ true =
+          rw (ne-eqb (countBelow (λ j. stands (inDirectory d) (rec t j)) i) 0 (λ q. n (s .counts .at d l ∙ q))) in
+          let a = any-true (λ j. stands (inDirectory d) (rec t j)) i (sym (counted-any (λ j. stands (inDirectory d) (rec t j)) i) ∙ p) in
+          go d (a .0) l (a .1) (a .2)
+
+  -- a record that is named is a heading, so the headings are all named where there are as many as records that are named
+  module _ (small : length t ≤ 65536) (a : List ℕ) (m : Numbered (naming t (rooms t)) a)
+      (r : (j : ℕ) → j < rooms t → rightAt (without gone t) j ≡ true) where
+    tells : (h : ℕ) → h < rooms t → not (eqb (getD a h 0) 0) ≡ named t h
+    tells h l = named-tells t a h m (omega arith)
+
+    named-heading : (h : ℕ) → h < rooms t → not (eqb (getD a h 0) 0) ≡ true → isKind 1 (rec (without gone t) h) ≡ true
+    unfolding named
+    named-heading h l e = let i = any-true (λ j. names h (rec t j)) (rooms t) (sym (tells h l) ∙ e) in go (i .0) (i .1) (i .2)
+      where
+        go : (j : ℕ) → j < rooms t → names h (rec t j) ≡ true → isKind 1 (rec (without gone t) h) ≡ true
+        go j b q =
+            let k : byte (rec t j) 0 ≡ 2 = eqb-true _ _ (and-left (isKind 2 (rec t j)) _ q) in
+            let n : headingNamed (rec t j) ≡ h = eqb-true _ _ (and-right (isKind 2 (rec t j)) _ q) in
+            rw (← n) (entry-view (without gone t) (rec t j) (right-is-entry j (r j b) k) .named)
+
+    pub counts-named : nonzeros a (rooms t) ≡ headings (without gone t) (rooms t) → allNamed (without gone t) ≡ true
+    unfolding nonzeros headings
+    counts-named e =
+        all-headed (without gone t)
+        (λ h l.
+        let b : h < rooms t = rw (rooms-without gone t) at l in
+        implies-by (isKind 1 (rec (without gone t) h)) _
+        (λ k. named-without gone t h ∙ sym (tells h b)
+        ∙ count-same (λ j. not (eqb (getD a j 0) 0)) (λ j. isKind 1 (rec (without gone t) j)) (rooms t) named-heading e h b k))
+
+    pub refuted-named : (nonzeros a (rooms t) ≡ headings (without gone t) (rooms t) → ⊥) → sound (without gone t) ≡ false
+    unfolding nonzeros headings allNamed
+    refuted-named n =
+        sound-not-named (without gone t)
+        (false-by (allNamed (without gone t))
+        (λ e. n (count-cong (λ j. not (eqb (getD a j 0) 0)) (λ j. isKind 1 (rec (without gone t) j)) (rooms t)
+        (λ h l. same-truth (not (eqb (getD a h 0) 0)) (isKind 1 (rec (without gone t) h)) (named-heading h l)
+        (λ k. tells h l ∙ sym (named-without gone t h)
+        ∙ implies-use (isKind 1 (rec (without gone t) h)) _
+        (all-true (headed (without gone t)) (rooms (without gone t)) h (rw (rooms-without gone t) l) e) k)))))
+
   -- what is known past the last record
   module _ (start mark named held head next : List ℕ) (x b u : ℕ) (a : Laid (without gone t) start)
       (p : Passed gone t mark named held head next x b u (rooms t)) where
@@ -426,18 +504,5 @@ module _ (gone t : List ℕ) (w : Whole t) where
     pub passed-few : length t ≤ 65536 → b ≤ 100 → noneCrowded t ≡ true
     passed-few small few =
         few-bases t named held head next u (p .entries) (omega (arith, p .based))
-        (λ i l k. base-user (without gone t) (rec t i) (entered i l k .place))
-        (λ i l k n. omega (arith, entry-stands (rec t i) (entry i l k) n .0))
-      where
-        entry : (i : ℕ) → i < rooms t → byte (rec t i) 0 ≡ 2 → entryRight (without gone t) (rec t i) ≡ true
-        entry i l k =
-            let z = rec-entry gone t w i (eq-eqb _ _ k) in
-            rw (← z) (sym (right-entry (without gone t) i (ap (λ r. byte r 0) z ∙ k)) ∙ p .right i l)
-
-        entered : (i : ℕ) → i < rooms t → byte (rec t i) 0 ≡ 2 → Entered (without gone t) (rec t i)
-        entered i l k = entry-view (without gone t) (rec t i) (entry i l k)
-
--- the numbers tell whether a heading is named
-pub named-tells : (t a : List ℕ) (i : ℕ) → Numbered (naming t (rooms t)) a → i < 2048 → not (eqb (getD a i 0) 0) ≡ named t i
-unfolding naming named
-named-tells t a i n l = rw (n .at i l) (counted-any (λ j. names i (rec t j)) (rooms t))
+        (λ i l k. base-user (without gone t) (rec t i) (entry-view (without gone t) (rec t i) (right-is-entry i (p .right i l) k) .place))
+        (λ i l k n. omega (arith, entry-stands (rec t i) (right-is-entry i (p .right i l) k) n .0))

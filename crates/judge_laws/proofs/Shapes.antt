@@ -193,6 +193,10 @@ text-not r n = false-by (textAsAbove 0 r) (λ e. n (text-view r e))
 pub text-left : (r : List ℕ) → 1 ≤ bytesHeld r → bytesHeld r ≤ 24 → zeros 6 2 r ≡ true → textAsAbove 0 r ≡ zeros (8 + bytesHeld r) (24 - bytesHeld r) r
 text-left r a b d = rw (le-leb 1 (bytesHeld r) a, le-leb (bytesHeld r) 24 b, d)
 
+-- a full block has no padding
+pub text-full : (r : List ℕ) → bytesHeld r ≡ 24 → zeros 6 2 r ≡ true → textAsAbove 0 r ≡ true
+text-full r k g = text-left r (omega arith) (omega arith) g ∙ rw k (zeros-none 32 r)
+
 pub entry-not : (t r : List ℕ) → (Entered t r → ⊥) → entryRight t r ≡ false
 entry-not t r n = false-by (entryRight t r) (λ e. n (entry-view t r e))
 

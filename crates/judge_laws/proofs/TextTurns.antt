@@ -126,7 +126,9 @@ code-slot t start i h a p d k eh ep e ea =
     let k′ : isKind 3 (rec t i) ≡ true = eq-eqb (byte (rec t i) 0) 3 k in
     let l : headingOf (rec t i) < rooms t = place-below t (headingOf (rec t i)) (rec t i) (d .whole) e′ in
     let s : slotOf t i < starts t (rooms t) = slot-here t (d .whole) i (rw (k′, e′)) k′ in
-    let b : getD start h 0 ≡ starts t (headingOf (rec t i)) = rw eh (d .at (headingOf (rec t i)) l) in
+    let s1 : simple (rec t (headingOf (rec t i))) ≡ true = and-left (simple (rec t (headingOf (rec t i)))) _ e′ in
+    let o : isKind 1 (rec t (headingOf (rec t i))) ≡ true = and-left (isKind 1 (rec t (headingOf (rec t i)))) _ s1 in
+    let b : getD start h 0 ≡ starts t (headingOf (rec t i)) = rw eh (d .at (headingOf (rec t i)) l o) in
     let q : a + p ≡ slotOf t i = rw (ea, b, ep) in
     (q, omega (arith, d .room, d .small))
 

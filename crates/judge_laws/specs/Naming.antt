@@ -1,11 +1,11 @@
--- Which records are named, marked by number.
-use mathlib.Core.Bool.{Bool, _&&_, cond}
+-- Which records are named, marked and counted by number.
+use mathlib.Core.Bool.{Bool, _&&_, cond, not}
 use mathlib.Core.List.{List}
 use mathlib.Core.Path.{_≡_}
 use Prim.Native.Nat.{ℕ, _<_}
-use lib.Dec.{ltb}
+use lib.Dec.{eqb, ltb}
 use lib.ListN.{getD}
-use Rattle.paper.specs.Scan.{anyBelow, eachBelow}
+use Rattle.paper.specs.Scan.{anyBelow, countBelow, eachBelow}
 use Rattle.paper.specs.Record.{isKind, headingNamed, names}
 use Rattle.paper.specs.Table.{rec}
 use Rattle.paper.specs.Entry.{named}
@@ -26,3 +26,11 @@ namedMarks t = eachBelow (λ h. cond (named t h) 1 0) 2048
 -- record i, if it is a heading, is named
 abbrev pub headed : List ℕ → ℕ → Bool
 headed t i = implies (isKind 1 (rec t i)) (named t i)
+
+-- how many headings there are below i
+unfoldable pub headings : List ℕ → ℕ → ℕ
+headings t i = countBelow (λ j. isKind 1 (rec t j)) i
+
+-- how many of the first i numbers are not 0
+unfoldable pub nonzeros : List ℕ → ℕ → ℕ
+nonzeros a i = countBelow (λ j. not (eqb (getD a j 0) 0)) i

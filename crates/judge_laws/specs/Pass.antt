@@ -5,7 +5,7 @@ use mathlib.Core.Path.{_≡_}
 use Prim.Native.Nat.{ℕ, _<_, _≤_}
 use lib.ListN.{getD, length}
 use Rattle.paper.specs.Entry.{inDirectory, stands}
-use Rattle.paper.specs.Record.{isKind, names}
+use Rattle.paper.specs.Record.{isKind, directory, names}
 use Rattle.paper.specs.Scan.{countBelow}
 use Rattle.paper.specs.Sound.{isBase}
 use Rattle.paper.specs.Table.{rec}
@@ -40,6 +40,11 @@ pub record Numbered (f : ℕ → ℕ) (a : List ℕ) : Type 0 where
 pub record Held (t held : List ℕ) (i : ℕ) : Type 0 where
   pub counts : Numbered (holding t i) held
   pub most : (d : ℕ) → d < 2048 → holding t i d ≤ 112
+
+-- what holds an entry is a directory
+pub record Found (gone t held : List ℕ) : Type 0 where
+  pub at : (d : ℕ) → d < 2048 → (getD held d 0 ≡ 0 → ⊥) → directory (rec (without gone t) d) ≡ true
+  pub long : length held ≡ 2048
 
 -- the entries below i are counted for the headings they name and the directories that hold them, and no two are twins, as long as there are
 -- steps left to walk their chains

@@ -44,12 +44,12 @@ marksAt t s m = countBelow (λ i. isKind 3 (rec t i) && eqb (slotOf t i) s) m
 unfoldable pub texts : List ℕ → ℕ → ℕ
 texts t m = countBelow (λ i. isKind 3 (rec t i)) m
 
--- a table of at most 2,048 whole records, with no more slots than records, and each record's first slot in `start`
+-- a table of at most 2,048 whole records, with no more slots than records, and each heading's first slot in `start`
 pub record Laid (t start : List ℕ) : Type 0 where
   pub whole : length t % 32 ≡ 0
   pub small : length t ≤ 65536
   pub room : starts t (rooms t) ≤ rooms t
-  pub at : (h : ℕ) → h < rooms t → getD start h 0 ≡ starts t h
+  pub at : (h : ℕ) → h < rooms t → isKind 1 (rec t h) ≡ true → getD start h 0 ≡ starts t h
 
 -- the first i records are judged: their text is in place, and each slot is marked as often as it is taken, at most once
 pub record Marked (t mark : List ℕ) (i : ℕ) : Type 0 where

@@ -2,12 +2,11 @@
 use mathlib.Core.Bool.{Bool, _&&_, _||_, cond}
 use mathlib.Core.List.{List}
 use mathlib.Core.Path.{_≡_}
-use Prim.Native.Nat.{ℕ, _+_, _-_, _<_}
+use Prim.Native.Nat.{ℕ, zero, suc, _+_, _-_, _*_, _<_}
 use lib.Dec.{eqb, leb}
 use lib.ListN.{getD, length}
 use Rattle.paper.specs.Name.{inName, linkName, legalBase}
 use Rattle.paper.specs.Record.{byte, isKind, headingType, lifetime, textLength, directory, holderOf, headingNamed, userOf, nameLength, nameOf, zeros}
-use Rattle.paper.specs.Scan.{countBelow}
 use Rattle.paper.specs.Sound.{implies, headingAsAbove, entryAsAbove, textAsAbove, asAbove, isBase, holdersThere, headingsThere, usersRight, namesPadded, directoriesPlain, namesLegal}
 use Rattle.paper.specs.Table.{rec}
 
@@ -48,11 +47,15 @@ unfoldable pub shaped : List ℕ → Bool
 shaped t =
     asAbove t && holdersThere t && headingsThere t && usersRight t && namesPadded t && directoriesPlain t && namesLegal t
 
--- the class of each byte: 1 if it may be in a name, and else 0
+-- the class of a byte: 1 if it may be in a name, 0 if it is zero, and 2 if it is neither
+abbrev pub classOf : ℕ → ℕ
+classOf b = cond (inName b) 1 (cond (eqb b 0) 0 2)
+
 pub record Classed (class : List ℕ) : Type 0 where
-  pub at : (b : ℕ) → b < 256 → getD class b 0 ≡ cond (inName b) 1 0
+  pub at : (b : ℕ) → b < 256 → getD class b 0 ≡ classOf b
   pub long : length class ≡ 256
 
--- how many of the first j bytes from a record's name on may be in a name
-unfoldable pub inNames : List ℕ → ℕ → ℕ
-inNames r j = countBelow (λ m. inName (byte r (10 + m))) j
+-- the classes of the last m of the ten bytes from a record's name on as one number, each byte worth half of the next
+unfoldable pub nameBits : List ℕ → ℕ → ℕ
+nameBits r zero = 0
+nameBits r (suc m) = nameBits r m * 2 + classOf (byte r (10 + (9 - m)))

@@ -12,8 +12,7 @@ use Rattle.judge_laws.specs.Twins.{noTwins}
 use Rattle.paper.specs.Sound.{allNamed}
 use Rattle.judge_laws.proofs.Chains.{chains-none}
 use Rattle.judge_laws.proofs.Crowds.{ranked-none}
-use Rattle.judge_laws.proofs.Pass.{refuted-total, refuted-twins, passed-none, passed-single, passed-all, passed-few}
-use Rattle.judge_laws.proofs.Sound.{sound-not-named}
+use Rattle.judge_laws.proofs.Pass.{refuted-total, refuted-named, refuted-twins, passed-none, passed-single, passed-all, passed-few, counts-named}
 use Rattle.laws.proofs.Sound.{sized-whole}
 use Rattle.judge.proofs.is_sound.Statement.{statement}
 use Rattle.judge.proofs.is_sound.Tie as tie
@@ -25,21 +24,22 @@ lay-out-requires c κs =
     (w .0, w .1, refl)
 
 returns : tie.Need-returns
-returns c = sym (c .before .lay-out .ensures .0 (c .if1 .taken))
+returns c = sym (c .before .before .lay-out .ensures .0 (c .if1 .taken))
 
 classes-requires : tie.Need-classes-requires
 classes-requires c κs = search needs
 
 pass-all-requires : tie.Need-pass-all-requires
 pass-all-requires c κs =
-    let c8 = c .before .before .before .before .before .before .before .before in
-    let c9 = c8 .before in
-    let a = c9 .before .before .before in
+    let known = c .before .before .before .before .before .before .before in
+    let fits = known .before in
+    let laid = fits .before .before in
+    let a = laid .before .before .before in
     let w = sized-whole (a .args .table .now) (a .pre) in
-    let l = c9 .lay-out .ensures .1 (omega arith) in (
+    let l = laid .lay-out .ensures .1 (omega (arith, fits .if1 .left)) in (
       w .0,
       w .1,
-      c .before .before .before .before .before .before .before .classes .ensures,
+      known .classes .ensures,
       l .0,
       passed-none (a .args .gone .now) (a .args .table .now) (w .0) _ _ _ _ _ _ _ (l .0) refl refl refl refl refl
           (λ s b. getD-replicate 2048 s 0 0 b) (λ s b. getD-replicate 2048 s 0 0 b) (λ s b. getD-replicate 2048 s 0 0 b)
@@ -51,96 +51,119 @@ returns-2 c = sym (c .before .before .pass-all .ensures .0 (not-true _ (c .if2 .
 
 returns-3 : tie.Need-returns-3
 returns-3 c =
-    let c4 = c .before .before .before .before in
-    let c12 = c4 .before .before .before .before .before .before .before .before in
-    let c14 = c12 .before .before in
-    let a = c14 .before .before .before in
-    let w = sized-whole (a .args .table .now) (a .pre) in
-    let l = c14 .lay-out .ensures .1 (omega arith) in
-    let p = c4 .pass-all .ensures .1 (not-false _ (c .before .before .if2 .left)) in
-    sym (refuted-total (a .args .gone .now) (a .args .table .now) (w .0) (λ q. c .if3 .taken (p .texted ∙ q ∙ sym (l .1))))
+    let right = c .before .before .before in
+    let passed = right .before .before in
+    let fits = passed .before .before .before .before .before .before .before .before .before in
+    let laid = fits .before .before in
+    let a = laid .before .before .before in
+    let g = a .args .gone .now in
+    let t = a .args .table .now in
+    let w = sized-whole t (a .pre) in
+    let l = laid .lay-out .ensures .1 (omega (arith, fits .if1 .left)) in
+    let p = passed .pass-all .ensures .1 (not-false _ (right .if2 .left)) in
+    sym (refuted-total g t (w .0) (λ q. c .if3 .taken (p .texted ∙ q ∙ sym (l .1))))
 
-are-named-requires : tie.Need-are-named-requires
-are-named-requires c κs =
-    let c3 = c .before .before .before in
-    let c5 = c3 .before .before in
-    let c13 = c5 .before .before .before .before .before .before .before .before in
-    let a = c13 .before .before .before .before .before in
+count-named-requires : tie.Need-count-named-requires
+count-named-requires c κs =
+    let right = c .before .before .before .before in
+    let passed = right .before .before in
+    let a = passed .before .before .before .before .before .before .before .before .before .before .before .before .before .before in
     let w = sized-whole (a .args .table .now) (a .pre) in
-    let p = c5 .pass-all .ensures .1 (not-false _ (c3 .if2 .left)) in
-    (w .0, w .1, p .entries .naming)
+    let p = passed .pass-all .ensures .1 (not-false _ (right .if2 .left)) in
+    (omega arith, p .entries .naming .long)
 
 returns-4 : tie.Need-returns-4
 returns-4 c =
-    let c7 = c .before .before .before .before .before .before .before in
-    let c15 = c7 .before .before .before .before .before .before .before .before in
-    let a = c15 .before .before .before .before .before in
-    sym (sound-not-named (without (a .args .gone .now) (a .args .table .now)) (sym (c .before .are-named .ensures) ∙ not-true _ (c .if4 .taken)))
+    let count = c .before .before in
+    let right = count .before .before .before .before .before in
+    let passed = right .before .before in
+    let fits = passed .before .before .before .before .before .before .before .before .before in
+    let laid = fits .before .before in
+    let a = laid .before .before .before in
+    let g = a .args .gone .now in
+    let t = a .args .table .now in
+    let w = sized-whole t (a .pre) in
+    let l = laid .lay-out .ensures .1 (omega (arith, fits .if1 .left)) in
+    let p = passed .pass-all .ensures .1 (not-false _ (right .if2 .left)) in
+    sym (refuted-named g t (w .0) (w .1) _ (p .entries .naming) (p .right) (λ q. c .if4 .taken (count .count-named .ensures ∙ q ∙ sym (l .2))))
 
 none-are-twins-requires : tie.Need-none-are-twins-requires
 none-are-twins-requires c κs =
-    let c8 = c .before .before .before .before .before .before .before .before in
-    let c16 = c8 .before .before .before .before .before .before .before .before in
-    let c18 = c16 .before .before in
-    let a = c18 .before .before .before in
-    let w = sized-whole (a .args .table .now) (a .pre) in
-    let l = c18 .lay-out .ensures .1 (omega arith) in
-    let p = c8 .pass-all .ensures .1 (not-false _ (c .before .before .before .before .before .before .if2 .left)) in
-    (w .1, p .entries .chains .next-long, passed-single (a .args .gone .now) (a .args .table .now) (w .0) _ _ _ _ _ _ _ _ _ (l .0) p)
+    let right = c .before .before .before .before .before .before .before .before in
+    let passed = right .before .before in
+    let fits = passed .before .before .before .before .before .before .before .before .before in
+    let laid = fits .before .before in
+    let a = laid .before .before .before in
+    let g = a .args .gone .now in
+    let t = a .args .table .now in
+    let w = sized-whole t (a .pre) in
+    let l = laid .lay-out .ensures .1 (omega (arith, fits .if1 .left)) in
+    let p = passed .pass-all .ensures .1 (not-false _ (right .if2 .left)) in
+    (w .1, p .entries .chains .next-long, passed-single g t (w .0) _ _ _ _ _ _ _ _ _ (l .0) p)
 
 returns-5 : tie.Need-returns-5
 returns-5 c =
-    let c10 = c .before .before .before .before .before .before .before .before .before .before in
-    let a = c10 .before .before .before .before .before .before .before .before .before .before .before .before .before in
+    let passed = c .before .before .before .before .before .before .before .before .before .before .before .before in
+    let a = passed .before .before .before .before .before .before .before .before .before .before .before .before .before .before in
     let w = sized-whole (a .args .table .now) (a .pre) in
     sym (refuted-twins (a .args .gone .now) (a .args .table .now) (w .0) (sym (c .before .none-are-twins .ensures .0) ∙ not-true _ (c .if5 .taken)))
 
 returns-6 : tie.Need-returns-6
 returns-6 c =
-    let c5 = c .before .before .before .before .before in
-    let c8 = c5 .before .before .before in
-    let c12 = c8 .before .before .before .before in
-    let c20 = c12 .before .before .before .before .before .before .before .before in
-    let c22 = c20 .before .before in
-    let a = c22 .before .before .before in
+    let single = c .before .before in
+    let twins = single .before in
+    let all = twins .before .before in
+    let count = all .before .before in
+    let texts = count .before .before in
+    let right = texts .before .before .before in
+    let passed = right .before .before in
+    let fits = passed .before .before .before .before .before .before .before .before .before in
+    let laid = fits .before .before in
+    let a = laid .before .before .before in
     let g = a .args .gone .now in
     let t = a .args .table .now in
     let w = sized-whole t (a .pre) in
-    let l = c22 .lay-out .ensures .1 (omega arith) in
-    let p = c12 .pass-all .ensures .1 (not-false _ (c8 .before .before .if2 .left)) in
-    let n : allNamed (without g t) ≡ true = sym (c5 .before .are-named .ensures) ∙ not-false _ (c5 .if4 .left) in
-    let o : noTwins t ≡ true = sym (c .before .before .before .none-are-twins .ensures .0) ∙ not-false _ (c .before .before .if5 .left) in
-    sym (passed-all g t (w .0) _ _ _ _ _ _ _ _ _ (l .0) p (c8 .if3 .left ∙ l .1) n o
+    let l = laid .lay-out .ensures .1 (omega (arith, fits .if1 .left)) in
+    let p = passed .pass-all .ensures .1 (not-false _ (right .if2 .left)) in
+    let n : allNamed (without g t) ≡ true = counts-named g t (w .0) (w .1) _ (p .entries .naming) (p .right)
+    (sym (count .count-named .ensures) ∙ all .if4 .left ∙ l .2) in
+    let o : noTwins t ≡ true = sym (twins .none-are-twins .ensures .0) ∙ not-false _ (single .if5 .left) in
+    sym (passed-all g t (w .0) _ _ _ _ _ _ _ _ _ (l .0) p (texts .if3 .left ∙ l .1) n o
     ∙ passed-few g t (w .0) _ _ _ _ _ _ _ _ _ (l .0) p (w .1) (c .if6 .taken))
 
 crowd-all-requires : tie.Need-crowd-all-requires
 crowd-all-requires c κs =
-    let c6 = c .before .before .before .before .before .before in
-    let c13 = c6 .before .before .before .before .before .before .before in
-    let c15 = c13 .before .before in
-    let a = c15 .before .before .before .before .before .before .before .before .before .before .before .before .before in
+    let single = c .before .before .before .before .before in
+    let twins = single .before in
+    let right = twins .before .before .before .before .before .before .before .before .before in
+    let passed = right .before .before in
+    let a = passed .before .before .before .before .before .before .before .before .before .before .before .before .before .before in
     let w = sized-whole (a .args .table .now) (a .pre) in
-    let p = c15 .pass-all .ensures .1 (not-false _ (c13 .if2 .left)) in
-    let n = c6 .none-are-twins .ensures .1 (not-false _ (c .before .before .before .before .before .if5 .left)) in
+    let p = passed .pass-all .ensures .1 (not-false _ (right .if2 .left)) in
+    let n = twins .none-are-twins .ensures .1 (not-false _ (single .if5 .left)) in
     (w .1, chains-none placeOf _ _ _ refl n (λ s l. getD-replicate 2048 s 0 0 l), ranked-none _ _ (p .text .long))
 
 returns-7 : tie.Need-returns-7
 returns-7 c =
-    let c9 = c .before .before .before .before .before .before .before .before .before in
-    let c12 = c9 .before .before .before in
-    let c16 = c12 .before .before .before .before in
-    let c24 = c16 .before .before .before .before .before .before .before .before in
-    let c26 = c24 .before .before in
-    let a = c26 .before .before .before in
+    let single = c .before .before .before .before .before .before in
+    let twins = single .before in
+    let all = twins .before .before in
+    let count = all .before .before in
+    let texts = count .before .before in
+    let right = texts .before .before .before in
+    let passed = right .before .before in
+    let fits = passed .before .before .before .before .before .before .before .before .before in
+    let laid = fits .before .before in
+    let a = laid .before .before .before in
     let g = a .args .gone .now in
     let t = a .args .table .now in
     let w = sized-whole t (a .pre) in
-    let l = c26 .lay-out .ensures .1 (omega arith) in
-    let p = c16 .pass-all .ensures .1 (not-false _ (c12 .before .before .if2 .left)) in
-    let n : allNamed (without g t) ≡ true = sym (c9 .before .are-named .ensures) ∙ not-false _ (c9 .if4 .left) in
-    let c6 = c .before .before .before .before .before .before in
-    let o : noTwins t ≡ true = sym (c6 .before .none-are-twins .ensures .0) ∙ not-false _ (c6 .if5 .left) in
-    c .crowd-all .ensures ∙ sym (passed-all g t (w .0) _ _ _ _ _ _ _ _ _ (l .0) p (c12 .if3 .left ∙ l .1) n o)
+    let l = laid .lay-out .ensures .1 (omega (arith, fits .if1 .left)) in
+    let p = passed .pass-all .ensures .1 (not-false _ (right .if2 .left)) in
+    let n : allNamed (without g t) ≡ true = counts-named g t (w .0) (w .1) _ (p .entries .naming) (p .right)
+    (sym (count .count-named .ensures) ∙ all .if4 .left ∙ l .2) in
+    let o : noTwins t ≡ true = sym (twins .none-are-twins .ensures .0) ∙ not-false _ (single .if5 .left) in
+    c .crowd-all .ensures ∙ sym (passed-all g t (w .0) _ _ _ _ _ _ _ _ _ (l .0) p (texts .if3 .left ∙ l .1) n o)
 
 pub is-sound-spec : {M : Type 1} → statement M
 is-sound-spec =
@@ -152,7 +175,7 @@ is-sound-spec =
     pass-all-requires
     returns-2
     returns-3
-    are-named-requires
+    count-named-requires
     returns-4
     none-are-twins-requires
     returns-5

@@ -5,7 +5,6 @@ use mathlib.Core.Path.{_≡_, sym, _∙_}
 use native.Mathlib.Omega.{arith}
 use borrow.Author.Count.{below-more}
 use borrow.Author.Tests.{not-true, not-false}
-use borrow.Author.Needs.{needs}
 use Rattle.judge_laws.specs.Mask.{without}
 use Rattle.judge_laws.specs.Shapes.{entryRight}
 use Rattle.paper.specs.Table.{rec}
@@ -14,11 +13,13 @@ use Rattle.judge.proofs.entry.entry_turn.Statement.{statement}
 use Rattle.judge.proofs.entry.entry_turn.Tie as tie
 
 is-entry-right-requires : tie.Need-is-entry-right-requires
-is-entry-right-requires c κs = search needs
+is-entry-right-requires c κs =
+    let a = c .before .before in
+    (a .pre .0, a .pre .1, a .pre .2, a .pre .4, a .pre .6)
 
 returns : tie.Need-returns
 returns c =
-    let a = c .before .before .before in (
+    let a = c .before .before .before .before in (
       λ f. refuted-entry (a .args .gone .now) (a .args .t .now) (a .pre .1) (a .args .i) (a .pre .0) (a .pre .3)
           (sym (c .before .is-entry-right .ensures) ∙ not-true _ (c .if1 .taken)),
       λ f. absurd (true≢false (sym f)),
@@ -26,7 +27,7 @@ returns c =
 
 hold-turn-requires : tie.Need-hold-turn-requires
 hold-turn-requires c κs =
-    let a = c .before .before .before .before in
+    let a = c .before .before .before .before .before in
     let t = a .args .t .now in
     let e : entryRight (without (a .args .gone .now) t) (rec t (a .args .i)) ≡ true = sym (c .before .before .is-entry-right .ensures)
     ∙ not-false _ (c .before .if1 .left) in (
@@ -38,7 +39,7 @@ hold-turn-requires c κs =
 
 returns-2 : tie.Need-returns-2
 returns-2 c =
-    let a = c .before .before .before .before .before .before in (
+    let a = c .before .before .before .before .before .before .before in (
       λ f. refuted-crowd (a .args .gone .now) (a .args .t .now) (a .pre .1) (c .before .hold-turn .ensures .0 (not-true _ (c .if2 .taken))),
       λ f. absurd (true≢false (sym f)),
     )
@@ -46,7 +47,7 @@ returns-2 c =
 name-turn-requires : tie.Need-name-turn-requires
 name-turn-requires c κs =
     let c4 = c .before .before .before .before in
-    let a = c4 .before .before .before in
+    let a = c4 .before .before .before .before in
     let t = a .args .t .now in
     let e : entryRight (without (a .args .gone .now) t) (rec t (a .args .i)) ≡ true = sym (c4 .before .is-entry-right .ensures)
     ∙ not-false _ (c4 .if1 .left) in
@@ -55,7 +56,7 @@ name-turn-requires c κs =
 
 chain-turn-requires : tie.Need-chain-turn-requires
 chain-turn-requires c κs =
-    let a = c .before .before .before .before .before .before .before .before .before .before in
+    let a = c .before .before .before .before .before .before .before .before .before .before .before in
     (a .pre .0, a .pre .2, a .pre .3, a .pre .5 .chains)
 
 returns-3 : tie.Need-returns-3
@@ -63,7 +64,7 @@ returns-3 c =
     let c3 = c .before .before .before in
     let c5 = c3 .before .before in
     let c8 = c5 .before .before .before in
-    let a = c8 .before .before .before in
+    let a = c8 .before .before .before .before in
     let t = a .args .t .now in
     let e : entryRight (without (a .args .gone .now) t) (rec t (a .args .i)) ≡ true = sym (c8 .before .is-entry-right .ensures)
     ∙ not-false _ (c8 .if1 .left) in (

@@ -72,15 +72,15 @@ returns-7 c =
     let r = rec (c14 .args .t .now) (c14 .args .i) in
     sym (heading-not r (λ (h : Heading r). true≢false (sym (h .gap) ∙ sym (c .before .are-zeros .ensures) ∙ not-true _ (c .if7 .taken))))
 
-are-zeros-requires-2 : tie.Need-are-zeros-requires-2
-are-zeros-requires-2 c κs = search needs
+are-twenty-zeros-requires : tie.Need-are-twenty-zeros-requires
+are-twenty-zeros-requires c κs = search needs
 
 returns-8 : tie.Need-returns-8
 returns-8 c =
     let c8 = c .before .before .before .before .before .before .before .before in
     let c16 = c8 .before .before .before .before .before .before .before .before in
     let r = rec (c16 .args .t .now) (c16 .args .i) in
-    sym (heading-not r (λ (h : Heading r). true≢false (sym (h .rest) ∙ sym (c .before .are-zeros2 .ensures) ∙ not-true _ (c .if8 .taken))))
+    sym (heading-not r (λ (h : Heading r). true≢false (sym (h .rest) ∙ sym (c .before .are-twenty-zeros .ensures) ∙ not-true _ (c .if8 .taken))))
 
 is-plain-requires : tie.Need-is-plain-requires
 is-plain-requires c κs = search needs
@@ -106,7 +106,7 @@ returns-9 c =
     (omega (arith, most .if5 .left, some .before .raw-of4 .ensures))
     (sym (mark .is-mark-right .ensures) ∙ not-false _ (zeros1 .before .if6 .left))
     (sym (zeros1 .are-zeros .ensures) ∙ not-false _ (zeros2 .before .if7 .left))
-    (sym (zeros2 .are-zeros2 .ensures) ∙ not-false _ (c .before .if8 .left)))
+    (sym (zeros2 .are-twenty-zeros .ensures) ∙ not-false _ (c .before .if8 .left)))
 
 pub is-heading-right-spec : {M : Type 1} → statement M
 is-heading-right-spec =
@@ -125,7 +125,7 @@ is-heading-right-spec =
     returns-6
     are-zeros-requires
     returns-7
-    are-zeros-requires-2
+    are-twenty-zeros-requires
     returns-8
     is-plain-requires
     returns-9)

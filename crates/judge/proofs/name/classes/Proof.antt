@@ -1,5 +1,5 @@
--- The classes from 33 on are set one by one, and then the two that may not be in a name are cleared.
--- Below 33 and past 95 none is set.
+-- The classes from 33 on are set one by one, and then those of zero and of the two that may not be in a name.
+-- Below 33 and past 95 all others are as they were.
 use mathlib.Core.Path.{_≡_, refl}
 use Prim.Native.Nat.{_-_, _≤_}
 use native.Mathlib.Omega.{arith}
@@ -15,7 +15,7 @@ abbrev μ-loop : tie.MeasureT-loop
 μ-loop class₀ b₀ class b = 96 - b
 
 loop-holds : tie.Need-loop-holds Inv-loop μ-loop
-loop-holds c = (ranged-none _ refl (λ x l. getD-replicate 256 x 0 0 l), omega arith, omega arith)
+loop-holds c = (ranged-none _ refl (λ x l. getD-replicate 256 x 2 0 l), omega arith, omega arith)
 
 array-write-class : tie.Need-array-write-class Inv-loop μ-loop
 array-write-class c = omega arith
@@ -37,6 +37,9 @@ array-write-class-2 c = omega arith
 array-write-class-3 : tie.Need-array-write-class-3 Inv-loop μ-loop
 array-write-class-3 c = omega arith
 
+array-write-class-4 : tie.Need-array-write-class-4 Inv-loop μ-loop
+array-write-class-4 c = omega arith
+
 returns : tie.Need-returns Inv-loop μ-loop
 returns c =
     let l = c .before .loop in
@@ -56,4 +59,5 @@ classes-spec =
     loop-again
     array-write-class-2
     array-write-class-3
+    array-write-class-4
     returns)

@@ -12,7 +12,7 @@ use Rattle.paper.specs.Record.{byte, isKind}
 use Rattle.paper.specs.Sound.{isBase}
 use Rattle.paper.specs.Table.{rec}
 use Rattle.judge_laws.proofs.Mask.{rec-stays}
-use Rattle.judge_laws.proofs.Pass.{basing-most, free-right, refuted, refuted-heading, passed-entry, passed-other, passed-gone, passed-heading, passed-free}
+use Rattle.judge_laws.proofs.Pass.{basing-most, free-right, refuted, refuted-heading, passed-entry, passed-other, passed-gone, passed-heading, passed-free, found}
 use Rattle.judge_laws.proofs.TextTurns.{texts-most}
 use Rattle.judge.proofs.pass.turn.Statement.{statement}
 use Rattle.judge.proofs.pass.turn.Tie as tie
@@ -23,8 +23,15 @@ raw-of-requires c κs = search needs
 entry-turn-requires : tie.Need-entry-turn-requires
 entry-turn-requires c κs =
     let c4 = c .before .before .before .before in
-    let a = c4 .before .before .before in
-    (a .pre .0, a .pre .1, a .pre .2, eq-eqb _ _ (sym (c4 .before .raw-of .ensures) ∙ c4 .if1 .taken), a .pre .3, a .pre .5 .entries)
+    let a = c4 .before .before .before in (
+      a .pre .0,
+      a .pre .1,
+      a .pre .2,
+      eq-eqb _ _ (sym (c4 .before .raw-of .ensures) ∙ c4 .if1 .taken),
+      a .pre .3,
+      a .pre .5 .entries,
+      found (a .args .gone .now) (a .args .t .now) (a .pre .1) (a .args .held .now) (a .args .i) (a .pre .5 .entries .holding) (a .pre .5 .right),
+    )
 
 base-of-requires : tie.Need-base-of-requires
 base-of-requires c κs = search needs
