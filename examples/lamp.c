@@ -112,13 +112,13 @@ static int filed(struct sheet sheet)
 
 static const struct sheet board[] = {{"LIMITS", "MIN 4.9 V MAX 5.1 V 10 MA"}, {"KEYS", "A7 3F"}, {"SETTINGS", "FAST"}};
 
-/* Heading, text and entry of each; the first text, of 25 bytes, has two records. */
+/* Heading, text and entry of each, then its count and that of .R; the first text, of 25 bytes, has two records. */
 static int green(void)
 {
     struct filebox_lamp lamp = light(board, 3, FILEBOX_NO_STOP);
     tell("the board", lamp);
     /* each text was read back over the front of what the last one left */
-    return shows(lamp, FILEBOX_GREEN, 0, 0, 0, 10) && back_is("FASTF.9 V MAX 5.1 V 10 MA") && filed(board[0]) && filed(board[1]) &&
+    return shows(lamp, FILEBOX_GREEN, 0, 0, 0, 16) && back_is("FASTF.9 V MAX 5.1 V 10 MA") && filed(board[0]) && filed(board[1]) &&
            filed(board[2]);
 }
 
@@ -128,7 +128,7 @@ static int red(void)
     const struct sheet job[] = {{"LIMITS", "MIN 4.8 V"}, {"OLD", "NONE"}, {"KEYS", "00"}};
     struct filebox_lamp lamp = light(job, 3, FILEBOX_NO_STOP);
     tell("a sheet over a directory", lamp);
-    return shows(lamp, FILEBOX_RED, 2, FILEBOX_FILING, FILEBOX_PEOPLED, 6) && back_is("") && filed(job[0]) && filed(board[1]);
+    return shows(lamp, FILEBOX_RED, 2, FILEBOX_FILING, FILEBOX_PEOPLED, 8) && back_is("") && filed(job[0]) && filed(board[1]);
 }
 
 static int refused(void)
@@ -156,12 +156,12 @@ static int cut(void)
         return 0;
     lamp = light(job, 2, FILEBOX_NO_STOP);
     tell("the same job again", lamp);
-    return shows(lamp, FILEBOX_GREEN, 0, 0, 0, 10) && filed(job[0]) && filed(job[1]);
+    return shows(lamp, FILEBOX_GREEN, 0, 0, 0, 14) && filed(job[0]) && filed(job[1]);
 }
 
 int main(void)
 {
-    if (!granted(ask("CRD .R"), 0, 2) || !granted(ask("CRD .R:OLD"), 0, 2) || !granted(ask("CRD .R:OLD:BOARD6"), 0, 2))
+    if (!granted(ask("CRD .R"), 0, 3) || !granted(ask("CRD .R:OLD"), 0, 4) || !granted(ask("CRD .R:OLD:BOARD6"), 0, 4))
         return wrong("three directories");
     if (!green())
         return wrong("green");

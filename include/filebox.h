@@ -1,8 +1,8 @@
 /*
  * The file box: nine functions and mending over a table that the caller lends (document 01, "Records, requests and replies of the file
- * box") with gives and takes between users (document 02, request g), and the lamp, which files the sheets of a job and reads each back
- * (request m). Link with libfilebox_c.a, which `rt staticlib filebox_c` writes for x86-64; it keeps nothing between calls, allocates
- * nothing, and needs of the C library at most memcpy, memmove and memset.
+ * box") with gives and takes between users (document 02, request g) and counts in its headings (request c), and the lamp, which files the
+ * sheets of a job and reads each back (request m). Link with libfilebox_c.a, which `rt staticlib filebox_c` writes for x86-64; it keeps
+ * nothing between calls, allocates nothing, and needs of the C library at most memcpy, memmove and memset.
  *
  * The functions are proved for every table, line, text, reply buffer, sheets, texts, read-back buffer, chain, user and stop number:
  * whatever the bytes are, a call returns, with one of the numbers below. The proof begins where C hands its arguments over, so these the
@@ -101,6 +101,11 @@ struct filebox_answer {
  * blanks more in front for each level. Another digit gets 9. A directory that holds itself is shown again at each level; where the lines are
  * longer than reply, 20, told before anything is written and without counting them to their end. No reply length is enough for every tree.
  *
+ * A heading keeps how many entries name it (bytes 12 and 13, the low byte first) and, for a directory, how many it holds (bytes 14 and
+ * 15). After the store of its entry, and before it clears anything, a request stores each heading whose counts that made untrue: of the file
+ * named, of the file displaced, of the directory. So CRD .R takes 3 stores. CHN, DPR and WRS* store no count. A table whose counts are not
+ * true is not sound (2).
+ *
  * WRS* M name rewrites a simple file of lifetime M: text becomes its content, for every entry that names it, and its heading stays in its
  * place, with its level and codes. It needs write on the file, and nothing of the directory; its room is the free records and those of the
  * old text. While it is under way the file is marked (byte 5 of its heading is 1) and has length 0. A file that a cut left marked is
@@ -118,7 +123,8 @@ struct filebox_answer filebox_request(uint8_t *table, size_t table_length, const
 
 /*
  * Mending, after a power cut: clears every heading that no entry names, then every text record whose heading is not a simple file's, or is
- * marked. A mark stays. A sound table is left as it is.
+ * marked; then corrects the counts of the headings that are left, a store for each that has an untrue one. A mark stays. A sound table is
+ * left as it is. A table of document 01, which has no counts, is brought up to date by one mend.
  *
  * Done (0): the table is sound. Refused (1, 2): it is as lent. Stopped (22): the first stop stores stand, and a mend cut anywhere and run
  * again ends as an uncut one. place, link, names, displaced and bytes are 0.
@@ -195,7 +201,8 @@ struct filebox_lamp filebox_lamp(uint8_t *table, size_t table_length, const uint
  *
  * Within a phase any order will do. Whatever part of the unflushed phase is on the disk when the power fails, filebox_mend then answers 0
  * and gives, byte for byte, the table before the request or the table after it: after it once the record of phase 2 is there. A phase
- * without records needs no flush. A DEL of several names is written name by name; a mend writes what it clears in any order.
+ * without records needs no flush. A DEL of several names is written name by name; a mend writes what it clears and counts in any order.
+ * Counts need no flush of their own: a heading of which they alone are others may be written at any time.
  *
  * A WRS* has phases of its own, which the tables before and after do not tell, since old and new text may share a record. With n the stores
  * of its answer, write the records that differ between the table before and the one at stop number 1 (the heading, marked), a flush, those
@@ -204,9 +211,9 @@ struct filebox_lamp filebox_lamp(uint8_t *table, size_t table_length, const uint
  */
 enum filebox_disk_phase {
     FILEBOX_SAME = 0,  /* nothing to write */
-    FILEBOX_FIRST = 1, /* free before, and no entry after: a new file's heading and text */
+    FILEBOX_FIRST = 1, /* free before, and no entry after: a new file's heading, with its count as it is after, and text */
     FILEBOX_ENTRY = 2, /* an entry before or after, or, for DPR, the heading: the write that counts */
-    FILEBOX_LAST = 3   /* free after: what was displaced or deleted */
+    FILEBOX_LAST = 3   /* free after: what was displaced or deleted; or a heading of which the counts alone are others */
 };
 
 /*

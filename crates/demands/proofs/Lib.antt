@@ -7,8 +7,10 @@ pub mod MendAnswered
 pub mod Stops
 -- a sound table stays sound: `sound-kept`
 pub mod SoundKept
--- mending: `mend-nothing`, `mend-sound`, `mend-enough`, `mend-again`
+-- mending: `mend-nothing`, `mend-sound`, `mend-enough`, `mend-again`, `mended-true`, `brought-up`
 pub mod Mending
+-- the counts after an entry's store: `three`, `recounts-few`, `named-after`, `held-after`; and what they tell: `lost-count`
+pub mod Recounting
 -- demand 3: `demand-three`
 pub mod PowerCut
 -- the listing: `directory-listing`, `base-listing`

@@ -2,10 +2,13 @@
 -- has the end of the table that it began with; a sound table has nothing to mend.
 pub mod Wipe
 pub mod Part
+pub mod Counts
 pub mod Less
 pub mod Squeeze
 pub mod Debris
 pub mod Again
+-- a table of document 01
+pub mod Updated
 use mathlib.Core.Bool.{true, false}
 use mathlib.Core.List.{List, []}
 use mathlib.Core.Logic.{_⊎_, inl, inr}
@@ -18,17 +21,23 @@ use borrow.Author.Tests.{eqb-true, le-leb}
 use Rattle.paper.specs.Table.{sized}
 use Rattle.paper.specs.Check as paper
 use Rattle.paper.specs.Check.{Verdict, passed, refused, verdict}
-use Rattle.paper.specs.Sound.{sound}
+use Rattle.paper.specs.Sound.{countsTrue, sound}
 use Rattle.paper.specs.Store.{run}
-use Rattle.paper.specs.Mend.{mendStores, mended}
+use Rattle.paper.specs.Mend.{cleared, mendStores, mended}
 use Rattle.paper.specs.Answer.{Outcome, plain, mendable, mendRun, mending}
 use Rattle.laws.proofs.Tests.{truth, and-left}
 use Rattle.laws.proofs.Lay.{Whole}
 use Rattle.laws.proofs.Runs.{length-run}
-use Rattle.demands.proofs.Sound.Clauses.{sound-clauses}
-use Rattle.demands.proofs.Mending.Debris.{nothing-to-mend, mended-kept, sound-keeps, mended-sound}
-use Rattle.demands.proofs.Mending.Again.{again}
+use Rattle.demands.proofs.Sound.Right.{sound-right}
+use Rattle.demands.proofs.Mending.Wipe.{mended-is}
+use Rattle.demands.proofs.Mending.Counts.{recounts-true}
+use Rattle.demands.proofs.Mending.Debris.{nothing-to-mend, mended-kept, sound-keeps}
+use Rattle.demands.proofs.Mending.Again.{again, mended-twice}
 use Rattle.demands.proofs.MendAnswered.{MendCame, unsized, unsound, whole, cutOff, mend-came, mend-answered}
+
+-- after every mend the counts are true
+pub mended-true : (t : List ℕ) → countsTrue (mended t) ≡ true
+mended-true t = rw (mended-is t) (recounts-true (cleared t))
 
 -- a mend that is not cut
 abbrev pub mendedWhole : List ℕ → Outcome
@@ -60,7 +69,7 @@ pub mend-nothing : (t : List ℕ) (k : ℕ) → sized t ≡ true → sound t ≡
     → mending t k ≡ record { answer = plain 0 (paper.whole 0) 0 0; table = t; reply = [] }
 unfolding mending mendable verdict run
 mend-nothing t k s e =
-    let c = sound-keeps t (sound-clauses t s e) in
+    let c = sound-keeps t (sound-right t s e) in
     rw (mended-kept t c, s, e, nothing-to-mend t c, le-leb 0 k (omega arith))
 
 -- the table and the number where the stop number is not reached
@@ -105,7 +114,7 @@ module _ (t : List ℕ) (k : ℕ) where
       go : MendCame t k (mending t k) → mended (mending t k .table) ≡ mended t
       go (unsized a e) = rw e
       go (unsound a b e) = rw e
-      go (whole a b m e) = rw e (mended-sound (mended t) (sound-clauses (mended t) (sized-mended t a) b))
+      go (whole a b m e) = rw e (mended-twice t (size a))
       go (cutOff a b m e) = rw e (again t (size a) k)
 
   same-verdict : mendable (mending t k .table) ≡ mendable t

@@ -22,14 +22,14 @@ use Rattle.paper.specs.Sound.{sound}
 use Rattle.paper.specs.Walk.{State, start, file, End, arrived, astray, ended}
 use Rattle.paper.specs.Block.{fileText}
 use Rattle.paper.specs.Store.{run}
-use Rattle.paper.specs.Effect.{Plan, Planned, plan, inward, chainOf, endOf, listOf, begun, readInhibited, notSimple, tooShort, isMarked, beyondEnd, part, rdsPlan}
+use Rattle.paper.specs.Effect.{Plan, plan, inward, chainOf, endOf, listOf, begun, readInhibited, notSimple, tooShort, isMarked, beyondEnd, part, rdsPlan}
 use Rattle.paper.specs.Answer.{Outcome, granting, ran, single, granted, entrance, admitted, requested}
 use Rattle.laws.proofs.Tests.{clash}
 use Rattle.laws.proofs.Lists.{Every}
 use Rattle.demands.proofs.Request.Fair.{Idle, fair-some, verdict-idle}
 use Rattle.demands.proofs.Request.Chains.{namesAt}
 use Rattle.demands.proofs.Request.Ended.{Passed, ran-by}
-use Rattle.demands.proofs.Request.Course.{Course, untried, tried, Admitted, course, admits}
+use Rattle.demands.proofs.Request.Course.{Course, untried, tried, course, admits}
 use Rattle.demands.proofs.Answered.Numbered.{fair-refused, fair-rdsPlan}
 
 -- ---- parts of a text

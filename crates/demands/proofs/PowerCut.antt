@@ -25,7 +25,7 @@ use Rattle.paper.specs.Store.{run}
 use Rattle.paper.specs.Effect.{Planned, chainOf, emptied, rewritePlan}
 use Rattle.paper.specs.Mend.{mendStores, mended}
 use Rattle.paper.specs.Answer.{Outcome, ran, single, granted, requested, mending}
-use Rattle.demands.proofs.Sound.Clauses.{Sound, sound-clauses, clauses-sound}
+use Rattle.demands.proofs.Sound.Right.{Right, sound-right, right-sound}
 use Rattle.demands.proofs.Mending.Debris.{mended-sound}
 use Rattle.demands.proofs.Mending.{mendedWhole, mend-whole}
 use Rattle.demands.proofs.Tried.{Tried, lent, by-plan, by-names, by-rewrite, ways}
@@ -56,7 +56,7 @@ pub data Lands (t line text reply : List ℕ) (u : ℕ) (x : List ℕ) : Type 0 
 
 -- a cut at k, mended, is sound and lands
 record Landed (t line text reply : List ℕ) (u k : ℕ) : Type 0 where
-  sound : Sound (mended (requested t line text reply u k .table))
+  sound : Right (mended (requested t line text reply u k .table))
   lands : Lands t line text reply u (mended (requested t line text reply u k .table))
 
 -- the stop number that cuts the request, and mending after it
@@ -65,7 +65,7 @@ pub record Harmless (t line text reply : List ℕ) (u k : ℕ) : Type 0 where
   pub answers : (j : ℕ) → length (mendStores (requested t line text reply u k .table)) ≤ j
       → mending (requested t line text reply u k .table) j ≡ mendedWhole (requested t line text reply u k .table)
 
-landed : (t line text reply : List ℕ) (u k : ℕ) → Sound t → Landed t line text reply u k
+landed : (t line text reply : List ℕ) (u k : ℕ) → Right t → Landed t line text reply u k
 landed t line text reply u k c = go (ways t line text reply u)
   where
     alone : (x : Planned) {y : List ℕ} → ((k : ℕ) → requested t line text reply u k ≡ single t reply k (ran k x))
@@ -109,8 +109,8 @@ landed t line text reply u k c = go (ways t line text reply u)
 -- the demand: every sound table, line, text, reply, user and stop number
 pub demand-three : (t line text reply : List ℕ) (u k : ℕ) → sized t ≡ true → sound t ≡ true → Harmless t line text reply u k
 demand-three t line text reply u k s e =
-    let d = landed t line text reply u k (sound-clauses t s e) in
-    let f = clauses-sound (mended (requested t line text reply u k .table)) (d .sound) in
+    let d = landed t line text reply u k (sound-right t s e) in
+    let f = right-sound (mended (requested t line text reply u k .table)) (d .sound) in
     record { lands = d .lands; answers = λ j. mend-whole (requested t line text reply u k .table) j (f .0) (f .1) }
 
 -- the table after is the table of every outcome that is not 22

@@ -1,7 +1,7 @@
 -- "Codes join as always, so nobody receives more than the giver's entry has": the new entry of a DUP has every bit of the entry followed, since
--- its code is joined with that; it names the same heading, which stays, so what applies by the one contains what applied by the other.
+-- its code is joined with that; it names the same heading, whose code stays, so what applies by the one contains what applied by the other.
 use mathlib.Core.Bool.{Bool, true, false, _&&_, not, cond, true≢false}
-use mathlib.Core.List.{List, [], _∷_}
+use mathlib.Core.List.{List, [], _∷_, _++_}
 use mathlib.Core.Logic.{_⊎_, inl, inr, _≢_}
 use mathlib.Core.Path.{_≡_, refl, sym, ap, _∙_}
 use Prim.Native.Nat.{ℕ, _≤_, _<_}
@@ -22,7 +22,8 @@ use Rattle.paper.specs.Sound.{sound}
 use Rattle.paper.specs.Block.{blocksOf}
 use Rattle.paper.specs.Walk.{State, start, applies, file, reached, toDirectory, toLast, lastName}
 use Rattle.paper.specs.Store.{puts, clear, run}
-use Rattle.paper.specs.Effect.{listOf, begun, Plan, Planned, plan, halted, chainOf, endOf, Making, isFound, borne, placing, needed, displacing, freed, lost, settled, writeInhibited, linkTaken, linking, making, dupPlan}
+use Rattle.paper.specs.Count.{recounts}
+use Rattle.paper.specs.Effect.{listOf, begun, Plan, Planned, plan, halted, chainOf, endOf, Making, isFound, borne, placing, needed, displacing, freed, withCounts, lost, settled, writeInhibited, linkTaken, linking, making, dupPlan}
 use Rattle.paper.specs.Answer.{Outcome, ran, single, granted, entrance, admitted, requested}
 use Rattle.laws.proofs.Tests.{and-both, not-both, clash}
 use Rattle.laws.proofs.Scans.{all-true, any-here}
@@ -31,7 +32,7 @@ use Rattle.laws.proofs.Fields.{entry-record-kind, entry-heading, length-entry}
 use Rattle.laws.proofs.Fields as F
 use Rattle.laws.proofs.Entries.{found-stands}
 use Rattle.laws.proofs.Lay.{length-blank, lay-same, lay-other, rooms-lay, within, kinds-apart}
-use Rattle.laws.proofs.Runs.{Lays, run-each}
+use Rattle.laws.proofs.Runs.{Lays, run-each, run-append, rooms-run}
 use Rattle.laws.proofs.Rooms.{room-below, room-kind}
 use Rattle.demands.proofs.Sound.Clauses.{Sound, sound-clauses, entry-code}
 use Rattle.demands.proofs.Request.Chains.{namesAt}
@@ -44,6 +45,8 @@ use Rattle.demands.proofs.Request.Steps.{Walks, holder-by, end-by}
 use Rattle.demands.proofs.Request.Walked.{Reached, walk-reached}
 use Rattle.demands.proofs.Request.Ended.{Refused, walking, checked, Passed, ran-by}
 use Rattle.demands.proofs.SoundKept.Freed.{text-found}
+use Rattle.demands.proofs.Mending.Part.{Alike}
+use Rattle.demands.proofs.Mending.Counts.{alike-byte, alike-same, recounts-each}
 use Rattle.demands.proofs.Answered.Numbered.{fair-refused, fair-dupPlan}
 
 -- ---- codes
@@ -122,11 +125,13 @@ module _ (t : List ℕ) (c : Sound t) (d f g : State) (new : Word) (code : Part)
   has-code : entryCode entry ≡ j
   has-code = F.entry-code j (d .holder .heading) h (d .holder .user) (lastName (chainOf new))
 
-  -- where the entry stands and the heading stays
-  handed : (s : List ℕ) (e : ℕ) → rec s e ≡ entry → rec s h ≡ rec t h → Handed t f s e
+  -- where the entry stands and the heading stays, but for its counts
+  handed : (s : List ℕ) (e : ℕ) → Alike entry (rec s e) → Alike (rec t h) (rec s h) → Handed t f s e
   unfolding applies
-  handed s e p q =
+  handed s e x y =
       let m = entry-code (rec t (f .entry)) (r .own) in
+      let p : rec s e ≡ entry = alike-same entry (rec s e) x (rw is-entry) in
+      let q : byte (rec s h) 3 ≡ byte (rec t h) 3 = alike-byte (rec t h) (rec s h) y 3 (omega arith) in
       record {
         kind = rw p is-entry;
         names = rw p names-h;
@@ -134,11 +139,28 @@ module _ (t : List ℕ) (c : Sound t) (d f g : State) (new : Word) (code : Part)
         applies = rw (p, names-h, q, has-code) (joined-keeps _ _ _ (r .fields .code) m b);
       }
 
-  in-free : (e : ℕ) → e < rooms t → byte (rec t e) 0 ≡ 0 → Handed t f (run t (puts e entry ∷ [])) e
+  -- the entry laid in a record that is no heading, and the counts corrected
+  module _ (e : ℕ) (l : e < rooms t) (o : h ≢ e) where
+    abbrev laid : List ℕ
+    laid = lay t e entry
+
+    abbrev told : List ℕ
+    told = run laid (recounts laid)
+
+    rooms-told : rooms told ≡ rooms t
+    rooms-told = rooms-run laid (recounts laid) ∙ rooms-lay t e entry
+
+    alike : (i : ℕ) → i < rooms t → Alike (rec laid i) (rec told i)
+    alike i m = recounts-each laid i (rw (rooms-lay t e entry) m)
+
+    -- whatever is done then to other records
+    handed-by : (s : List ℕ) → rec s e ≡ rec told e → rec s h ≡ rec told h → Handed t f s e
+    handed-by s p q =
+        handed s e (rw p (rw (lay-same t e entry size l) at (alike e l))) (rw q (rw (lay-other t e entry h size o (r .within)) at (alike h (r .within))))
+
+  in-free : (e : ℕ) → e < rooms t → byte (rec t e) 0 ≡ 0 → Handed t f (run t (withCounts t (puts e entry ∷ []))) e
   unfolding run
-  in-free e l k =
-      handed (lay t e entry) e (lay-same t e entry size l)
-      (lay-other t e entry h size (kinds-apart t h e 1 0 (r .heading) k (omega arith)) (r .within))
+  in-free e l k = handed-by e l (kinds-apart t h e 1 0 (r .heading) k (omega arith)) (told e l (kinds-apart t h e 1 0 (r .heading) k (omega arith))) refl refl
 
   -- over an entry: what is cleared then is neither the entry nor the heading, which it names
   module _ (e : ℕ) (l : e < rooms t) (k : byte (rec t e) 0 ≡ 2) where
@@ -154,17 +176,20 @@ module _ (t : List ℕ) (c : Sound t) (d f g : State) (new : Word) (code : Part)
         any-here (λ i. names h (rec (lay t e entry) i)) (rooms (lay t e entry)) e (rw (rooms-lay t e entry) l)
         (rw (lay-same t e entry size l) (and-both (isKind 2 entry) _ (eq-eqb _ _ is-entry) (eq-eqb _ _ names-h)))
 
-    spared : Every (Lays Besides (rooms (lay t e entry))) (settled t e entry)
+    o : h ≢ e
+    o = kinds-apart t h e 1 2 (r .heading) k (omega arith)
+
+    spared : Every (Lays Besides (rooms (told e l o))) (settled t e entry)
     unfolding settled freed lost
     spared = go (lost t e entry) refl
       where
         one : byte (rec t lost-heading) 0 ≡ 1
         one = c .targets e l k
 
-        in-table : (i : ℕ) → i < rooms t → i < rooms (lay t e entry)
-        in-table i m = rw (rooms-lay t e entry) m
+        in-table : (i : ℕ) → i < rooms t → i < rooms (told e l o)
+        in-table i m = rw (rooms-told e l o) m
 
-        text : (p : ℕ) → p < blocksOf t lost-heading → Lays Besides (rooms (lay t e entry)) (clear (textRoom t lost-heading p))
+        text : (p : ℕ) → p < blocksOf t lost-heading → Lays Besides (rooms (told e l o)) (clear (textRoom t lost-heading p))
         text p m =
             let x = text-found 65535 t lost-heading c one p m in
             record {
@@ -173,7 +198,7 @@ module _ (t : List ℕ) (c : Sound t) (d f g : State) (new : Word) (code : Part)
               holds = (kinds-apart t _ e 3 2 (x .1 .kind) k (omega arith), kinds-apart t _ h 3 1 (x .1 .kind) (r .heading) (omega arith));
             }
 
-        go : (y : Bool) → lost t e entry ≡ y → Every (Lays Besides (rooms (lay t e entry))) (cond y (freed t lost-heading) [])
+        go : (y : Bool) → lost t e entry ≡ y → Every (Lays Besides (rooms (told e l o))) (cond y (freed t lost-heading) [])
         go false q = tt
         go true q = (
           record {
@@ -188,22 +213,22 @@ module _ (t : List ℕ) (c : Sound t) (d f g : State) (new : Word) (code : Part)
         )
 
     abbrev after : List ℕ
-    after = run (lay t e entry) (settled t e entry)
+    after = run (told e l o) (settled t e entry)
 
-    -- after that each record is as the entry left it, or is another
-    each : (i : ℕ) → i < rooms t → (rec after i ≡ rec (lay t e entry) i) ⊎ Besides i (rec after i)
-    each i m = run-each Besides (lay t e entry) (settled t e entry) spared i (rw (rooms-lay t e entry) m)
+    -- after that each record is as the counts left it, or is another
+    each : (i : ℕ) → i < rooms t → (rec after i ≡ rec (told e l o) i) ⊎ Besides i (rec after i)
+    each i m = run-each Besides (told e l o) (settled t e entry) spared i (rw (rooms-told e l o) m)
 
-    over : Handed t f (run t (puts e entry ∷ settled t e entry)) e
+    over : Handed t f (run t (withCounts t (puts e entry ∷ []) ++ settled t e entry)) e
     unfolding run
-    over = handed after e (at-e (each e l)) (at-h (each h (r .within)))
+    over = rw (run-append t (withCounts t (puts e entry ∷ [])) (settled t e entry)) (handed-by e l o after (at-e (each e l)) (at-h (each h (r .within))))
       where
-        at-e : (rec after e ≡ rec (lay t e entry) e) ⊎ Besides e (rec after e) → rec after e ≡ entry
-        at-e (inl q) = q ∙ lay-same t e entry size l
+        at-e : (rec after e ≡ rec (told e l o) e) ⊎ Besides e (rec after e) → rec after e ≡ rec (told e l o) e
+        at-e (inl q) = q
         at-e (inr q) = absurd (q .0 refl)
 
-        at-h : (rec after h ≡ rec (lay t e entry) h) ⊎ Besides h (rec after h) → rec after h ≡ rec t h
-        at-h (inl q) = q ∙ lay-other t e entry h size (kinds-apart t h e 1 2 (r .heading) k (omega arith)) (r .within)
+        at-h : (rec after h ≡ rec (told e l o) h) ⊎ Besides h (rec after h) → rec after h ≡ rec (told e l o) h
+        at-h (inl q) = q
         at-h (inr q) = absurd (q .1 refl)
 
 -- ---- the plan, and the request

@@ -18,7 +18,7 @@ use Rattle.paper.specs.Line.{Word}
 use Rattle.paper.specs.Request.{Begin, rds, rewrite, request, asked}
 use Rattle.paper.specs.Code.{noRead}
 use Rattle.paper.specs.Block.{blocks, block, blocksOf, fileText}
-use Rattle.paper.specs.Sound.{sound}
+use Rattle.paper.specs.Sound.{countsTrue, sound}
 use Rattle.paper.specs.Walk.{State, start, file, reached, toDirectory, toLast, arrived, ended}
 use Rattle.paper.specs.Store.{Store, run}
 use Rattle.paper.specs.Effect.{Plan, Planned, chainOf, listOf, begun, emptied, rewriting, part, rewritePlan}
@@ -30,7 +30,8 @@ use Rattle.laws.proofs.Rewritten.{rewritten-byte, rewritten-mark}
 use Rattle.laws.proofs.Entries.{typed-by, text-by}
 use Rattle.laws.proofs.Runs.{rooms-run}
 use Rattle.laws.proofs.Blocks.{join-blocks}
-use Rattle.demands.proofs.Sound.Clauses.{Sound, sound-clauses, clauses-sound}
+use Rattle.demands.proofs.Sound.Clauses.{Sound}
+use Rattle.demands.proofs.Sound.Right.{Right, sound-right, right-sound}
 use Rattle.demands.proofs.Request.Fair.{fair-some}
 use Rattle.demands.proofs.Request.Read.{Told}
 use Rattle.demands.proofs.Request.Chains.{namesAt}
@@ -40,6 +41,7 @@ use Rattle.demands.proofs.Answered.Numbered.{fair-refused, fair-rewrite
 use Rattle.demands.proofs.SoundKept.Freed.{room-only}
 use Rattle.demands.proofs.SoundKept.Emptied.{size-h, head-type, emptied-heading, emptied-retexted, emptied-sound}
 use Rattle.demands.proofs.SoundKept.Refilled.{Rewrite, room-in, text-laid, heading-there, last-kind, last-length, text-at, once-there, refilled, refilled-sound}
+use Rattle.demands.proofs.SoundKept.Told.{refilled-true}
 use Rattle.demands.proofs.SoundKept.Rewriting.{length-rewriting, rewrite-granted}
 use Rattle.demands.proofs.Parts.{Holds, bringing, Granted, grantedText, part-read}
 use Rattle.demands.proofs.Rewrites.Paths.{arrived-entry, entry-stays, ended-same}
@@ -103,8 +105,11 @@ module _ (t line text reply : List ℕ) (u j : ℕ) (name : Word) (c : Sound t) 
 
 module _ (t line text reply : List ℕ) (u j : ℕ) (name : Word) (s : sized t ≡ true) (e : sound t ≡ true)
     (a : asked line text ≡ request (rewrite name)) (z : requested t line text reply u j .answer .number ≡ 0) where
+  right : Right t
+  right = sound-right t s e
+
   c : Sound t
-  c = sound-clauses t s e
+  c = right .clauses
 
   pub rewrote : Rewrote t line text reply u j name
   unfolding granted
@@ -142,9 +147,10 @@ module _ (t line text reply : List ℕ) (u j : ℕ) (name : Word) (s : sized t �
       let g = rewrote in
       let h : ℕ = file t (g .end) in
       record {
-        none = rw (g .tables 0) (cut-first t h text c (g .fit));
-        some = λ k l m. rw (g .tables k, g .table) (cut-half t h text c (g .fit) k l (rw (g .stores) at m) ∙ sym (emptied-again t h text c (g .fit)));
-        all = λ k l. rw (g .tables k, g .table) (cut-last t h text c (g .fit) k (rw (g .stores) at l));
+        none = rw (g .tables 0) (cut-first t h text c (g .fit) (right .counts));
+        some = λ k l m. rw (g .tables k, g .table) (
+            cut-half t h text c (g .fit) (right .counts) k l (rw (g .stores) at m) ∙ sym (emptied-again t h text c (g .fit)));
+        all = λ k l. rw (g .tables k, g .table) (cut-last t h text c (g .fit) (right .counts) k (rw (g .stores) at l));
       }
 
 -- ---- "every link to them should see the new text"
@@ -200,9 +206,9 @@ module _ (t : List ℕ) (h : ℕ) (new : List ℕ) (c : Sound t) (w : Rewrite t 
 
   -- whoever could read the file before reads the new text, or the part of it that he asks for
   reads-new : (v : ℕ) (from : Begin) (name : Word) (first count : Part) (line text reply : List ℕ) (k : ℕ)
-      → asked line text ≡ request (rds from name first count) → v ≤ 999999 → Leads t v h from name → Holds new reply first count
+      → countsTrue t ≡ true → asked line text ≡ request (rds from name first count) → v ≤ 999999 → Leads t v h from name → Holds new reply first count
       → requested g line text reply v k ≡ bringing g (part new first count) reply
-  reads-new v from name first count line text reply k a l p m =
+  reads-new v from name first count line text reply k e a l p m =
       let q : grantedText g v from name granted-g ≡ new = ap (fileText g) at-h ∙ new-text in
       part-read g line text reply v k from name first count a granted-g (rw q m) ∙ rw q
     where
@@ -211,7 +217,7 @@ module _ (t : List ℕ) (h : ℕ) (new : List ℕ) (c : Sound t) (w : Rewrite t 
 
       granted-g : Granted g v from name
       granted-g =
-          let z = clauses-sound g sound-g in
+          let z = right-sound g (record { clauses = sound-g; counts = refilled-true t h new c w e }) in
           record {
             sized = z .0;
             sound = z .1;
@@ -241,4 +247,5 @@ pub rewrite-read : (t line text reply : List ℕ) (u j : ℕ) (name : Word) (s :
 unfolding the-file
 rewrite-read t line text reply u j name s e a z v from path first count l x back k b m p n =
     let g = rewrote t line text reply u j name s e a z in
-    rw (g .table) (reads-new t (file t (g .end)) text (sound-clauses t s e) (g .fit) v from path first count l x back k b m p n)
+    let right = sound-right t s e in
+    rw (g .table) (reads-new t (file t (g .end)) text (right .clauses) (g .fit) v from path first count l x back k (right .counts) b m p n)

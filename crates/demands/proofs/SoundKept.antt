@@ -19,6 +19,10 @@ pub mod Renamed
 pub mod Retexted
 pub mod Emptied
 pub mod Refilled
+-- the counts: alike but for them, true again, and kept
+pub mod Counted
+pub mod Recounted
+pub mod Told
 -- each function keeps it
 pub mod Kept
 pub mod Keeping
@@ -31,7 +35,7 @@ use Rattle.paper.specs.Table.{sized}
 use Rattle.paper.specs.Sound.{sound}
 use Rattle.paper.specs.Effect.{rewritePlan}
 use Rattle.paper.specs.Answer.{requested}
-use Rattle.demands.proofs.Sound.Clauses.{Sound, sound-clauses, clauses-sound}
+use Rattle.demands.proofs.Sound.Right.{Right, sound-right, right-sound}
 use Rattle.demands.proofs.SoundKept.Kept.{single-sound, deleting-sound}
 use Rattle.demands.proofs.SoundKept.Rewriting.{rewrite-keeps}
 use Rattle.demands.proofs.Tried.{Tried, lent, by-plan, by-names, by-rewrite, ways}
@@ -39,14 +43,14 @@ use Rattle.demands.proofs.Stops.{Uncut}
 
 pub sound-kept : (t line text reply : List ℕ) (u k : ℕ) → sized t ≡ true → sound t ≡ true → Uncut (requested t line text reply u k)
     → (sized (requested t line text reply u k .table) ≡ true) × (sound (requested t line text reply u k .table) ≡ true)
-sound-kept t line text reply u k s e a = clauses-sound (requested t line text reply u k .table) (go (ways t line text reply u))
+sound-kept t line text reply u k s e a = right-sound (requested t line text reply u k .table) (go (ways t line text reply u))
   where
-    c : Sound t
-    c = sound-clauses t s e
+    c : Right t
+    c = sound-right t s e
 
-    go : Tried t line text reply u → Sound (requested t line text reply u k .table)
+    go : Tried t line text reply u → Right (requested t line text reply u k .table)
     go (lent f q) = rw (q k) c
     go (by-plan x safe keeps q) = rw (q k) (single-sound t reply k c x keeps (rw (q k) at a))
     go (by-names names d q) = rw (q k) (deleting-sound names t u reply k 0 0 c (rw (q k) at a))
     go (by-rewrite name d b q) =
-        rw (q k) (single-sound t reply k c (rewritePlan t u text name) (rewrite-keeps t c u text name b) (rw (q k) at a))
+        rw (q k) (single-sound t reply k c (rewritePlan t u text name) (rewrite-keeps t (c .clauses) u text name b (c .counts)) (rw (q k) at a))

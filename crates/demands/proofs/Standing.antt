@@ -2,10 +2,11 @@
 -- of text. A walk of user u ends in the base list of u or in a directory, a give in a directory; so another user's base list stays.
 use mathlib.Core.Bool.{true}
 use mathlib.Core.List.{List, [], _∷_, _++_}
-use mathlib.Core.Logic.{_⊎_, inl, inr, _≢_}
+use mathlib.Core.Logic.{_⊎_, inl, inr, _≢_, by-cases}
 use mathlib.Core.Path.{_≡_, refl, sym, ap, _∙_}
 use Prim.Native.Nat.{ℕ, suc, _+_, _-_, _≤_, _<_}
 use native.Mathlib.Omega.{arith}
+use native.Mathlib.Decide.{ℕ-discrete}
 use lib.ListN.{length, take, drop}
 use borrow.Author.Tests.{ltb-false}
 use Rattle.paper.specs.Scan.{Found, at, nowhere}
@@ -20,16 +21,18 @@ use Rattle.paper.specs.Code.{joined}
 use Rattle.paper.specs.Entry.{Holder, baseList, stands}
 use Rattle.paper.specs.Block.{blocksOf, fileText}
 use Rattle.paper.specs.Walk.{State, start, file, reached, toDirectory, lastName}
-use Rattle.paper.specs.Store.{Store, clear, run}
+use Rattle.paper.specs.Store.{Store, puts, clear, run}
+use Rattle.paper.specs.Count.{recounts}
 use Rattle.paper.specs.Effect.{listOf, begun, Plan, Planned, plan, halted, chainOf, Making, borne, placing, needed, freed, lost, settled, writeInhibited, linking, making, entryIn, filing, recoded, crdPlan, wrsPlan, cpyPlan, dupPlan, chnPlan, dprPlan, delPlan, rdsPlan, lstPlan, lstBasePlan, lstTreePlan, lstBaseTreePlan, rewriting, rewritePlan}
 use Rattle.paper.specs.Answer.{Outcome, ran, single, oneName, deleting, granted, requested}
 use Rattle.laws.proofs.Tests.{either}
 use Rattle.laws.proofs.Lists.{Every, every-append, every-each, every-imp, every-parts, every-take}
 use Rattle.laws.proofs.Fields.{entry-record-kind, entry-holder, entry-user, length-entry}
 use Rattle.laws.proofs.Entries.{Stands, stands-true, found-stands, link-short}
-use Rattle.laws.proofs.Lay.{length-blank, length-rec, within}
+use Rattle.laws.proofs.Lay.{length-blank, length-rec, lay-same, lay-other, within}
 use Rattle.laws.proofs.Runs.{Lays, run-each, rooms-run}
 use Rattle.laws.proofs.Rooms.{room-below, room-kind}
+use Rattle.laws.proofs.Recounts.{Recount, every-recounts, recounted-kind}
 use Rattle.demands.proofs.Sound.Clauses.{Sound, sound-clauses, entry-code}
 use Rattle.demands.proofs.Request.Fair.{Idle, verdict-idle}
 use Rattle.demands.proofs.Request.Formed.{within-else, Within}
@@ -51,7 +54,7 @@ use Rattle.demands.proofs.SoundKept.Emptied.{Medium, head-kind}
 use Rattle.demands.proofs.SoundKept.Rewriting.{Rewrites, head-again, mine-now, each-rewrites, Grants, rewrite-grants}
 use Rattle.demands.proofs.Mending.Debris as loose
 use Rattle.demands.proofs.Mending.Debris.{Loose}
-use Rattle.demands.proofs.PowerCut.Cut.{Litters}
+use Rattle.demands.proofs.PowerCut.Cut.{Litters, counted, rooms-counted, counted-is, counted-stores}
 use Rattle.demands.proofs.PowerCut.Littering.{littering}
 
 -- ---- what a store may do
@@ -139,6 +142,36 @@ module _ (t : List ℕ) (c : Sound t) where
       one : (s : Store) → Litters t s → Lays (Laid t d e) (rooms t) s
       one s l = record { within = l .within; size = l .size; holds = other (rw (l .holds .0) blank-none) (debris (s .bytes) (l .holds .1)) }
 
+  -- counts are laid in headings, which are no entries and lie where none was
+  counts-laid : (d : Holder) (pre : List Store) (e : ℕ) (r : List ℕ) → Every (Litters t) pre → e < rooms t → length r ≡ 32 → byte r 0 ≢ 1
+      → Every (Lays (Laid t d e) (rooms t)) (recounts (counted t pre (puts e r)))
+  counts-laid d pre e r lit l size n = every-imp (Lays (Recount m) (rooms m)) (Lays (Laid t d e) (rooms t)) (recounts m) one (every-recounts m)
+    where
+      m : List ℕ
+      m = counted t pre (puts e r)
+
+      was : (i : ℕ) → (rec (run t pre) i ≡ rec t i) ⊎ ((rec t i ≡ blank) × Loose t (rec (run t pre) i)) → byte (rec (run t pre) i) 0 ≡ 1
+          → byte (rec t i) 0 ≢ 2
+      was i (inl q) k = let y : byte (rec t i) 0 ≡ 1 = rw q at k in λ (z : byte (rec t i) 0 ≡ 2). omega arith
+      was i (inr q) k = rw (q .0) blank-none
+
+      heading : (i : ℕ) → i < rooms t → byte (rec m i) 0 ≡ 1 → byte (rec t i) 0 ≢ 2
+      heading i b k =
+          by-cases (ℕ-discrete i e)
+          (λ (q : i ≡ e). absurd (n (rw (q, lay-same (run t pre) e r size (rw (rooms-run t pre) l)) at k)))
+          (λ (q : i ≢ e). was i (run-each _ t pre lit i b) (rw (lay-other (run t pre) e r i size q (rw (rooms-run t pre) b)) at k))
+
+      one : (x : Store) → Lays (Recount m) (rooms m) x → Lays (Laid t d e) (rooms t) x
+      one x h =
+          let b : x .at < rooms t = rw (rooms-counted t pre (puts e r)) at (h .within) in
+          let k : byte (x .bytes) 0 ≡ 1 =
+          rw (h .holds .0) (recounted-kind m (x .at) (rec m (x .at)) (length-rec m (x .at) (h .within)) ∙ h .holds .1 .0) in
+          record {
+            within = b;
+            size = h .size;
+            holds = other (heading (x .at) b (h .holds .1 .0)) (λ (z : byte (x .bytes) 0 ≡ 2). omega arith);
+          }
+
   -- a new entry, given that the stores before it are debris
   making-sets : (u : ℕ) (name : Aim) (m : Making) (thirteen fifteen late : List Check) → (length (m .first) ≤ length (frees t) → Every (Litters t) (m .first))
       → length (m .entry) ≡ 32 → Stands (m .directory .holder) (m .entry) → Comes t u name (m .directory .holder)
@@ -148,6 +181,9 @@ module _ (t : List ℕ) (c : Sound t) where
       let a = every-parts Idle (thirteen ++ writeInhibited (m .place) (m .directory) ∷ fifteen) _ (verdict-idle _ v) .1 in
       go (borne t m) refl (ltb-false _ _ (a .1 .1 .0))
     where
+      no-heading : byte (m .entry) 0 ≢ 1
+      no-heading = λ (z : byte (m .entry) 0 ≡ 1). omega (arith, st .kind)
+
       go : (x : Found) → borne t m ≡ x → needed m x ≤ length (frees t) → Settles t u name (placing t m x)
       go (at e) q enough =
           let f = found-stands t (m .directory .holder) (m .name) e q in
@@ -156,27 +192,32 @@ module _ (t : List ℕ) (c : Sound t) where
             entry = e;
             comes = w;
             each =
-                every-append _ (m .first) _ (first-laid (m .directory .holder) e (m .first) (lit enough)) (
+                rw (counted-stores t (m .first) (puts e (m .entry)) (settled t e (m .entry)))
+                (every-append _ (m .first) _ (first-laid (m .directory .holder) e (m .first) (lit enough)) (
                   record { within = f .0; size = size; holds = entry refl (λ _. f .1) (λ _. st) },
-                  settled-laid (m .directory .holder) e (m .entry) (f .0) (f .1 .kind),
-                );
+                  every-append _ (recounts (counted t (m .first) (puts e (m .entry)))) _
+                      (counts-laid (m .directory .holder) (m .first) e (m .entry) (lit enough) (f .0) size no-heading)
+                      (settled-laid (m .directory .holder) e (m .entry) (f .0) (f .1 .kind)),
+                ));
           }
       go nowhere q enough =
           let e : ℕ = room t (length (m .first)) in
+          let within-e : e < rooms t = room-below t (length (m .first)) (omega arith) in
           let k = room-kind t (length (m .first)) (omega arith) in
           record {
             holder = m .directory .holder;
             entry = e;
             comes = w;
             each =
-                every-append _ (m .first) _ (first-laid (m .directory .holder) e (m .first) (lit (omega arith))) (
+                rw (counted-is t (m .first) (puts e (m .entry)))
+                (every-append _ (m .first) _ (first-laid (m .directory .holder) e (m .first) (lit (omega arith))) (
                   record {
-                    within = room-below t (length (m .first)) (omega arith);
+                    within = within-e;
                     size = size;
                     holds = entry refl (λ (z : byte (rec t e) 0 ≡ 2). let y : ⊥ = omega arith in absurd y) (λ _. st);
                   },
-                  tt,
-                );
+                  counts-laid (m .directory .holder) (m .first) e (m .entry) (lit (omega arith)) within-e size no-heading,
+                ));
           }
 
   -- an entry that may be laid in d stands there
@@ -337,7 +378,7 @@ module _ (t : List ℕ) (c : Sound t) where
             }
 
     del-sets : (place : ℕ) (name : Word) → Sets t u (mine name) (delPlan t u place name)
-    unfolding delPlan
+    unfolding delPlan run
     del-sets place name =
         end-by (Sets t u (mine name)) place (λ _ _ _. tt) t u name _ (λ d f q r _.
         let l = last-looked t d (chainOf name) f r in
@@ -347,7 +388,9 @@ module _ (t : List ℕ) (c : Sound t) where
           comes = walked d q refl;
           each = (
             record { within = l .within; size = length-blank; holds = entry refl (λ _. l .stands) (λ k. absurd (blank-none k)) },
-            settled-laid (d .holder) (f .entry) blank (l .within) (l .stands .kind),
+            every-append _ (recounts (counted t [] (clear (f .entry)))) _
+                (counts-laid (d .holder) [] (f .entry) blank tt (l .within) length-blank (unfold blank in λ (z : _≡_ {A = ℕ} 0 1). omega arith))
+                (settled-laid (d .holder) (f .entry) blank (l .within) (l .stands .kind)),
           );
         })
 
@@ -433,7 +476,7 @@ del-steps u l (w ∷ ws) t reply k n made c = one (λ t₁. del-steps u l ws t�
           run t (p .stores),
           (
             step-by t u (mine w) (p .stores) c (passed-sets t u (mine w) x p sets v),
-            again (run t (p .stores)) (k - length (p .stores)) (n + 1) (made + length (p .stores)) (passed-sound t x p (del-keeps t u (n + 1) w c) v),
+            again (run t (p .stores)) (k - length (p .stores)) (n + 1) (made + length (p .stores)) (passed-sound t x p (del-keeps t u (n + 1) w c) v .clauses),
           ),
         ))
         (λ p v _.

@@ -2,24 +2,24 @@
 -- an entry only the lines of a directory one level down stand, so leaving out what is too deep is leaving it out of each of these.
 use mathlib.Core.Bool.{Bool, true, false, _&&_, not, cond}
 use mathlib.Core.List.{List, [], _∷_, _++_, append-nil, append-assoc}
-use mathlib.Core.Path.{_≡_, refl, sym, ap, ap₂, _∙_}
+use mathlib.Core.Path.{_≡_, refl, sym, ap, _∙_}
 use Prim.Native.Nat.{ℕ, zero, suc, _+_, _-_, _*_, _≤_, _<_}
 use native.Mathlib.Nat.{zero-add}
 use native.Mathlib.Omega.{arith}
 use lib.Dec.{ltb}
-use lib.ListN.{length, take, replicate}
+use lib.ListN.{length, take}
 use borrow.Author.Tests.{lt-ltb, le-ltb, le-leb}
 use Rattle.paper.specs.Record.{headingNamed, nameOf}
 use Rattle.paper.specs.Table.{rec}
 use Rattle.paper.specs.Name.{same, dotW, lonePoint}
 use Rattle.paper.specs.Line.{Word, words, word, legalLine}
 use Rattle.paper.specs.Check.{Verdict, passed, refused, verdict}
-use Rattle.paper.specs.Request.{Begin, own, takeOf, giveTo, Request, lst, lstBase, lstTree, lstBaseTree, Read, request, after, counted, malformed, illegalBut, isTake, oldFrom, depthOf, readLst, readTree, readFunction, read, withText, asked}
+use Rattle.paper.specs.Request.{Begin, own, takeOf, giveTo, lst, lstBase, lstTree, lstBaseTree, request, after, counted, malformed, illegalBut, isTake, oldFrom, depthOf, readLst, readTree, readFunction, read, withText, asked}
 use Rattle.paper.specs.Entry.{baseList, inDirectory, stands}
 use Rattle.paper.specs.Walk.{State, start, file, End, arrived, astray, ended}
-use Rattle.paper.specs.Listing.{lineOf, listed, lines, subLine, opens, entryBy, linesBy, tree}
+use Rattle.paper.specs.Listing.{listed, lines, subLine, opens, entryBy, linesBy, tree}
 use Rattle.paper.specs.Effect.{Planned, inward, chainOf, listOf, begun, lstPlan, lstBasePlan, lstTreePlan, lstBaseTreePlan}
-use Rattle.paper.specs.Answer.{Outcome, ran, single, granted, entrance, admitted, acted, requested}
+use Rattle.paper.specs.Answer.{granted, entrance, admitted, acted, requested}
 
 -- ---- "Depth 1 equals LST"
 

@@ -10,7 +10,7 @@ use Rattle.paper.specs.Request.{Request, crd, wrs, rds, cpy, dup, chn, del, dpr
 use Rattle.paper.specs.Effect.{listOf, begun, Planned, crdPlan, wrsPlan, rdsPlan, cpyPlan, dupPlan, chnPlan, dprPlan, lstPlan, lstBasePlan, lstTreePlan, lstBaseTreePlan, rewritePlan}
 use Rattle.paper.specs.Answer.{refusing, ran, single, deleting, granted, requested}
 use Rattle.laws.proofs.Entries.{link-short}
-use Rattle.demands.proofs.Sound.Clauses.{Sound, sound-clauses}
+use Rattle.demands.proofs.Sound.Right.{Right, sound-right}
 use Rattle.demands.proofs.Request.Formed.{named-last}
 use Rattle.demands.proofs.Request.Begun.{list-most}
 use Rattle.demands.proofs.Request.Read.{Told}
@@ -29,40 +29,42 @@ pub data Tried (t line text reply : List ℕ) (u : ℕ) : Type 0 where
       → ((k : ℕ) → requested t line text reply u k ≡ single t reply k (ran k (rewritePlan t u text name))) → Tried t line text reply u
 
 module _ (t line text reply : List ℕ) (u : ℕ) where
-  tries : Sound t → u ≤ 999999 → (r : Request) → asked line text ≡ request r → Told text r
+  tries : Right t → u ≤ 999999 → (r : Request) → asked line text ≡ request r → Told text r
       → ((k : ℕ) → requested t line text reply u k ≡ granted t text reply u k r) → Tried t line text reply u
   unfolding granted
   tries c m (crd name level code) a h =
-      by-plan (crdPlan t u name level code) (crd-safe t c u name level code (named-last name (h .name) .short))
-      (crd-keeps t c u name level code m h)
+      by-plan (crdPlan t u name level code) (crd-safe t (c .clauses) u name level code (named-last name (h .name) .short))
+      (crd-keeps t (c .clauses) u name level code m h)
   tries c m (wrs lifetime level code name) a h =
       by-plan (wrsPlan t u text lifetime level code name)
-      (wrs-safe t c u text lifetime level code name (named-last name (h .name) .short))
-      (wrs-keeps t c u text lifetime level code name m h)
+      (wrs-safe t (c .clauses) u text lifetime level code name (named-last name (h .name) .short))
+      (wrs-keeps t (c .clauses) u text lifetime level code name m h)
   tries c m (rds from name first count) a h =
-      by-plan (rdsPlan t (listOf u from) reply (begun from name) first count) (rds-safe t c (listOf u from) reply (begun from name) first count)
+      by-plan (rdsPlan t (listOf u from) reply (begun from name) first count) (rds-safe t (c .clauses) (listOf u from) reply (begun from name) first count)
       (rds-keeps t (listOf u from) reply (begun from name) first count c)
   tries c m (cpy from old new lifetime level code) a h =
       by-plan (cpyPlan t (listOf u from) u (begun from old) new lifetime level code)
-      (cpy-safe t c (listOf u from) u (begun from old) new lifetime level code (named-last new (h .new) .short))
-      (cpy-keeps t c (listOf u from) u (begun from old) new lifetime level code m h)
+      (cpy-safe t (c .clauses) (listOf u from) u (begun from old) new lifetime level code (named-last new (h .new) .short))
+      (cpy-keeps t (c .clauses) (listOf u from) u (begun from old) new lifetime level code m h)
   tries c m (dup from old to new code) a h =
       by-plan (dupPlan t (listOf u from) (listOf u to) to (begun from old) (begun to new) code)
-      (dup-safe t c (listOf u from) (listOf u to) to (begun from old) (begun to new) code (named-last (begun to new) (h .new) .short))
-      (dup-keeps t c (listOf u from) (listOf u to) to (begun from old) (begun to new) code (list-most u to (begun to new) (h .gives) m) h)
-  tries c m (chn old link) a h = by-plan (chnPlan t u old link) (chn-safe t c u old link (link-short _ (h .link) .1)) (chn-kept t c u old link h)
+      (dup-safe t (c .clauses) (listOf u from) (listOf u to) to (begun from old) (begun to new) code (named-last (begun to new) (h .new) .short))
+      (dup-keeps t (c .clauses) (listOf u from) (listOf u to) to (begun from old) (begun to new) code (list-most u to (begun to new) (h .gives) m) h)
+  tries c m (chn old link) a h =
+      by-plan (chnPlan t u old link) (chn-safe t (c .clauses) u old link (link-short _ (h .link) .1))
+      (chn-kept t (c .clauses) (c .counts) u old link h)
   tries c m (del names) a h = by-names names a
   tries c m (dpr name code) a h =
-      by-plan (dprPlan t u name code) (dpr-safe t c u name code) (dpr-keeps t u name code c (h .code))
+      by-plan (dprPlan t u name code) (dpr-safe t (c .clauses) u name code) (dpr-keeps t u name code c (h .code))
   tries c m (lst from name) a h =
-      by-plan (lstPlan t (listOf u from) reply (begun from name)) (lst-safe t c (listOf u from) reply (begun from name))
+      by-plan (lstPlan t (listOf u from) reply (begun from name)) (lst-safe t (c .clauses) (listOf u from) reply (begun from name))
       (lst-keeps t (listOf u from) reply (begun from name) c)
-  tries c m lstBase a h = by-plan (lstBasePlan t u reply) (lst-base-safe t c u reply) (lstBase-keeps t u reply c)
+  tries c m lstBase a h = by-plan (lstBasePlan t u reply) (lst-base-safe t (c .clauses) u reply) (lstBase-keeps t u reply c)
   tries c m (lstTree from name depth) a h =
-      by-plan (lstTreePlan t (listOf u from) reply (begun from name) depth) (lst-tree-safe t c (listOf u from) reply (begun from name) depth)
+      by-plan (lstTreePlan t (listOf u from) reply (begun from name) depth) (lst-tree-safe t (c .clauses) (listOf u from) reply (begun from name) depth)
       (lstTree-keeps t (listOf u from) reply (begun from name) depth c)
   tries c m (lstBaseTree depth) a h =
-      by-plan (lstBaseTreePlan t u reply depth) (lst-base-tree-safe t c u reply depth) (lstBaseTree-keeps t u reply depth c)
+      by-plan (lstBaseTreePlan t u reply depth) (lst-base-tree-safe t (c .clauses) u reply depth) (lstBaseTree-keeps t u reply depth c)
   tries c m (rewrite name) a h = by-rewrite name a (h .text)
 
   pub ways : Tried t line text reply u
@@ -70,4 +72,4 @@ module _ (t line text reply : List ℕ) (u : ℕ) where
     where
       go : Course t line text reply u → Tried t line text reply u
       go (untried f h e) = lent f e
-      go (tried r h e) = tries (sound-clauses t (h .sized) (h .sound)) (h .user) r (h .asked) (h .told) e
+      go (tried r h e) = tries (sound-right t (h .sized) (h .sound)) (h .user) r (h .asked) (h .told) e

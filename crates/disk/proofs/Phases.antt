@@ -5,15 +5,17 @@ use mathlib.Core.List.{List}
 use mathlib.Core.Logic.{_≢_}
 use mathlib.Core.Path.{_≡_, refl, ap}
 use Prim.Native.Nat.{ℕ, _≤_, _<_}
+use native.Mathlib.Omega.{arith}
 use borrow.Author.Tests.{ne-eqb, eq-eqb, lt-ltb, le-ltb}
 use lib.Dec.{eqb}
-use lib.ListN.{length}
-use Rattle.paper.specs.Record.{byte}
+use lib.ListN.{length, take, drop, length-drop}
+use lib.Seq.{take-all}
+use Rattle.paper.specs.Record.{byte, isKind}
 use Rattle.paper.specs.Table.{rooms, rec}
 use Rattle.paper.specs.Name.{same}
-use Rattle.laws.proofs.Tests.{false-by}
+use Rattle.laws.proofs.Tests.{false-by, and-no-right}
 use Rattle.laws.proofs.Entries.{same-true}
-use Rattle.disk.specs.Phase.{phaseOf, phase}
+use Rattle.disk.specs.Phase.{onlyCounts, phaseOf, phase}
 
 module _ (x r : List ℕ) where
   pub phase-still : same x r ≡ true → phaseOf x r ≡ 0
@@ -37,13 +39,36 @@ module _ (x r : List ℕ) where
     unfolding phaseOf
     phase-freed n z k = rw (d, k, ne-eqb _ _ n, ne-eqb _ _ z)
 
-    pub phase-held : byte x 0 ≢ 2 → byte r 0 ≢ 2 → byte x 0 ≢ 0 → byte r 0 ≢ 0 → phaseOf x r ≡ 2
+    pub phase-counts : byte x 0 ≢ 2 → byte r 0 ≢ 2 → byte x 0 ≢ 0 → byte r 0 ≢ 0 → onlyCounts x r ≡ true → phaseOf x r ≡ 3
     unfolding phaseOf
-    phase-held n m z y = rw (d, ne-eqb _ _ n, ne-eqb _ _ m, ne-eqb _ _ z, ne-eqb _ _ y)
+    phase-counts n m z y c = rw (d, ne-eqb _ _ n, ne-eqb _ _ m, ne-eqb _ _ z, ne-eqb _ _ y, c)
+
+    pub phase-held : byte x 0 ≢ 2 → byte r 0 ≢ 2 → byte x 0 ≢ 0 → byte r 0 ≢ 0 → onlyCounts x r ≡ false → phaseOf x r ≡ 2
+    unfolding phaseOf
+    phase-held n m z y c = rw (d, ne-eqb _ _ n, ne-eqb _ _ m, ne-eqb _ _ z, ne-eqb _ _ y, c)
 
   -- records of two kinds differ
   pub kinds-differ : byte x 0 ≢ byte r 0 → same x r ≡ false
   kinds-differ n = false-by (same x r) (λ e. n (ap (λ (s : List ℕ). byte s 0) (same-true x r e)))
+
+-- ---- a heading with other counts, test by test
+
+module _ (x r : List ℕ) where
+  pub counts-kind : byte x 0 ≢ 1 → onlyCounts x r ≡ false
+  counts-kind n = rw (ne-eqb _ _ n)
+
+  pub counts-front : same (take 12 x) (take 12 r) ≡ false → onlyCounts x r ≡ false
+  counts-front e = and-no-right (isKind 1 x) _ (rw e)
+
+  -- what stands past the counts, as many bytes of it as there are
+  pub counts-back : byte x 0 ≡ 1 → same (take 12 x) (take 12 r) ≡ true
+      → onlyCounts x r ≡ same (take (length x) (drop 16 x)) (take (length r) (drop 16 r))
+  counts-back k e = rw (k, e, all-of x, all-of r)
+    where
+      all-of : (s : List ℕ) → take (length s) (drop 16 s) ≡ drop 16 s
+      all-of s = take-all (length s) (drop 16 s) (simp length-drop (omega arith))
+
+-- ---- a record of a table
 
 -- in tables of one length a record has the phase of what it holds
 pub phase-in : (t u : List ℕ) (i : ℕ) → length t ≡ length u → i < rooms t → phase t u i ≡ phaseOf (rec t i) (rec u i)

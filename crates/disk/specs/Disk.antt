@@ -1,5 +1,6 @@
 -- What a disk may hold when the power fails, the phases written in order: any part of the one that was not flushed yet.
 -- A rewrite has phases of its own: the heading marked, all text, the heading unmarked.
+use mathlib.Core.Bool.{false}
 use mathlib.Core.List.{List, [], _∷_}
 use mathlib.Core.Logic.{_⊎_}
 use mathlib.Core.Path.{_≡_}
@@ -9,7 +10,7 @@ use Rattle.paper.specs.Table.{rooms, rec}
 use Rattle.paper.specs.Line.{Word}
 use Rattle.paper.specs.Request.{del, rewrite, request, asked}
 use Rattle.paper.specs.Answer.{requested, deleting}
-use Rattle.disk.specs.Phase.{first, entry, last, phase}
+use Rattle.disk.specs.Phase.{first, entry, last, onlyCounts, phase}
 
 -- u is "the table after a granted request" on t, or, "for DEL: after one name", whichever of its names that is
 pub data Granted (t u : List ℕ) : Type 0 where
@@ -54,11 +55,15 @@ None t u x p = (i : ℕ) → i < rooms t → phase t u i ≡ p → rec x i ≡ r
 abbrev pub All : (t u x : List ℕ) → ℕ → Type 0
 All t u x p = (i : ℕ) → i < rooms t → phase t u i ≡ p → rec x i ≡ rec u i
 
+-- no record of the last phase is written; but a heading with other counts needs no flush and may be written at any time
+abbrev pub NoneLast : (t u x : List ℕ) → Type 0
+NoneLast t u x = (i : ℕ) → i < rooms t → phase t u i ≡ last → onlyCounts (rec t i) (rec u i) ≡ false → rec x i ≡ rec t i
+
 -- "so that phases go in order"
 pub data InOrder (t u x : List ℕ) : Type 0 where
   -- "some first-phase records of" u "and nothing else of" u
-  inFirst : Agrees t u x → None t u x entry → None t u x last → InOrder t u x
+  inFirst : Agrees t u x → None t u x entry → NoneLast t u x → InOrder t u x
   -- "all of the first and perhaps the entry"
-  atEntry : Agrees t u x → All t u x first → None t u x last → InOrder t u x
+  atEntry : Agrees t u x → All t u x first → NoneLast t u x → InOrder t u x
   -- "all of those and some of the last"
   inLast : Agrees t u x → All t u x first → All t u x entry → InOrder t u x

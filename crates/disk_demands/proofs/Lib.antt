@@ -10,6 +10,8 @@ pub mod MendAny
 -- fewer flushes fail, computed: `first-flush`, `entry-flush`, `del-flush`, `mark-flush`, `unmark-flush`
 pub mod Flushes
 -- ---- what they stand on
+-- a heading with other counts
+pub mod OnlyCounts
 -- each record's turn, and its phase
 pub mod Turns
 -- a table in order, mended

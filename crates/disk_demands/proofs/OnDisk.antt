@@ -15,10 +15,11 @@ use Rattle.paper.specs.Effect.{Plan, Planned, delPlan}
 use Rattle.paper.specs.Mend.{mendStores, mended}
 use Rattle.paper.specs.Answer.{Outcome, Ran, ran, single, oneName, deleting, requested, mending}
 use Rattle.laws.proofs.Runs.{length-run}
-use Rattle.demands.proofs.Sound.Clauses.{Sound, sound-clauses, clauses-sound}
+use Rattle.demands.proofs.Sound.Right.{Right, sound-right, right-sound}
 use Rattle.demands.proofs.Request.Ended.{Passed, ran-by}
 use Rattle.demands.proofs.SoundKept.Kept.{Keeps, passed-sound, del-keeps}
 use Rattle.demands.proofs.Mending.{mendedWhole, mend-whole}
+use Rattle.demands.proofs.Mending.Part.{equal}
 use Rattle.demands.proofs.PowerCut.Plans.{Safe, del-safe}
 use Rattle.demands.proofs.PowerCut.Landing.{passed-shaped}
 use Rattle.demands.proofs.Tried.{Tried, lent, by-plan, by-names, by-rewrite, ways}
@@ -29,13 +30,13 @@ use Rattle.disk_demands.proofs.Mended.{counts-there, not-there, there, 
 
 -- u is sound, as long as t, and each record has a turn
 pub record Turned (t u : List ℕ) : Type 0 where
-  pub sound : Sound u
+  pub sound : Right u
   pub long : length u ≡ length t
   pub turns : Turns t u
 
 -- nothing is stored
-unturned : (t u : List ℕ) → Sound t → u ≡ t → Turned t u
-unturned t u c e = rw e (record { sound = c; long = refl; turns = record { at = 0; each = λ i l. kept refl } })
+unturned : (t u : List ℕ) → Right t → u ≡ t → Turned t u
+unturned t u c e = rw e (record { sound = c; long = refl; turns = record { at = 0; each = λ i l. kept (equal refl) } })
 
 plan-turned : (t : List ℕ) (x : Planned) (p : Plan) → Safe t x → Keeps t x → Passed x p → Turned t (run t (p .stores))
 plan-turned t x p safe keeps v =
@@ -46,24 +47,25 @@ plan-turned t x p safe keeps v =
     }
 
 -- an answer of 0 of one plan, and of one name
-single-turned : (t reply : List ℕ) (k : ℕ) → Sound t → (x : Planned) → Safe t x → Keeps t x
+single-turned : (t reply : List ℕ) (k : ℕ) → Right t → (x : Planned) → Safe t x → Keeps t x
     → single t reply k (ran k x) .answer .number ≡ 0 → Turned t (single t reply k (ran k x) .table)
 single-turned t reply k c x safe keeps =
     ran-by (λ y. single t reply k y .answer .number ≡ 0 → Turned t (single t reply k y .table)) k x
     (λ _ _ _. unturned t t c refl) (λ p v _ _. plan-turned t x p safe keeps v) (λ p v l z. let n : ⊥ = omega (arith, z) in absurd n)
 
-name-turned : (t : List ℕ) (u k n made : ℕ) (w : Word) → Sound t → deleting t u [] k n made (w ∷ []) .answer .number ≡ 0
+name-turned : (t : List ℕ) (u k n made : ℕ) (w : Word) → Right t → deleting t u [] k n made (w ∷ []) .answer .number ≡ 0
     → Turned t (deleting t u [] k n made (w ∷ []) .table)
 unfolding deleting
 name-turned t u k n made w c =
     ran-by (λ y. after y .answer .number ≡ 0 → Turned t (after y .table)) k (delPlan t u (n + 1) w)
-    (λ _ _ _. unturned t t c refl) (λ p v _ _. plan-turned t (delPlan t u (n + 1) w) p (del-safe t c u (n + 1) w) (del-keeps t u (n + 1) w c) v)
+    (λ _ _ _. unturned t t c refl)
+    (λ p v _ _. plan-turned t (delPlan t u (n + 1) w) p (del-safe t (c .clauses) u (n + 1) w) (del-keeps t u (n + 1) w (c .clauses)) v)
     (λ p v l z. let b : ⊥ = omega (arith, z) in absurd b)
   where
     after : Ran → Outcome
     after y = oneName t [] k n made (λ t₁ k₁ n₁ made₁. deleting t₁ u [] k₁ n₁ made₁ []) y
 
-pub granted-turned : (t u : List ℕ) → Sound t → Granted t u → Turned t u
+pub granted-turned : (t u : List ℕ) → Right t → Granted t u → Turned t u
 granted-turned t u c (name user stop n made w z e) = rw e (name-turned t user stop n made w c z)
 granted-turned t u c (whole line text reply user stop alone whole-file z e) = rw e (go (ways t line text reply user))
   where
@@ -89,8 +91,8 @@ on-disk t u x s e g o =
       answers = λ k. mend-whole x k (f .0) (f .1);
     }
   where
-    c : Sound t
-    c = sound-clauses t s e
+    c : Right t
+    c = sound-right t s e
 
     d : Turned t u
     d = granted-turned t u c g
@@ -98,16 +100,16 @@ on-disk t u x s e g o =
     one : (mended x ≡ t) ⊎ (mended x ≡ u)
     one = either-one t u (d .long) (d .turns) c (d .sound) x o
 
-    end : (mended x ≡ t) ⊎ (mended x ≡ u) → Sound (mended x)
+    end : (mended x ≡ t) ⊎ (mended x ≡ u) → Right (mended x)
     end (inl q) = rw q c
     end (inr q) = rw q (d .sound)
 
     f : (sized (mended x) ≡ true) × (sound (mended x) ≡ true)
-    f = clauses-sound (mended x) (end one)
+    f = right-sound (mended x) (end one)
 
 -- "the one record"
 pub one-entry : (t u : List ℕ) → sized t ≡ true → sound t ≡ true → Granted t u
     → (i j : ℕ) → phase t u i ≡ entry → phase t u j ≡ entry → i ≡ j
 one-entry t u s e g i j p q =
-    let d = granted-turned t u (sound-clauses t s e) g in
+    let d = granted-turned t u (sound-right t s e) g in
     counts-there t u (d .long) (d .turns) i p ∙ sym (counts-there t u (d .long) (d .turns) j q)

@@ -4,7 +4,7 @@ use mathlib.Core.Bool.{true}
 use mathlib.Core.List.{List, [], _∷_, _++_}
 use mathlib.Core.Logic.{_⊎_, inl, inr, _≢_, by-cases}
 use mathlib.Core.Path.{_≡_, refl, sym, _∙_}
-use Prim.Native.Nat.{ℕ, suc, _+_, _-_, _≤_, _<_}
+use Prim.Native.Nat.{ℕ, suc, _-_, _≤_, _<_}
 use native.Mathlib.Omega.{arith}
 use native.Mathlib.Decide.{ℕ-discrete}
 use lib.ListN.{length, take, length-append}
@@ -20,11 +20,13 @@ use Rattle.paper.specs.Answer.{mending}
 use Rattle.laws.proofs.Rewritten.{length-rewritten}
 use Rattle.laws.proofs.Lay.{Whole, lay-other, length-lay, ext-table}
 use Rattle.laws.proofs.Runs.{run-append}
-use Rattle.demands.proofs.Sound.Clauses.{Sound, sound-clauses, clauses-sound}
+use Rattle.demands.proofs.Sound.Clauses.{Sound}
+use Rattle.demands.proofs.Sound.Right.{Right, sound-right, right-sound}
 use Rattle.demands.proofs.Mending.{mendedWhole, mend-whole}
 use Rattle.demands.proofs.Mending.Debris.{mended-sound}
-use Rattle.demands.proofs.SoundKept.Emptied.{in-h, size-h, emptied-sound}
-use Rattle.demands.proofs.SoundKept.Refilled.{Rewrite, refilled-sound}
+use Rattle.demands.proofs.SoundKept.Emptied.{in-h, size-h}
+use Rattle.demands.proofs.SoundKept.Refilled.{Rewrite}
+use Rattle.demands.proofs.SoundKept.Told.{emptied-right, refilled-right}
 use Rattle.demands.proofs.PowerCut.Remade.{HalfAt, Half, half-mends, texts, texts-each, stores-are, half-way, emptied-again}
 use Rattle.demands.proofs.Rewrites.{Rewrote, rewrote}
 use Rattle.disk.specs.Disk.{Agrees, Rewritten}
@@ -61,7 +63,10 @@ half-between t h a b x p q d = record { long = d .long ∙ p .long; each = λ i 
 
 -- ---- the three steps of a rewrite
 
-module _ (t : List ℕ) (h : ℕ) (new : List ℕ) (c : Sound t) (w : Rewrite t h new) where
+module _ (t : List ℕ) (h : ℕ) (new : List ℕ) (right : Right t) (w : Rewrite t h new) where
+  abbrev c : Sound t
+  c = right .clauses
+
   -- the heading marked; all text; the heading unmarked
   abbrev mark : List ℕ
   mark = rewritten (rec t h) 1 0
@@ -98,13 +103,13 @@ module _ (t : List ℕ) (h : ℕ) (new : List ℕ) (c : Sound t) (w : Rewrite t 
   half-b = half-way t h new c w (texts t h new c w) (texts-each t h new c w)
 
   mends-half : (x : List ℕ) → Half t h x → mended x ≡ emptied t h
-  mends-half = half-mends t h c (w .file)
+  mends-half = half-mends t h c (w .file) (right .counts)
 
   marking : (x : List ℕ) → Agrees t a x → (mended x ≡ t) ⊎ (mended x ≡ emptied t h)
   marking x d = go (one-record t h mark x (c .whole) (in-h t h c (w .file)) (length-rewritten (rec t h) 1 0 (size-h t h c (w .file))) d)
     where
       go : (x ≡ t) ⊎ (x ≡ a) → (mended x ≡ t) ⊎ (mended x ≡ emptied t h)
-      go (inl e) = inl (rw e (mended-sound t c))
+      go (inl e) = inl (rw e (mended-sound t right))
       go (inr e) = inr (rw e (mends-half a half-a))
 
   laying-text : (x : List ℕ) → Agrees a b x → mended x ≡ emptied t h
@@ -117,7 +122,7 @@ module _ (t : List ℕ) (h : ℕ) (new : List ℕ) (c : Sound t) (w : Rewrite t 
     where
       go : (x ≡ b) ⊎ (x ≡ lay b h end) → (mended x ≡ emptied t h) ⊎ (mended x ≡ run t (rewriting t h new))
       go (inl e) = inl (rw e (mends-half b half-b))
-      go (inr e) = inr (rw (e, ← last-is) (mended-sound (run t (rewriting t h new)) (refilled-sound t h new c w)))
+      go (inr e) = inr (rw (e, ← last-is) (mended-sound (run t (rewriting t h new)) (refilled-right t h new right w)))
 
 -- the three phases: what the disk may hold in each, mended; "that one file marked and empty" is the same table from before and from after
 pub record Phases (t a b u : List ℕ) : Type 0 where
@@ -137,15 +142,15 @@ rewrite-on-disk t a₀ b₀ u₀ s e r =
       heading = h;
       half = emptied t h;
       from-before = refl;
-      from-after = sym (rw is-u (emptied-again t h (r .text) c (g .fit)));
+      from-after = sym (rw is-u (emptied-again t h (r .text) (c .clauses) (g .fit)));
       marks = λ x d. marking t h (r .text) c (g .fit) x (rw is-a at d);
       text = λ x d. laying-text t h (r .text) c (g .fit) x (rw (is-a, is-b) at d);
       unmarks = λ x d. rw is-u (unmarking t h (r .text) c (g .fit) x (rw (is-b, is-u, last-is t h (r .text) c (g .fit)) at d));
-      answers = λ x d k. let f = clauses-sound (mended x) (ends x d) in mend-whole x k (f .0) (f .1);
+      answers = λ x d k. let f = right-sound (mended x) (ends x d) in mend-whole x k (f .0) (f .1);
     }
   where
-    c : Sound t
-    c = sound-clauses t s e
+    c : Right t
+    c = sound-right t s e
 
     g : Rewrote t (r .line) (r .text) (r .reply) (r .user) (r .stop) (r .name)
     g = rewrote t (r .line) (r .text) (r .reply) (r .user) (r .stop) (r .name) s e (r .asked) (r .granted)
@@ -162,7 +167,7 @@ rewrite-on-disk t a₀ b₀ u₀ s e r =
     is-u : u₀ ≡ run t (rewriting t h (r .text))
     is-u = r .after ∙ g .table
 
-    ends : (x : List ℕ) → (mended x ≡ t) ⊎ ((mended x ≡ emptied t h) ⊎ (mended x ≡ u₀)) → Sound (mended x)
+    ends : (x : List ℕ) → (mended x ≡ t) ⊎ ((mended x ≡ emptied t h) ⊎ (mended x ≡ u₀)) → Right (mended x)
     ends x (inl q) = rw q c
-    ends x (inr (inl q)) = rw q (emptied-sound t h c (g .fit .file))
-    ends x (inr (inr q)) = rw (q, is-u) (refilled-sound t h (r .text) c (g .fit))
+    ends x (inr (inl q)) = rw q (emptied-right t h c (g .fit .file))
+    ends x (inr (inr q)) = rw (q, is-u) (refilled-right t h (r .text) c (g .fit))

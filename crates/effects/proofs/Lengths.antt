@@ -14,7 +14,7 @@ use Rattle.paper.specs.Scan.{anyBelow, countBelow, allBelow, joinBelow}
 use Rattle.paper.specs.Record.{byte, isKind, headingType, textLength, simple, bytesHeld, headingOf, position, held, textAt}
 use Rattle.paper.specs.Table.{sized, rooms, rec, place, textRoom}
 use Rattle.paper.specs.Block.{blocks, share, blocksOf, fileText}
-use Rattle.paper.specs.Sound.{asAbove, holdersThere, headingsThere, usersRight, namesPadded, noneTwice, allNamed, noneCrowded, directoriesPlain, once, textsWhole, inPlace, noOtherText, namesLegal, sound}
+use Rattle.paper.specs.Sound.{asAbove, holdersThere, headingsThere, usersRight, namesPadded, noneTwice, allNamed, noneCrowded, directoriesPlain, once, textsWhole, inPlace, noOtherText, namesLegal, countsTrue, shaped, sound}
 use Rattle.laws.proofs.Tests.{and-left, and-right, and-parts, implies-use}
 use Rattle.laws.proofs.Scans.{all-true, least, first-least, First}
 use Rattle.laws.proofs.Lay.{length-rec, within}
@@ -68,11 +68,11 @@ record Texts (t : List ℕ) : Type 0 where
   pub other : noOtherText t ≡ true
 
 texts : (t : List ℕ) → sound t ≡ true → Texts t
-unfolding sound
+unfolding shaped sound
 texts t z =
     let first : Bool =
     asAbove t && holdersThere t && headingsThere t && usersRight t && namesPadded t && noneTwice t && allNamed t && noneCrowded t && directoriesPlain t in
-    let l = and-left (first && textsWhole t && noOtherText t) (namesLegal t) z in
+    let l = and-left (first && textsWhole t && noOtherText t) (namesLegal t) (and-left (shaped t) (countsTrue t) z) in
     let k = and-parts (first && textsWhole t) (noOtherText t) l in
     record { whole = and-right first (textsWhole t) (k .0); other = k .1 }
 

@@ -1,6 +1,6 @@
 pub mod Stages
 pub mod Places
 pub mod Gathers
-pub mod Naming
+pub mod Recounts
 pub mod Papers
 pub mod Lengths

@@ -1,3 +1,3 @@
 pub mod Listed
 pub mod Stage
-pub mod Beside
+pub mod Counts

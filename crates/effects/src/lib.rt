@@ -1,5 +1,5 @@
 // The stages of a request's stores, and the passes over a table that they stand on.
-pub mod beside;
+pub mod counts;
 pub mod reading;
 pub mod rooms;
 pub mod stage;

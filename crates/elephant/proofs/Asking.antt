@@ -5,8 +5,6 @@ use mathlib.Core.List.{List, [], _∷_}
 use mathlib.Core.Path.{_≡_, refl, sym, ap, _∙_}
 use Prim.Native.Nat.{ℕ}
 use denote.Enum.Declared.{tagOf}
-use lib.Dec.{ltb}
-use lib.ListN.{length}
 use types.Run.{OneOf, miss}
 use Rattle.paper.specs.Declaration.{Part, given, notGiven}
 use Rattle.paper.specs.Request as asked
@@ -17,8 +15,6 @@ use Rattle.words.specs.Shown.{beginShown, beginMeant, shownPart, meantPart}
 use Rattle.declarations.proofs.Parts.{lifetime-back, level-back, digit-back}
 use Rattle.reader.specs.Asked.{shownRequest, shownRead}
 use Rattle.reader.specs.Tied.{Tied, TiedRead}
-use Rattle.declarations.specs.declared.part.Level.{Level}
-use Rattle.declarations.specs.declared.part.Digit.{Digit}
 use Rattle.reader.specs.declared.request.Request.{Request}
 use Rattle.reader.proofs.request.Request.{the-type}
 use Rattle.reader.specs.declared.request.Request.the-variants.{Crd, Wrs, Rds, Cpy, Dup, Chn, Del, Dpr, Lst, LstBase, LstTree, LstBaseTree, Rewrite}

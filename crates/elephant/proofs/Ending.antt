@@ -1,41 +1,50 @@
 -- A new entry's plan, by what the code finds: its checks are those of what the entry meets, and its stores are the file's, the
 -- entry's and the settling, as many as are counted. So where no check holds the stores made are the first of the plan's.
-use mathlib.Core.Bool.{Bool, true, false, not, cond, true≢false}
-use mathlib.Core.List.{List, [], _∷_, _++_}
+use mathlib.Core.Bool.{Bool, true, false, _&&_, not, cond, true≢false}
+use mathlib.Core.List.{List, [], _∷_, _++_, append-nil}
 use mathlib.Core.Path.{_≡_, refl, sym, ap, _∙_}
-use Prim.Native.Nat.{ℕ, zero, suc, _+_, _≤_}
+use Prim.Native.Nat.{ℕ, zero, suc, _+_, _≤_, _<_}
 use native.Mathlib.Omega.{arith}
 use lib.Dec.{eqb}
 use lib.ListN.{getD, length, length-append}
-use borrow.Author.Tests.{eq-eqb, ne-eqb}
+use borrow.Author.Tests.{eq-eqb, ne-eqb, ltb-false}
 use Rattle.paper.specs.Scan as F
-use Rattle.paper.specs.Table.{sized, room}
+use Rattle.paper.specs.Record.{headingRecord}
+use Rattle.paper.specs.Table.{sized, rooms, lay, frees, room}
 use Rattle.paper.specs.Check as given
 use Rattle.paper.specs.Check.{Place, refusalAt, Check, check, Verdict, passed, refused, verdict}
 use Rattle.paper.specs.Entry.{Holder}
 use Rattle.paper.specs.Block.{blocks}
-use Rattle.paper.specs.Store.{puts}
+use Rattle.paper.specs.Store.{Store, puts, run}
 use Rattle.paper.specs.Answer.{plain}
 use Rattle.paper.specs.Effect.{Plan, plan, Making, newFile, placing, needed, borne, isFound, displacing, fullUp, stillPeopled, noRoom, linkTaken}
 use Rattle.laws.proofs.Tests.{clash}
 use Rattle.laws.proofs.Lists.{Every}
+use Rattle.laws.proofs.Lay.{rooms-lay}
+use Rattle.laws.proofs.Runs.{rooms-run}
+use Rattle.demands.proofs.Sound.Right.{Right, sound-right}
+use Rattle.demands.proofs.SoundKept.Filed.{roomy, length-file}
+use Rattle.records.specs.Shown.{holderShown}
 use Rattle.words.specs.Shown.{beginMeant}
 use Rattle.words.specs.declared.begin.Begin.{Begin}
 use Rattle.words.specs.declared.begin.Begin.the-variants.{Own, Take, Give}
 use Rattle.scans.specs.Shown.{foundShown}
 use Rattle.effects.specs.Listed.{freeRooms, textRooms}
 use Rattle.effects.specs.Stage.{Made, textStores, clearStores}
+use Rattle.effects.specs.Counts.{countStores, countMoves}
+use Rattle.effects.proofs.Recounts.{count-length}
 use Rattle.effects.proofs.Papers.{free-room, new-file, text-stores-length, clear-stores-length}
 use Rattle.walk.specs.declared.state.State.{State}
-use Rattle.answers.specs.Shown.{placeMeant, placeShown, shown, stored}
+use Rattle.answers.specs.Shown.{placeMeant, shown, stored}
 use Rattle.placing.specs.Placing.{met, entryChecks, refusalShown, entryStores}
 use Rattle.placing.specs.declared.Meets.{Meets}
 use Rattle.placing.specs.declared.Refusal.{Refusal}
 use Rattle.elephant.specs.Done.{Did}
-use Rattle.elephant.specs.Filing.{fileCount, fileStores, neededBy, storesBy, makingOf, takenBy, lateChecks, allChecks, ending, Ready}
+use Rattle.elephant.specs.Filing.{fileCount, fileStores, neededBy, storesBy, makingOf, takenBy, lateChecks, allChecks, ending, Names, fresh, standing, Ready}
 use Rattle.elephant.specs.declared.filing.File.{File}
 use Rattle.elephant.proofs.Verdicts.{first-holds, first-passes, none-left, front-refuses, front-passes, did-refused, did-stored}
-use Rattle.placing.proofs.Meeting.{displaced-loses, placed-settled}
+use Rattle.placing.proofs.Holding.{Before, before-none, before-file}
+use Rattle.placing.proofs.Meeting.{full-met, displaced-loses, placed-settled}
 
 -- ---- how many
 
@@ -53,12 +62,22 @@ stores-length f r text = go (f .new)
     go true = rw (text-stores-length (getD r 0 0) r 1 text) (omega arith)
     go false = refl
 
-entry-length : (m : Meets) (entry r : List ℕ) → length (entryStores m entry r) ≡ cond (m .lost) (m .count .0 + 2) 1
-entry-length m entry r = go (m .lost)
+entry-length : (t : List ℕ) (m : Meets) (entry r : List ℕ)
+    → length (entryStores t m entry r) ≡ countMoves (rooms t) (m .moves) + cond (m .lost) (m .count .0 + 2) 1
+entry-length t m entry r = go (m .lost)
   where
-    go : (b : Bool) → length (puts (m .room .0) entry ∷ cond b (clearStores (m .heading .0) r (m .count .0)) []) ≡ cond b (m .count .0 + 2) 1
-    go true = rw (clear-stores-length (m .heading .0) r (m .count .0)) (omega arith)
-    go false = refl
+    u : List ℕ
+    u = lay t (m .room .0) entry
+
+    counts : length (countStores u (m .moves)) ≡ countMoves (rooms t) (m .moves)
+    counts = count-length u (m .moves) ∙ ap (λ (n : ℕ). countMoves n (m .moves)) (rooms-lay t (m .room .0) entry)
+
+    go : (b : Bool) → length (puts (m .room .0) entry ∷ (countStores u (m .moves) ++ cond b (clearStores (m .heading .0) r (m .count .0)) []))
+        ≡ countMoves (rooms t) (m .moves) + cond b (m .count .0 + 2) 1
+    go true =
+        rw (length-append (countStores u (m .moves)) (clearStores (m .heading .0) r (m .count .0)), counts, clear-stores-length (m .heading .0) r (m .count .0))
+        (omega arith)
+    go false = ap (λ (ss : List Store). length (puts (m .room .0) entry ∷ ss)) (append-nil (countStores u (m .moves))) ∙ omega (arith, counts)
 
 pub first-stores : (t : List ℕ) (f : File) (text : List ℕ) → sized t ≡ true → length text ≤ 24000
     → fileStores f (freeRooms t) text ≡ cond (f .new) (newFile t (f .heading) text) []
@@ -159,22 +178,38 @@ all-telling t to place d m n late = ((λ _. omega arith), ((λ _. omega arith), 
 -- ---- the plan
 
 -- what is displaced, and the free records needed, by where the name was found
-is-displaced : (t : List ℕ) (f : F.Found) (k free : ℕ) → isFound f ≡ met t (foundShown f) k free .displaced
-is-displaced t (F.at e) k free = refl
-is-displaced t F.nowhere k free = refl
+is-displaced : (t : List ℕ) (f : F.Found) (d : Holder) (k free : ℕ) → isFound f ≡ met t (foundShown f) d k free .displaced
+is-displaced t (F.at e) d k free = refl
+is-displaced t F.nowhere d k free = refl
 
-needed-by : (t : List ℕ) (m : Making) (f : F.Found) (k free : ℕ) → needed m f ≡ neededBy (length (m .first)) (met t (foundShown f) k free .displaced)
-needed-by t m (F.at e) k free = refl
-needed-by t m F.nowhere k free = refl
+needed-by : (t : List ℕ) (m : Making) (f : F.Found) (d : Holder) (k free : ℕ)
+    → needed m f ≡ neededBy (length (m .first)) (met t (foundShown f) d k free .displaced)
+needed-by t m (F.at e) d k free = refl
+needed-by t m F.nowhere d k free = refl
+
+needed-least : (n : ℕ) (b : Bool) → n ≤ neededBy n b
+needed-least n true = omega arith
+needed-least n false = omega arith
+
+-- where no check refuses, none holds
+passes-all : (cs : List Check) → verdict cs ≡ passed → Every (λ c. c .when ≡ false) cs
+unfolding verdict
+passes-all [] e = tt
+passes-all (c ∷ cs) e = go (c .when) refl e (passes-all cs)
+  where
+    go : (b : Bool) → c .when ≡ b → cond b (refused (c .refusal)) (verdict cs) ≡ passed → (verdict cs ≡ passed → Every (λ c. c .when ≡ false) cs)
+        → (c .when ≡ false) × Every (λ c. c .when ≡ false) cs
+    go true q z r = clash (cc)
+    go false q z r = (q, r z)
 
 module _
-    (t r name text : List ℕ) (named : ℕ) (w : Ready t r name text named)
-    (place : Place) (to : Begin) (d : State) (code : ℕ) (f : File) (free : ℕ) (isFree : free ≡ getD r (fileCount f text) 0) where
+    (t r name text : List ℕ) (named : ℕ) (place : Place) (to : Begin) (d : State) (code : ℕ) (f : File)
+    (w : Ready t r name text named (holderShown (d .holder)) f) (free : ℕ) (isFree : free ≡ getD r (fileCount f text) 0) where
   abbrev making : Making
   making = makingOf t place d name code named f text
 
   abbrev meets : Meets
-  meets = met t (foundShown (borne t making)) named free
+  meets = met t (foundShown (borne t making)) (holderShown (d .holder)) named free
 
   first-length : length (making .first) ≡ fileCount f text
   first-length = ap length (sym (first-stores t f text (w .size) (w .few))) ∙ stores-length f (freeRooms t) text
@@ -190,11 +225,14 @@ module _
   checks-met : checks
       ≡ entryChecks t place (making .directory .holder) meets (neededBy (fileCount f text) (meets .displaced)) ++ lateChecks (f .late)
   checks-met =
-      rw (
-        is-displaced t (borne t making) named free,
-        displaced-loses t (w .size) (w .sound) code (d .holder .heading .0) named (d .holder .user) name (w .short) (w .small)
-            (making .directory .holder) name (borne t making) free refl,
-        needed-by t making (borne t making) named free,
+      ap (λ (b : Bool).
+      check (not (isFound (borne t making)) && b) 17 place ∷ stillPeopled place (displacing t (borne t making) (making .entry)) ∷ noRoom t making
+      ∷ lateChecks (f .late))
+      (full-met t (w .size) (w .sound) (holderShown (d .holder)) (w .held))
+      ∙ rw (
+        is-displaced t (borne t making) (holderShown (d .holder)) named free,
+        displaced-loses t (w .size) (w .sound) code (holderShown (d .holder)) named name (w .short) (w .small) (borne t making) free refl,
+        needed-by t making (borne t making) (holderShown (d .holder)) named free,
         first-length,
       )
 
@@ -209,14 +247,39 @@ module _
       go Own = ap verdict checks-met
       go (Take n) = ap verdict checks-met
       go (Give n) =
-          ap (λ (b : Bool). verdict (check b 16 place ∷ checks)) (is-displaced t (borne t making) named free)
+          ap (λ (b : Bool). verdict (check b 16 place ∷ checks)) (is-displaced t (borne t making) (holderShown (d .holder)) named free)
           ∙ ap (λ (cs : List Check). verdict (check (meets .displaced) 16 place ∷ cs)) checks-met
 
-  stores-met : placing t making (borne t making) ≡ fileStores f r text ++ entryStores meets (making .entry) (textRooms t (meets .heading .0))
-  stores-met =
-      placed-settled t (w .size) (w .sound) code (d .holder .heading .0) named (d .holder .user) name (w .short) (w .small)
-      making (borne t making) refl refl
-      ∙ rw (free-there, w .free, first-stores t f text (w .size) (w .few))
+  -- the stores before the entry, where there is room for them
+  before : length (making .first) ≤ length (frees t) → Before t (making .first) named
+  before l = go (w .names)
+    where
+      c : Right t
+      c = sound-right t (w .size) (w .sound)
+
+      go : Names t f named → Before t (making .first) named
+      go (fresh type lev kind life n e q z) =
+          let head : List ℕ = headingRecord type lev kind life n in
+          let m : length (newFile t head text) ≤ length (frees t) = rw (e, q) at l in
+          rw (e, q, z) (before-file t type lev kind life n text c (roomy t type lev kind life n text (omega (arith, length-file t head text))))
+      go (standing e q) = rw e (before-none t c named q)
+
+  -- .. and for the entry, where it displaces none
+  module _ (l : neededBy (fileCount f text) (meets .displaced) ≤ length (frees t)) where
+    enough : length (making .first) ≤ length (frees t)
+    enough = rw first-length (omega (arith, needed-least (fileCount f text) (meets .displaced)))
+
+    left : borne t making ≡ F.nowhere → length (making .first) < length (frees t)
+    left e =
+        let q : meets .displaced ≡ false = sym (is-displaced t (borne t making) (holderShown (d .holder)) named free) ∙ ap isFound e in
+        rw first-length (omega (arith, rw q at l))
+
+    stores-met : placing t making (borne t making)
+        ≡ fileStores f r text ++ entryStores (run t (fileStores f r text)) meets (making .entry) (textRooms t (meets .heading .0))
+    stores-met =
+        placed-settled t (w .size) (w .sound) code (holderShown (d .holder)) named name (w .short) (w .small) making refl (before enough) (w .held)
+        (borne t making) refl left
+        ∙ rw (free-there, w .free, first-stores t f text (w .size) (w .few))
 
   abbrev ends : Plan
   ends =
@@ -229,7 +292,8 @@ module _
 
   module _ (k : ℕ) (m : Meets) (e : m ≡ meets) (c : Refusal)
       (q : c ≡ refusalShown (verdict (allChecks t to place (making .directory .holder) m (neededBy (fileCount f text) (m .displaced)) (f .late)))) where
-    pub ends-refused : (c .number ≡ 0 → ⊥) → Did t k (ending t (beginMeant to) making (lateChecks (f .late))) (shown (plain (c .number) (placeMeant (c .place)) 0 0)) t
+    pub ends-refused : (c .number ≡ 0 → ⊥)
+        → Did t k (ending t (beginMeant to) making (lateChecks (f .late))) (shown (plain (c .number) (placeMeant (c .place)) 0 0)) t
     unfolding ending
     ends-refused h = go (verdict (ends .checks)) refl (rw (taken-met, ← e) q)
       where
@@ -238,16 +302,18 @@ module _
         go (refused g) x y = rw y (did-refused t k ends g x)
 
     pub ends-stored : c .number ≡ 0 → (u entry : List ℕ) (l : ℕ) → entry ≡ making .entry
-        → Made t u k l (fileStores f r text ++ entryStores m entry (textRooms t (m .heading .0)))
-        → Did t k (ending t (beginMeant to) making (lateChecks (f .late))) (shown (stored (storesBy (fileCount f text) m) k (m .displaced))) u
+        → Made t u k l (fileStores f r text ++ entryStores (run t (fileStores f r text)) m entry (textRooms t (m .heading .0)))
+        → Did t k (ending t (beginMeant to) making (lateChecks (f .late))) (shown (stored (storesBy (rooms t) (fileCount f text) m) k (m .displaced))) u
     unfolding ending
     ends-stored h u entry l x y =
-        let v : verdict (ends .checks) ≡ passed =
-        rw (taken-met, ← e)
-        (none-refuses _ (all-telling t to place (making .directory .holder) m (neededBy (fileCount f text) (m .displaced)) (f .late))
-        (sym (ap (λ (s : Refusal). s .number) q) ∙ h)) in
-        let s : ends .stores ≡ fileStores f r text ++ entryStores m entry (textRooms t (m .heading .0)) = rw (x, e) stores-met in
-        let n : length (ends .stores) ≡ storesBy (fileCount f text) m =
-        ap length s ∙ rw (length-append, stores-length f r text, entry-length m entry (textRooms t (m .heading .0))) in
-        let b : ends .displaced ≡ m .displaced = rw e (is-displaced t (borne t making) named free) in
+        let z : verdict (allChecks t to place (making .directory .holder) m (neededBy (fileCount f text) (m .displaced)) (f .late)) ≡ passed =
+        none-refuses _ (all-telling t to place (making .directory .holder) m (neededBy (fileCount f text) (m .displaced)) (f .late))
+        (sym (ap (λ (s : Refusal). s .number) q) ∙ h) in
+        let v : verdict (ends .checks) ≡ passed = rw (taken-met, ← e) z in
+        let o : neededBy (fileCount f text) (meets .displaced) ≤ length (frees t) = ltb-false _ _ (rw e at (passes-all _ z .1 .1 .1 .0)) in
+        let files : List Store = fileStores f r text in
+        let s : ends .stores ≡ files ++ entryStores (run t files) m entry (textRooms t (m .heading .0)) = rw (x, e) (stores-met o) in
+        let n : length (ends .stores) ≡ storesBy (rooms t) (fileCount f text) m =
+        ap length s ∙ rw (length-append, stores-length f r text, entry-length (run t files) m entry (textRooms t (m .heading .0)), rooms-run t files) in
+        let b : ends .displaced ≡ m .displaced = rw e (is-displaced t (borne t making) (holderShown (d .holder)) named free) in
         rw (← n, ← b) (did-stored t u k l ends v refl (rw s y))

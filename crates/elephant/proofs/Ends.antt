@@ -1,19 +1,26 @@
 -- A plan after a walk is refused where the walk stopped, and else goes on from the states it came to: the code's walk shows the
 -- paper's, so that the case it chooses is the plan's. On a fit table the file that it came to is there.
 use mathlib.Core.List.{List}
+use mathlib.Core.Logic.{inl, inr}
 use mathlib.Core.Path.{_≡_, refl, sym, ap, _∙_}
 use Prim.Native.Nat.{ℕ}
 use Rattle.paper.specs.Line.{Word}
+use Rattle.paper.specs.Record.{byte}
+use Rattle.paper.specs.Table.{rec}
+use Rattle.paper.specs.Entry.{Holder}
+use Rattle.laws.proofs.Tests.{clash}
 use Rattle.paper.specs.Walk as W
 use Rattle.paper.specs.Walk.{start, toDirectory, ended}
 use Rattle.paper.specs.Check.{atLink, refusalAt}
 use Rattle.paper.specs.Answer.{plain}
 use Rattle.paper.specs.Effect.{Planned, halted, chainOf, onward, inward, toHolder, toEnd, listOf, begun}
 use Rattle.demands.proofs.Sound.Clauses.{sound-clauses}
-use Rattle.demands.proofs.Request.Walked.{walk-reached}
+use Rattle.demands.proofs.Request.Walked as Walked
+use Rattle.demands.proofs.Request.Walked.{walk-reached, walk-ends}
 use Rattle.words.specs.Place.{wordAt}
 use Rattle.words.specs.Shown.{beginMeant}
 use Rattle.words.specs.declared.begin.Begin.{Begin}
+use Rattle.walk.specs.Shown as walking
 use Rattle.walk.specs.Shown.{meant, walkedShown, begins, chainAt}
 use Rattle.walk.specs.Ends.{endShown, bothShown}
 use Rattle.walk.specs.declared.state.State.{State}
@@ -23,6 +30,8 @@ use Rattle.walk.specs.declared.end.End.the-variants.{At, Off}
 use Rattle.walk.specs.declared.end.Both.{Both}
 use Rattle.walk.specs.declared.end.Both.the-variants as both
 use Rattle.walk.proofs.Ends.{walked-stopped, walked-reached, end-arrived, end-astray, arrived-last}
+use Rattle.records.specs.Shown.{holderShown}
+use Rattle.placing.specs.Placing.{Held}
 use Rattle.answers.specs.Shown.{placeShown, shown}
 use Rattle.answers.specs.declared.Answer.{Answer}
 use Rattle.elephant.specs.Done.{Fit, Filed, Did, Wrote}
@@ -82,7 +91,22 @@ filed t line u p b r e h d f z =
     let ns : List (List ℕ) = chainAt line p b in
     let x = end-arrived (ended t (begins u b) ns) d f (sym e ∙ z) in
     let w = walk-reached 65535 t (sound-clauses t (h .sized) (h .sound)) (meant d) ns (meant f) (arrived-last t (begins u b) ns (meant d) (meant f) x) in
-    record { fit = h; entry = w .looked .within; heading = w .within; kind = w .heading }
+    record { fit = h; entry = w .looked .within; stands = w .looked .stands .kind; heading = w .within; kind = w .heading }
+
+-- the directory is a base list, or it is there
+reached-held : (t : List ℕ) → Fit t → (u : ℕ) (ns : List (List ℕ)) (d : State) → toDirectory t 1 (start u) ns ≡ W.reached (meant d)
+    → Held t (holderShown (d .holder))
+reached-held t h u ns d q = go (walk-ends 65535 t (sound-clauses t (h .sized) (h .sound)) 1 u ns (meant d) q)
+  where
+    go : Walked.Ends t u ns (meant d) → Held t (holderShown (d .holder))
+    go (Walked.base l e) = inl (ap (λ (s : W.State). s .holder .heading) e)
+    go (Walked.inside l i) =
+        let g : d .holder .heading .0 ≡ i .heading = ap (λ (x : Holder). x .heading) (i .holder) in
+        inr (rw g (i .directory), ap (λ (x : Holder). x .user) (i .holder))
+
+pub walked-held : (t : List ℕ) → Fit t → (u : ℕ) (ns : List (List ℕ)) (d : State) → walkedShown (toDirectory t 1 (start u) ns) ≡ Reached d
+    → Held t (holderShown (d .holder))
+walked-held t h u ns d e = reached-held t h u ns d (walked-reached (toDirectory t 1 (start u) ns) d e)
 
 -- ---- to a file and to a directory
 
@@ -95,6 +119,26 @@ both-plan : (e : W.End) (w : W.Walked) (g : W.State → W.State → Planned)
 both-plan (W.astray n l) w g = refl
 both-plan (W.arrived d f) (W.stopped n l) g = refl
 both-plan (W.arrived d f) (W.reached s) g = refl
+
+-- both are there
+both-ways : (x : W.End) (y : W.Walked) (f d : State) → bothShown x y ≡ both.At f d → (z : W.State) × (x ≡ W.arrived z (meant f)) × (y ≡ W.reached (meant d))
+both-ways (W.astray n l) y f d e = clash (cc)
+both-ways (W.arrived z w) (W.stopped n l) f d e = clash (cc)
+both-ways (W.arrived z w) (W.reached s) f d e =
+    let p : walking.shown w ≡ f = cc in
+    let q : walking.shown s ≡ d = cc in
+    (z, ap (λ (x : State). W.arrived z (meant x)) p, ap (λ (x : State). W.reached (meant x)) q)
+
+pub both-there : (t line : List ℕ) (u : ℕ) (from : Begin) (old : ℕ) (to : Begin) (new : ℕ) (r : Both)
+    → r ≡ bothShown (ended t (begins u from) (chainAt line old from)) (toDirectory t 1 (begins u to) (chainAt line new to))
+    → Fit t → (f d : State) → r ≡ both.At f d → Held t (holderShown (d .holder)) × (byte (rec t (W.file t (meant f))) 0 ≡ 1)
+both-there t line u from old to new r e h f d z =
+    let w = both-ways (ended t (begins u from) (chainAt line old from)) (toDirectory t 1 (begins u to) (chainAt line new to)) f d (sym e ∙ z) in
+    let c = sound-clauses t (h .sized) (h .sound) in
+    let ns : List (List ℕ) = chainAt line old from in (
+      reached-held t h (listOf u (beginMeant to)) (chainAt line new to) d (w .2),
+      walk-reached 65535 t c (w .0) ns (meant f) (arrived-last t (begins u from) ns (w .0) (meant f) (w .1)) .heading,
+    )
 
 module _ (t line : List ℕ) (u : ℕ) (from : Begin) (old : ℕ) (to : Begin) (new : ℕ) (g : W.State → W.State → Planned) (r : Both)
     (e : r ≡ bothShown (ended t (begins u from) (chainAt line old from)) (toDirectory t 1 (begins u to) (chainAt line new to))) where

@@ -1,7 +1,7 @@
 -- RDS and LST at the end of their walks, by the tests that the code makes: 13, 15, and then what is written.
 -- Both are one reading, over the file that is asked for and what is written of it.
 use mathlib.Core.Bool.{true, false, not}
-use mathlib.Core.List.{List, [], _∷_}
+use mathlib.Core.List.{List, []}
 use mathlib.Core.Logic.{by-cases}
 use mathlib.Core.Path.{_≡_, sym, ap, _∙_}
 use Prim.Native.Nat.{ℕ, _-_, _≤_, _<_, min}
@@ -83,7 +83,8 @@ module _ (place : Place) (t reply : List ℕ) (h n : ℕ) (f : Fit t) (s : simpl
       wrote-late t reply out after (refusalAt 28 (whole 2)) (omega (arith, out-size))
       (second-holds mark (beyondEnd (whole 2) first (fileText t h)) [] b (lt-ltb (length (fileText t h)) (orElse first 0) (omega (arith, size))))
 
-  pub part-written : (w : List ℕ) → m ≤ length reply → marked (rec t h) ≡ false → orElse first 0 ≤ n → w ≡ sets reply 0 (take m (drop (orElse first 0) (fileText t h)))
+  pub part-written : (w : List ℕ) → m ≤ length reply → marked (rec t h) ≡ false → orElse first 0 ≤ n
+      → w ≡ sets reply 0 (take m (drop (orElse first 0) (fileText t h)))
       → Wrote t reply (showing [] out reply after) (shown (granting false m 0)) w
   unfolding part
   part-written w l b o z =

@@ -16,7 +16,7 @@ use Rattle.paper.specs.Block.{blocks, blocksOf}
 use Rattle.paper.specs.Store.{Store, puts, run}
 use Rattle.paper.specs.Walk.{file}
 use Rattle.paper.specs.Answer.{plain}
-use Rattle.paper.specs.Effect.{writeInhibited, notSimple, noRoomFor, isLong, bared, emptying, emptied, laying, rewriting, rewriteAt}
+use Rattle.paper.specs.Effect.{writeInhibited, notSimple, noRoomFor, isLong, emptying, emptied, laying, rewriting, rewriteAt}
 use Rattle.laws.proofs.Runs.{length-run}
 use Rattle.demands.proofs.Sound.Clauses.{sound-clauses, length-most}
 use Rattle.records.proofs.Builds.{whole-there}

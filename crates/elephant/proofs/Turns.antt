@@ -17,7 +17,8 @@ use Rattle.words.specs.Place.{nextWord, wordAt}
 use Rattle.words.proofs.Words.{word-here, word-next}
 use Rattle.reader.proofs.Ties.{rest-word}
 use Rattle.laws.proofs.Tests.{clash}
-use Rattle.demands.proofs.Sound.Clauses.{Sound, sound-clauses, clauses-sound}
+use Rattle.demands.proofs.Sound.Clauses.{sound-clauses}
+use Rattle.demands.proofs.Sound.Right.{Right, right-sound}
 use Rattle.demands.proofs.SoundKept.Kept.{Keeps, del-keeps}
 use Rattle.elephant.specs.Done.{did, Fit}
 use Rattle.answers.specs.Shown.{placeMeant, placeShown, shown}
@@ -60,11 +61,11 @@ module _ (t : List ℕ) (k n m : ℕ) (more : List ℕ → ℕ → ℕ → ℕ �
       go (refused f) q e = clash (cc)
 
 -- a name done leaves a fit table
-done-fit : (t : List ℕ) (k c : ℕ) (x : Planned) → Keeps t x → deletedShown x ≡ Passed c → c ≤ k → Sound (did t k x .table)
+done-fit : (t : List ℕ) (k c : ℕ) (x : Planned) → Keeps t x → deletedShown x ≡ Passed c → c ≤ k → Right (did t k x .table)
 done-fit t k c (halted f) h e l = clash (cc)
 done-fit t k c (plan p) h e l = go (verdict (p .checks)) refl e
   where
-    go : (v : Verdict) → verdict (p .checks) ≡ v → deletedBy (length (p .stores)) v ≡ Passed c → Sound (did t k (plan p) .table)
+    go : (v : Verdict) → verdict (p .checks) ≡ v → deletedBy (length (p .stores)) v ≡ Passed c → Right (did t k (plan p) .table)
     go passed q e = let y : length (p .stores) ≡ c = cc in rw (q, le-leb (length (p .stores)) k (omega arith)) (h q)
     go (refused f) q e = clash (cc)
 
@@ -86,7 +87,7 @@ module _ (t : List ℕ) (u k n m : ℕ) (w : Word) (ws : List Word) where
 
     pub turn-fit : Fit t → Fit (did t k (delPlan t u (n + 1) w) .table)
     turn-fit f =
-        let s = clauses-sound _ (done-fit t k c (delPlan t u (n + 1) w) (del-keeps t u (n + 1) w (sound-clauses t (f .sized) (f .sound))) (sym p) l) in
+        let s = right-sound _ (done-fit t k c (delPlan t u (n + 1) w) (del-keeps t u (n + 1) w (sound-clauses t (f .sized) (f .sound))) (sym p) l) in
         record { sized = s .0; sound = s .1 }
 
 -- ---- all the names

@@ -21,6 +21,7 @@ pub record Fit (t : List ℕ) : Type 0 where
 pub record Filed (t : List ℕ) (f : State) : Type 0 where
   pub fit : Fit t
   pub entry : f .entry < rooms t
+  pub stands : byte (rec t (f .entry)) 0 ≡ 2
   pub heading : file t f < rooms t
   pub kind : byte (rec t (file t f)) 0 ≡ 1
 

@@ -5,8 +5,8 @@ use mathlib.Core.Path.{_≡_}
 use Prim.Native.Nat.{ℕ, _+_, _≤_, _<_}
 use lib.Dec.{eqb, ltb}
 use lib.ListN.{getD, length}
-use Rattle.paper.specs.Record.{level, marked}
-use Rattle.paper.specs.Table.{sized, rec}
+use Rattle.paper.specs.Record.{byte, level, marked, headingRecord}
+use Rattle.paper.specs.Table.{sized, rec, room}
 use Rattle.paper.specs.Declaration.{Part, orElse}
 use Rattle.paper.specs.Line.{Word}
 use Rattle.paper.specs.Check.{Place, whole, Check, check}
@@ -23,10 +23,11 @@ use Rattle.words.specs.declared.begin.Begin.{Begin}
 use Rattle.words.specs.declared.begin.Begin.the-variants.{Own, Take, Give}
 use Rattle.effects.specs.Listed.{freeRooms}
 use Rattle.effects.specs.Stage.{textStores}
+use Rattle.effects.specs.Counts.{countMoves}
 use Rattle.walk.specs.Shown.{meant, chainAt}
 use Rattle.walk.specs.declared.state.State.{State}
 use Rattle.answers.specs.Shown.{placeMeant}
-use Rattle.placing.specs.Placing.{entryChecks}
+use Rattle.placing.specs.Placing.{Held, entryChecks}
 use Rattle.placing.specs.declared.Meets.{Meets}
 use Rattle.placing.specs.declared.Refusal.{Refusal}
 use Rattle.elephant.specs.declared.filing.File.{File}
@@ -44,9 +45,9 @@ abbrev pub neededBy : ℕ → Bool → ℕ
 neededBy first true = first
 neededBy first false = first + 1
 
--- how many stores there are in all
-abbrev pub storesBy : ℕ → Meets → ℕ
-storesBy first m = first + cond (m .lost) (m .count .0 + 2) 1
+-- how many stores there are in all, in a table of n records: the counts' among them
+abbrev pub storesBy : ℕ → ℕ → Meets → ℕ
+storesBy n first m = first + (countMoves n (m .moves) + cond (m .lost) (m .count .0 + 2) 1)
 
 -- a new entry of the directory d
 abbrev pub makingOf : List ℕ → Place → State → List ℕ → ℕ → ℕ → File → List ℕ → Making
@@ -83,14 +84,31 @@ ending t to m late =
       reply = [];
     })
 
--- what making an entry stands on: the table, its free records listed in r, a name and a text as long as they may be
-pub record Ready (t r name text : List ℕ) (named : ℕ) : Type 0 where
+-- the file that an entry names: a new one, whose heading goes to the first free record, or one of the table
+pub data Names (t : List ℕ) (f : File) (named : ℕ) : Type 0 where
+  fresh : (type lev code life n : ℕ) → f .new ≡ true → f .heading ≡ headingRecord type lev code life n → named ≡ room t 0 → Names t f named
+  standing : f .new ≡ false → byte (rec t named) 0 ≡ 1 → Names t f named
+
+-- what making an entry in d stands on: the table, its free records listed in r, a name and a text as long as they may be
+pub record Ready (t r name text : List ℕ) (named : ℕ) (d : Holder) (f : File) : Type 0 where
   pub size : sized t ≡ true
   pub sound : sound t ≡ true
   pub free : r ≡ freeRooms t
   pub short : length name ≤ 10
   pub few : length text ≤ 24000
   pub small : named < 65536
+  pub held : Held t d
+  pub names : Names t f named
+
+-- what a new file in d stands on besides: the directory, and its heading, which "starts with both at 0"
+pub record Fresh (t : List ℕ) (d : Holder) (heading : List ℕ) : Type 0 where
+  pub held : Held t d
+  pub type : ℕ
+  pub lev : ℕ
+  pub code : ℕ
+  pub life : ℕ
+  pub size : ℕ
+  pub is : heading ≡ headingRecord type lev code life size
 
 -- what a new name at p stands on: the table, the name's length and the text's; and the line's, in which its links are counted
 pub record Named (t line : List ℕ) (p : ℕ) (text : List ℕ) : Type 0 where

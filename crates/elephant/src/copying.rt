@@ -32,12 +32,13 @@ ghost use Rattle.paper.specs.Record.{simple};
 ghost use Rattle.paper.specs.Request.{own};
 ghost use Rattle.paper.specs.Table.{rec};
 ghost use Rattle.paper.specs.Walk.{file};
+ghost use Rattle.records.specs.Shown.{holderShown};
 ghost use Rattle.declarations.specs.Given.{lifetimePart, levelPart, digitPart};
 ghost use Rattle.words.specs.Place.{wordAt};
 ghost use Rattle.words.specs.Shown.{beginMeant};
 ghost use Rattle.walk.specs.Shown.{meant};
 ghost use Rattle.answers.specs.Shown.{placeMeant};
-ghost use Rattle.placing.specs.Placing.{refusalShown};
+ghost use Rattle.placing.specs.Placing.{Held, refusalShown};
 ghost use Rattle.elephant.specs.Done.{Did};
 ghost use Rattle.elephant.specs.Filing.{Named, copied, copyLate, lateOf, ending};
 
@@ -67,7 +68,8 @@ fn copy(
     digit: Digit,
     stop: u32,
 ) -> Answer
-    requires { ⌜ Named (now table) (now line) new [] × (simple (rec (now table) (source .0)) ≡ true) ⌝ }
+    requires { ⌜ Named (now table) (now line) new [] × (simple (rec (now table) (source .0)) ≡ true)
+        × Held (now table) (holderShown (d .holder)) ⌝ }
     ensures { λ r. ⌜ Did (now (table .entry)) stop
         (ending (now (table .entry)) own
         (copied (now (table .entry)) (wordAt (now (line .entry)) new) (meant d) (source .0)
@@ -113,7 +115,7 @@ fn cpy_in(
     digit: Digit,
     stop: u32,
 ) -> Answer
-    requires { ⌜ Named (now table) (now line) new [] ⌝ }
+    requires { ⌜ Named (now table) (now line) new [] × Held (now table) (holderShown (d .holder)) ⌝ }
     ensures { λ r. ⌜ Did (now (table .entry)) stop
         (making (now (table .entry))
         (copied (now (table .entry)) (wordAt (now (line .entry)) new) (meant d) (file (now (table .entry)) (meant f))

@@ -1,16 +1,20 @@
-// DEL: name by name, an entry cleared and then its file, if no other entry names it.
+// DEL: name by name, an entry cleared, the counts that this moves and then its file, if no other entry names it.
 use crate::place::at_link;
 use crate::place::end_of;
 use answers::Answer;
 use answers::Place;
-use effects::beside::is_named_beside;
+use effects::counts::Moves;
+use effects::counts::count_moves;
+use effects::counts::recount;
 use effects::rooms::text_rooms;
 use effects::stage::clear_file;
 use effects::stage::put;
 use placing::is_directory_peopled;
+use placing::is_last;
 use records::block::blocks;
 use records::bytes::Room;
 use records::entry::heading_named;
+use records::entry::holder_of;
 use records::heading::text_length;
 use records::text::Text;
 use walk::end::End;
@@ -18,15 +22,18 @@ use walk::end::to_end;
 use walk::state::State;
 use words::begin::Begin;
 use words::line::next_word;
-ghost use mathlib.Core.List.{_∷_};
+ghost use mathlib.Core.List.{_∷_, _++_};
 ghost use mathlib.Core.Path.{_≡_};
 ghost use Prim.Native.Nat.{_≤_, _<_};
 ghost use lib.ListN.{length, drop};
 ghost use Rattle.paper.specs.Effect.{freed, delAt, delPlan};
 ghost use Rattle.paper.specs.Line.{words, word};
-ghost use Rattle.paper.specs.Record.{byte};
+ghost use Rattle.paper.specs.Record.{byte, holderOf, blank};
 ghost use Rattle.paper.specs.Store.{clear};
-ghost use Rattle.paper.specs.Table.{rooms, rec};
+ghost use Rattle.paper.specs.Table.{rooms, rec, lay};
+ghost use Rattle.effects.specs.Counts.{countStores};
+ghost use Rattle.effects.specs.Stage.{Made};
+ghost use Rattle.placing.specs.Placing.{gone};
 ghost use Rattle.answers.specs.Shown.{placeMeant, shown};
 ghost use Rattle.words.specs.Place.{wordAt};
 ghost use Rattle.walk.specs.Shown.{meant};
@@ -56,17 +63,56 @@ impl Deleted {
     }
 }
 
-// An entry and its file cleared, as many of the stores as are left; handed back, how many they are.
+// The counts that move where an entry of a heading is cleared: the file's and, if it has one, its directory's.
+fn gone(table: &[u8], entry: Room, heading: Room) -> Moves
+    ensures { λ r. ⌜ r ≡ gone (holderOf (rec (now (table .entry)) (entry .0))) (heading .0) ⌝ }
+{
+    let none = Room(Moves::NONE);
+    let less = holder_of(table, entry);
+    Moves {
+        named: none,
+        lost: heading,
+        more: none,
+        less: less,
+    }
+}
+
+// An entry cleared, and the counts that this moves.
+fn take_out(table: &mut [u8], entry: Room, moves: Moves, left: usize) -> usize
+    ensures { λ r. ⌜ Made (now (table .entry)) (now (table .exit)) left r
+        (clear (entry .0) ∷ countStores (lay (now (table .entry)) (entry .0) blank) moves) ⌝ }
+{
+    let rest = put(table, entry, [0u8; Room::SIZE], left);
+    recount(table, moves, rest)
+}
+
+// An entry of a heading cleared, as many of the stores as are left; handed back, how many they are.
+fn clear_entry(table: &mut [u8], entry: Room, heading: Room, left: usize) -> usize
+    ensures { λ r. ⌜ Tried (now (table .entry)) left
+        (clear (entry .0) ∷ countStores (lay (now (table .entry)) (entry .0) blank)
+        (gone (holderOf (rec (now (table .entry)) (entry .0))) (heading .0))) r (now (table .exit)) ⌝ }
+{
+    let moves = gone(table, entry, heading);
+    let counts = count_moves(table, moves);
+    take_out(table, entry, moves, left);
+    counts + 1
+}
+
+// The same, and its file cleared.
 fn clear_both(table: &mut [u8], entry: Room, heading: Room, left: usize) -> usize
     requires { ⌜ Fit (now table) × (heading .0 < rooms (now table)) × (byte (rec (now table) (heading .0)) 0 ≡ 1) ⌝ }
-    ensures { λ r. ⌜ Tried (now (table .entry)) left (clear (entry .0) ∷ freed (now (table .entry)) (heading .0)) r (now (table .exit)) ⌝ }
+    ensures { λ r. ⌜ Tried (now (table .entry)) left
+        (clear (entry .0) ∷ countStores (lay (now (table .entry)) (entry .0) blank)
+        (gone (holderOf (rec (now (table .entry)) (entry .0))) (heading .0)) ++ freed (now (table .entry)) (heading .0)) r (now (table .exit)) ⌝ }
 {
     let mut rooms = [0u16; Text::MOST];
     text_rooms(table, heading, &mut rooms);
     let count = blocks(text_length(table, heading)).0;
-    let rest = put(table, entry, [0u8; Room::SIZE], left);
+    let moves = gone(table, entry, heading);
+    let counts = count_moves(table, moves);
+    let rest = take_out(table, entry, moves, left);
     clear_file(table, heading, &rooms, Room(count), rest);
-    count + 2
+    counts + (count + 2)
 }
 
 // The entry of f in d and, if no other entry names it, the file: 14 and 18, and as many of the stores as are left.
@@ -80,9 +126,8 @@ fn delete_at(table: &mut [u8], d: State, f: State, place: Place, left: usize) ->
     }
     let entry = f.entry;
     let heading = heading_named(table, entry);
-    if is_named_beside(table, heading, entry) {
-        put(table, entry, [0u8; Room::SIZE], left);
-        return Deleted::Passed(1);
+    if !is_last(table, heading) {
+        return Deleted::Passed(clear_entry(table, entry, heading, left));
     }
     if is_directory_peopled(table, heading) {
         return Deleted::Refused { number: 18, place };

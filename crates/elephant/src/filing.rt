@@ -1,6 +1,7 @@
 // A new entry, and before it a new file where it names one: end checks 16 to 19 and those after them, the stores, the answer.
 use answers::Answer;
 use answers::Place;
+use effects::counts::count_moves;
 use effects::rooms::room_at;
 use effects::rooms::text_rooms;
 use effects::stage::put;
@@ -24,6 +25,7 @@ ghost use mathlib.Core.Path.{_≡_};
 ghost use Prim.Native.Nat.{_≤_};
 ghost use lib.ListN.{length};
 ghost use Rattle.paper.specs.Check.{verdict};
+ghost use Rattle.paper.specs.Table.{rooms};
 ghost use Rattle.records.specs.Shown.{holderShown};
 ghost use Rattle.words.specs.Shown.{beginMeant};
 ghost use Rattle.answers.specs.Shown.{placeMeant};
@@ -117,15 +119,17 @@ fn refusal(
     refused
 }
 
-// How many stores there are in all.
-fn count_stores(first: usize, meets: Meets) -> u32
+// How many stores there are in all, those of the counts among them.
+fn count_stores(table: &[u8], first: usize, meets: Meets) -> u32
     requires { ⌜ (first ≤ 1001) × (meets .count .0 ≤ 1000) ⌝ }
-    ensures { λ r. ⌜ r ≡ storesBy first meets ⌝ }
+    ensures { λ r. ⌜ r ≡ storesBy (rooms (now (table .entry))) first meets ⌝ }
 {
+    let moves = meets.moves;
+    let counts = count_moves(table, moves);
     if meets.lost {
-        return (first + (meets.count.0 + 2)) as u32;
+        return (first + (counts + (meets.count.0 + 2))) as u32;
     }
-    (first + 1) as u32
+    (first + (counts + 1)) as u32
 }
 
 // The entry that names a heading under a name in d, and before it the new file if there is one, on the free records in `rooms`.
@@ -142,7 +146,7 @@ pub(crate) fn make(
     text: &[u8],
     stop: u32,
 ) -> Answer
-    requires { ⌜ Ready (now table) (now rooms) (now name) (now text) (named .0) ⌝ }
+    requires { ⌜ Ready (now table) (now rooms) (now name) (now text) (named .0) (holderShown (d .holder)) file ⌝ }
     ensures { λ r. ⌜ Did (now (table .entry)) stop
         (ending (now (table .entry)) (beginMeant to)
         (makingOf (now (table .entry)) (placeMeant place) d (now (name .entry)) (code .0) (named .0) file (now (text .entry)))
@@ -151,7 +155,7 @@ pub(crate) fn make(
     let holder = d.holder;
     let first = count_file(file, text);
     let found = find(table, holder, name);
-    let meets = meet(table, found, named, room_at(rooms, first));
+    let meets = meet(table, found, holder, named, room_at(rooms, first));
     let needs = needed(first, meets.displaced);
     let refused = refusal(table, to, holder, meets, needs, place, file.late);
     if refused.number != 0 {
@@ -162,9 +166,10 @@ pub(crate) fn make(
         holder: holder,
         heading: named,
     }.laid(name);
+    let stores = count_stores(table, first, meets);
     let mut texts = [0u16; Text::MOST];
     text_rooms(table, meets.heading, &mut texts);
     let rest = put_file(table, file, rooms, text, stop as usize);
     place_entry(table, entry, meets, &texts, rest);
-    Answer::stored(count_stores(first, meets), stop, meets.displaced)
+    Answer::stored(stores, stop, meets.displaced)
 }

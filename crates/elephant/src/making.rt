@@ -25,14 +25,20 @@ use walk::end::to_both;
 use walk::state::State;
 use words::begin::Begin;
 ghost use mathlib.Core.List.{[]};
+ghost use mathlib.Core.Path.{_≡_};
 ghost use Rattle.paper.specs.Effect.{making, filing, crdPlan, wrsPlan, dupPlan, listOf, begun};
+ghost use Rattle.paper.specs.Record.{byte};
 ghost use Rattle.paper.specs.Request.{own};
+ghost use Rattle.paper.specs.Table.{rec};
+ghost use Rattle.paper.specs.Walk.{file};
+ghost use Rattle.records.specs.Shown.{holderShown};
 ghost use Rattle.declarations.specs.Given.{levelPart, digitPart};
 ghost use Rattle.words.specs.Place.{wordAt};
 ghost use Rattle.words.specs.Shown.{beginMeant};
 ghost use Rattle.walk.specs.Shown.{meant};
 ghost use Rattle.elephant.specs.Done.{Did};
-ghost use Rattle.elephant.specs.Filing.{Named, Linked, linkingIn, lateChecks, ending};
+ghost use Rattle.placing.specs.Placing.{Held};
+ghost use Rattle.elephant.specs.Filing.{Named, Linked, Fresh, linkingIn, lateChecks, ending};
 
 // A new file under the last name of the chain at `name`, in d: 17 to 19, the stores and the answer.
 pub(crate) fn file(
@@ -47,10 +53,11 @@ pub(crate) fn file(
     text: &[u8],
     stop: u32,
 ) -> Answer
-    requires { ⌜ Named (now table) (now line) name (now text) ⌝ }
+    requires { ⌜ Named (now table) (now line) name (now text) × Fresh (now table) (holderShown (d .holder)) heading ⌝ }
     ensures { λ r. ⌜ Did (now (table .entry)) stop
         (ending (now (table .entry)) own
-        (filing (now (table .entry)) argument (wordAt (now (line .entry)) name) (meant d) (code .0) heading (now (text .entry))) (lateChecks late)) r (now (table .exit)) ⌝ }
+        (filing (now (table .entry)) argument (wordAt (now (line .entry)) name) (meant d) (code .0) heading (now (text .entry)))
+        (lateChecks late)) r (now (table .exit)) ⌝ }
 {
     let mut rooms = [0u16; Entry::MOST_NEW];
     free_rooms(table, &mut rooms);
@@ -87,7 +94,7 @@ fn file_in(
     text: &[u8],
     stop: u32,
 ) -> Answer
-    requires { ⌜ Named (now table) (now line) name (now text) ⌝ }
+    requires { ⌜ Named (now table) (now line) name (now text) × Fresh (now table) (holderShown (d .holder)) heading ⌝ }
     ensures { λ r. ⌜ Did (now (table .entry)) stop
         (making (now (table .entry))
         (filing (now (table .entry)) argument (wordAt (now (line .entry)) name) (meant d) (code .0) heading (now (text .entry))) [] [] [])
@@ -193,7 +200,8 @@ fn dup_in(
     digit: Digit,
     stop: u32,
 ) -> Answer
-    requires { ⌜ Linked (now table) (now line) to new ⌝ }
+    requires { ⌜ Linked (now table) (now line) to new × Held (now table) (holderShown (d .holder))
+        × (byte (rec (now table) (file (now table) (meant f))) 0 ≡ 1) ⌝ }
     ensures { λ r. ⌜ Did (now (table .entry)) stop
         (linkingIn (now (table .entry)) (beginMeant to) (begun (beginMeant to) (wordAt (now (line .entry)) new)) (digitPart digit) (meant f) (meant d))
         r (now (table .exit)) ⌝ }

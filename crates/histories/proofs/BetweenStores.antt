@@ -1,6 +1,6 @@
 -- Between two stores: a call with stop number k leaves the table after the first k of one list of stores, so the tables between the
--- stores of a call are those after it is cut. What lays records comes first and what clears files last; a rewrite clears text alone: no heading is cleared and
--- laid again.
+-- stores of a call are those after it is cut. What lays records comes first and what only takes away last; a rewrite clears text alone: no heading is
+-- cleared and laid again.
 use mathlib.Core.Bool.{Bool, true, false, cond}
 use mathlib.Core.List.{List, [], _∷_, _++_, append-nil}
 use mathlib.Core.Logic.{_⊎_, inl, inr, by-cases}
@@ -12,50 +12,58 @@ use lib.Dec.{leb}
 use lib.ListN.{length, take, drop, take-append-drop}
 use lib.Seq.{take-all, take-nil, take-take, take-append-le}
 use borrow.Author.Tests.{eqb-true, eq-eqb, leb-true, leb-false}
-use Rattle.paper.specs.Record.{byte, blank}
+use Rattle.paper.specs.Record.{byte}
 use Rattle.paper.specs.Table.{sized, rooms, rec}
 use Rattle.paper.specs.Line.{Word}
 use Rattle.paper.specs.Check.{Verdict, passed, refused, verdict}
 use Rattle.paper.specs.Store.{Store, run}
 use Rattle.paper.specs.Effect.{Plan, Planned, plan, halted, freed, delPlan}
-use Rattle.paper.specs.Mend as Mend
-use Rattle.paper.specs.Mend.{orphan, stray, mendFirst, mendSecond, mendStores, mended}
+use Rattle.paper.specs.Mend.{mendStores, mended}
 use Rattle.paper.specs.Answer.{Outcome, done, cut, ran, single, oneName, deleting, requested, mending}
 use Rattle.laws.proofs.Tests.{not-both}
-use Rattle.laws.proofs.Lists.{Every, every-take, every-drop, every-append, every-imp, take-past}
+use Rattle.laws.proofs.Lists.{Every, every-take, take-past}
 use Rattle.laws.proofs.Lay.{within, kind-blank}
 use Rattle.laws.proofs.Runs.{run-each, run-append, length-run, rooms-run}
-use Rattle.demands.proofs.Sound.Clauses.{Sound, clauses-sound}
+use Rattle.demands.proofs.Sound.Clauses.{Sound}
+use Rattle.demands.proofs.Sound.Right.{right-sound}
 use Rattle.demands.proofs.SoundKept.Kept.{Keeps, del-keeps}
-use Rattle.demands.proofs.Mending.Wipe.{every-clears}
+use Rattle.demands.proofs.Mending.Part.{Below, free, stays}
+use Rattle.demands.proofs.Mending.Counts.{alike-kind}
 use Rattle.demands.proofs.MendAnswered.{MendCame, unsized, unsound, whole, cutOff, mend-came}
 use Rattle.histories.specs.History.{Call, asks, mends, called, cutAt, heads}
 use Rattle.histories.proofs.Calls.Stores.{Puts, Put, Shaped, plain, freeing}
 use Rattle.histories.proofs.Calls.Shapes.{Shape}
 use Rattle.histories.proofs.Calls.Ways.{Way, lent, by-plan, by-names, ways}
 use Rattle.histories.proofs.Calls.Moved.{put-over}
-use Rattle.histories.proofs.Calls.Requests.{Clears, Clearing, del-clears, freed-clears}
+use Rattle.histories.proofs.Calls.Falls.{Falls, falls-none, falls-less, falls-append, falls-take, falls-drop, clears-fall, mend-falls}
+use Rattle.histories.proofs.Calls.Requests.{Falling, del-falls, freed-clears}
 use Rattle.histories.proofs.Calls.Mendable.{Mendable, mendable-whole}
 
--- tables by stop number: those of one list of stores, of which the last only clear
+-- tables by stop number: those of one list of stores, of which the last only take away
 pub record Stored (t : List ℕ) (o : ℕ → List ℕ) : Type 0 where
   pub first : List Store
   pub last : List Store
   pub tables : (k : ℕ) → o k ≡ run t (take k (first ++ last))
   pub puts : Every (Puts t) first
-  pub clears : Every (Clears t) last
+  pub falls : Falls (run t first) last
 
 no-store : (t : List ℕ) (o : ℕ → List ℕ) → ((k : ℕ) → o k ≡ t) → Stored t o
 unfolding run
-no-store t o h = record { first = []; last = []; tables = λ k. h k ∙ rw (take-nil {A = Store} k); puts = tt; clears = tt }
+no-store t o h = record { first = []; last = []; tables = λ k. h k ∙ rw (take-nil {A = Store} k); puts = tt; falls = falls-none _ }
 
 -- ---- one plan
 
 module _ (t reply : List ℕ) (c : Sound t) where
   shaped-stored : (ss : List Store) → Shaped t ss → (o : ℕ → List ℕ) → ((k : ℕ) → o k ≡ run t (take k ss)) → Stored t o
-  shaped-stored ss (plain h) o q = record { first = ss; last = []; tables = λ k. q k ∙ rw append-nil; puts = h; clears = tt }
+  shaped-stored ss (plain h) o q = record { first = ss; last = []; tables = λ k. q k ∙ rw append-nil; puts = h; falls = falls-none _ }
   shaped-stored ss (freeing main g h k n e) o q =
-      record { first = main; last = freed t g; tables = λ k. q k ∙ rw e; puts = h; clears = freed-clears t c g k }
+      record {
+        first = main;
+        last = freed t g;
+        tables = λ k. q k ∙ rw e;
+        puts = h;
+        falls = clears-fall (freed t g) (run t main) (rw (rooms-run t main) (freed-clears t c g k));
+      }
 
   plan-stored : (x : Planned) → Shape t x → Stored t (λ k. single t reply k (ran k x) .table)
   plan-stored (halted f) h = no-store t _ (λ k. refl)
@@ -69,22 +77,23 @@ module _ (t reply : List ℕ) (c : Sound t) where
       go (refused f) e = no-store t _ (λ k. rw e)
       go passed e = shaped-stored (p .stores) (h e) _ (λ k. rw e (one k _ refl))
 
--- ---- clearings alone
+-- ---- what only takes away
 
 pub record Wiped (t : List ℕ) (o : ℕ → List ℕ) : Type 0 where
   pub stores : List Store
   pub tables : (k : ℕ) → o k ≡ run t (take k stores)
-  pub clears : Every (Clears t) stores
+  pub falls : Falls t stores
 
 no-wipe : (t : List ℕ) (o : ℕ → List ℕ) → ((k : ℕ) → o k ≡ t) → Wiped t o
 unfolding run
-no-wipe t o h = record { stores = []; tables = λ k. h k ∙ rw (take-nil {A = Store} k); clears = tt }
+no-wipe t o h = record { stores = []; tables = λ k. h k ∙ rw (take-nil {A = Store} k); falls = falls-none t }
 
 wiped-stored : (t : List ℕ) (o : ℕ → List ℕ) → Wiped t o → Stored t o
-wiped-stored t o w = record { first = []; last = w .stores; tables = w .tables; puts = tt; clears = w .clears }
+unfolding run
+wiped-stored t o w = record { first = []; last = w .stores; tables = w .tables; puts = tt; falls = w .falls }
 
 -- DEL: the stores of one name, and of the names after it
-module _ (t reply : List ℕ) (n made : ℕ) (more : List ℕ → ℕ → ℕ → ℕ → Outcome) (p : Plan) (d : Every (Clears t) (p .stores))
+module _ (t reply : List ℕ) (n made : ℕ) (more : List ℕ → ℕ → ℕ → ℕ → Outcome) (p : Plan) (d : Falls t (p .stores))
     (r : Wiped (run t (p .stores)) (λ k. more (run t (p .stores)) k (n + 1) (made + length (p .stores)) .table)) where
   all : List Store
   all = p .stores ++ r .stores
@@ -95,11 +104,11 @@ module _ (t reply : List ℕ) (n made : ℕ) (more : List ℕ → ℕ → ℕ �
       rw (take-past k (p .stores) (r .stores) (leb-true _ _ q), run-append) (r .tables (k - length (p .stores)))
   name-made k false q = let l : k < length (p .stores) = leb-false _ _ q in rw (take-append-le k (p .stores) (r .stores) (omega arith))
 
-  name-clears : Every (Clears t) all
+  name-falls : Falls t all
   unfolding all
-  name-clears = every-append (Clears t) (p .stores) (r .stores) d (rw (rooms-run t (p .stores)) at (r .clears))
+  name-falls = falls-append (p .stores) (r .stores) t d (r .falls)
 
-name-wiped : (t reply : List ℕ) (n made : ℕ) (more : List ℕ → ℕ → ℕ → ℕ → Outcome) (x : Planned) → Keeps t x → Clearing t x
+name-wiped : (t reply : List ℕ) (n made : ℕ) (more : List ℕ → ℕ → ℕ → ℕ → Outcome) (x : Planned) → Keeps t x → Falling t x
     → ((t₁ : List ℕ) (n₁ made₁ : ℕ) → Sound t₁ → Wiped t₁ (λ k. more t₁ k n₁ made₁ .table)) → Wiped t (λ k. oneName t reply k n made more (ran k x) .table)
 name-wiped t reply n made more (halted f) h d r = no-wipe t _ (λ _. refl)
 name-wiped t reply n made more (plan p) h d r = go (verdict (p .checks)) refl
@@ -107,41 +116,31 @@ name-wiped t reply n made more (plan p) h d r = go (verdict (p .checks)) refl
     go : (v : Verdict) → verdict (p .checks) ≡ v → Wiped t (λ k. oneName t reply k n made more (ran k (plan p)) .table)
     go (refused f) e = no-wipe t _ (λ _. rw e)
     go passed e =
-        let z = r (run t (p .stores)) (n + 1) (made + length (p .stores)) (h e) in
+        let z = r (run t (p .stores)) (n + 1) (made + length (p .stores)) (h e .clauses) in
         record {
           stores = all t reply n made more p d z;
           tables = λ k. rw e (name-made t reply n made more p d z k _ refl);
-          clears = name-clears t reply n made more p d z;
+          falls = name-falls t reply n made more p d z;
         }
 
 del-wiped : (ws : List Word) (t : List ℕ) (u : ℕ) (reply : List ℕ) (n made : ℕ) → Sound t → Wiped t (λ k. deleting t u reply k n made ws .table)
 unfolding deleting
 del-wiped [] t u reply n made c = no-wipe t _ (λ _. refl)
 del-wiped (w ∷ ws) t u reply n made c =
-    name-wiped t reply n made _ (delPlan t u (n + 1) w) (del-keeps t u (n + 1) w c) (del-clears t c u (n + 1) w) (λ t₁. del-wiped ws t₁ u reply)
+    name-wiped t reply n made _ (delPlan t u (n + 1) w) (del-keeps t u (n + 1) w c) (del-falls t c u (n + 1) w) (λ t₁. del-wiped ws t₁ u reply)
 
 -- ---- every call
 
--- every store of a mend clears
-pub mend-clears : (t : List ℕ) → Every (Clears t) (mendStores t)
-unfolding mendStores
-mend-clears t =
-    every-append (Clears t) (mendFirst t) (mendSecond (run t (mendFirst t))) (wipe (orphan t) (rooms t) refl)
-    (wipe (stray (run t (mendFirst t))) (rooms (run t (mendFirst t))) (sym (rooms-run t (mendFirst t))))
-  where
-    wipe : (p : ℕ → Bool) (r : ℕ) → rooms t ≡ r → Every (Clears t) (Mend.clears p r)
-    wipe p r e = every-imp _ (Clears t) (Mend.clears p r) (λ s l. record { within = rw e (l .within); size = l .size; holds = l .holds .0 }) (every-clears p r)
-
 mend-wiped : (t : List ℕ) → Mendable t → Wiped t (λ k. mending t k .table)
 unfolding mended
-mend-wiped t m = record { stores = mendStores t; tables = λ k. go k (mend-came t k); clears = mend-clears t }
+mend-wiped t m = record { stores = mendStores t; tables = λ k. go k (mend-came t k); falls = mend-falls t }
   where
     size : sized t ≡ true
-    size = rw (length-run t (mendStores t)) at (clauses-sound (mended t) m .0)
+    size = rw (length-run t (mendStores t)) at (right-sound (mended t) m .0)
 
     go : (k : ℕ) → MendCame t k (mending t k) → mending t k .table ≡ run t (take k (mendStores t))
     go k (unsized a e) = absurd (not-both size a)
-    go k (unsound a b e) = absurd (not-both (clauses-sound (mended t) m .1) b)
+    go k (unsound a b e) = absurd (not-both (right-sound (mended t) m .1) b)
     go k (whole a b l e) = rw (e, take-all k (mendStores t) l)
     go k (cutOff a b l e) = rw e
 
@@ -152,7 +151,7 @@ between-stores t (asks line text reply u stop) m = go (ways t line text reply u)
   where
     -- tables by stop number that are the same
     by : (o p : ℕ → List ℕ) → ((k : ℕ) → p k ≡ o k) → Stored t o → Stored t p
-    by o p e z = record { first = z .first; last = z .last; tables = λ k. e k ∙ z .tables k; puts = z .puts; clears = z .clears }
+    by o p e z = record { first = z .first; last = z .last; tables = λ k. e k ∙ z .tables k; puts = z .puts; falls = z .falls }
 
     go : Way t line text reply u → Stored t (λ k. requested t line text reply u k .table)
     go (lent e) = no-store t _ e
@@ -173,29 +172,32 @@ module _ (t : List ℕ) (o : ℕ → List ℕ) (d : Stored t o) (h : ℕ) (l : h
   m : List ℕ
   m = run t (d .first)
 
-  -- once records are cleared, it was one before if it is one after
+  -- once they are taken away, it was one before if it is one after
   clearing : (a b : ℕ) → a ≤ b → byte (rec (run m (take b (d .last))) h) 0 ≡ 1 → byte (rec (run m (take a (d .last))) h) 0 ≡ 1
   unfolding m
-  clearing a b q z = go (run-each (λ i r. r ≡ blank) s rest (rw same-rooms (every-drop _ a _ (every-take _ b (d .last) (d .clears)))) h (rw same-rooms l))
+  clearing a b q z = go (falls-less rest s (rw same (falls-drop a (take b (d .last)) u (falls-take b (d .last) u (d .falls)))) .each h (rw same-rooms l))
     where
+      u : List ℕ
+      u = run t (d .first)
+
       s : List ℕ
-      s = run (run t (d .first)) (take a (d .last))
+      s = run u (take a (d .last))
 
       rest : List Store
       rest = drop a (take b (d .last))
 
+      same : take a (d .last) ≡ take a (take b (d .last))
+      same = sym (take-take a b (d .last) q)
+
       same-rooms : rooms s ≡ rooms t
-      same-rooms = rooms-run (run t (d .first)) (take a (d .last)) ∙ rooms-run t (d .first)
+      same-rooms = rooms-run u (take a (d .last)) ∙ rooms-run t (d .first)
 
-      split : take a (d .last) ++ rest ≡ take b (d .last)
-      split = rw (← (take-take a b (d .last) q)) (take-append-drop a (take b (d .last)))
+      end : run s rest ≡ run u (take b (d .last))
+      end = sym (run-append u (take a (d .last)) rest) ∙ rw (same, take-append-drop a (take b (d .last)))
 
-      end : run s rest ≡ run (run t (d .first)) (take b (d .last))
-      end = sym (run-append (run t (d .first)) (take a (d .last)) rest) ∙ rw split
-
-      go : (rec (run s rest) h ≡ rec s h) ⊎ (rec (run s rest) h ≡ blank) → byte (rec s h) 0 ≡ 1
-      go (inl e) = let y : byte (rec (run s rest) h) 0 ≡ 1 = rw end z in rw e at y
-      go (inr e) =
+      go : Below (rec s h) (rec (run s rest) h) → byte (rec s h) 0 ≡ 1
+      go (stays e) = let y : byte (rec (run s rest) h) 0 ≡ 1 = rw end z in sym (alike-kind (rec s h) (rec (run s rest) h) e) ∙ y
+      go (free e) =
           let y : byte (rec (run s rest) h) 0 ≡ 1 = rw end z in
           let v = kind-blank (rec (run s rest) h) e in
           let x : ⊥ = omega arith in absurd x

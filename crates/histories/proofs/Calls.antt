@@ -4,6 +4,9 @@
 pub mod Stores
 pub mod Shapes
 pub mod Ways
+-- stores that only take away; and stores at any place
+pub mod Falls
+pub mod Anywhere
 -- what stays: a file held in its place; what a request, and a mend, may do
 pub mod Held
 pub mod Moved

@@ -3,7 +3,7 @@
 use mathlib.Core.Bool.{true, false}
 use mathlib.Core.List.{List, [], _∷_, _++_}
 use mathlib.Core.Logic.{_⊎_, inl, inr, _≢_}
-use mathlib.Core.Path.{_≡_, refl, ap}
+use mathlib.Core.Path.{_≡_, refl, sym, ap, _∙_}
 use Prim.Native.Nat.{ℕ, _<_}
 use native.Mathlib.Omega.{arith}
 use lib.ListN.{length}
@@ -16,9 +16,11 @@ use Rattle.paper.specs.Answer.{requested, mending}
 use Rattle.laws.proofs.Tests.{truth, not-both, false-by, and-both}
 use Rattle.laws.proofs.Lay.{within, length-rec}
 use Rattle.laws.proofs.Rooms.{free-blank}
-use Rattle.demands.proofs.Sound.Clauses.{Sound, sound-clauses, clauses-sound, named-by}
+use Rattle.demands.proofs.Sound.Clauses.{Sound, named-by}
+use Rattle.demands.proofs.Sound.Right.{sound-right, right-sound}
 use Rattle.demands.proofs.Sound.Points.{text-points, no-heading-unnamed}
 use Rattle.demands.proofs.SoundKept.Freed.{textOf}
+use Rattle.demands.proofs.Mending.Counts.{alike-kind}
 use Rattle.histories.specs.History.{Call, asks, mends, isRequest, called, after, heads, remains}
 use Rattle.histories.proofs.Calls.Stores.{less-stays, unnamed-still}
 use Rattle.histories.proofs.Calls.Moved.{text-of}
@@ -31,12 +33,12 @@ called-last : (h : ℕ) (t : List ℕ) (c : Call) → Mendable t → heads h t �
     → named (called t c .table) h ≡ false
 called-last h t (mends k) m a b =
     let d = mend-tidied t (mendable-whole t m) k in
-    unnamed-still t (mending t k .table) h (d .less) (d .last h (eqb-true _ _ a) (eqb-false _ _ b))
+    unnamed-still t (mending t k .table) h (mendable-whole t m) (d .less) (d .last h (eqb-true _ _ a) (eqb-false _ _ b))
 called-last h t (asks line text reply u k) m a b = go (how-asked t line text reply u k)
   where
     go : Asked t line text reply u k → named (requested t line text reply u k .table) h ≡ false
     go (refused e) = absurd (not-both a (rw e at b))
-    go (entered c) = request-moved t line text reply u k c .last h (eqb-true _ _ a) (eqb-false _ _ b)
+    go (entered c) = request-moved t line text reply u k (c .clauses) .last h (eqb-true _ _ a) (eqb-false _ _ b)
 
 -- heading h of a sound table, which it still is after any calls, and a call that clears it: some entry named it at the start, and none
 -- does after that call. The start may be the sound table before the request whose stores, or whose mend, cleared it.
@@ -44,10 +46,11 @@ pub cleared-last : (t : List ℕ) (h : ℕ) (cs : List Call) (c : Call) → size
     → heads h (after t cs) ≡ true → heads h (called (after t cs) c .table) ≡ false
     → (named t h ≡ true) × (named (called (after t cs) c .table) h ≡ false)
 cleared-last t h cs c a b k z n =
-    let s = sound-clauses t a b in
+    let r = sound-right t a b in
+    let s = r .clauses in
     let i : byte (rec t h) 0 ≡ 1 = eqb-true _ _ k in (
       named-by t s h (within t h (s .whole) (omega arith)) i,
-      called-last h (after t cs) c (after-mendable t cs (sound-mendable t s)) z n,
+      called-last h (after t cs) c (after-mendable t cs (sound-mendable t r)) z n,
     )
 
 -- ---- another file
@@ -75,17 +78,19 @@ called-anew : (h : ℕ) (t : List ℕ) (c : Call) → Mendable t → heads h t �
 called-anew h t (mends k) m a b =
     let z : byte (rec (mending t k .table) h) 0 ≡ 1 = eqb-true _ _ b in
     let d = mend-tidied t (mendable-whole t m) k .less in
-    absurd (eqb-false _ _ a (rw (less-stays t (mending t k .table) (mendable-whole t m) d h (omega arith)) at z))
+    let y = less-stays t (mending t k .table) (mendable-whole t m) d h (omega arith) in
+    absurd (eqb-false _ _ a (sym (alike-kind (rec t h) (rec (mending t k .table) h) y) ∙ z))
 called-anew h t (asks line text reply u k) m a b = go (how-asked t line text reply u k)
   where
     go : Asked t line text reply u k → Anew h t (asks line text reply u k) (requested t line text reply u k .table)
     go (refused e) = absurd (not-both (rw e at b) a)
-    go (entered c) =
+    go (entered r) =
+        let c = r .clauses in
         let s₁ : List ℕ = requested t line text reply u k .table in
         let d = request-moved t line text reply u k c in
         let n : byte (rec t h) 0 ≢ 1 = eqb-false _ _ a in
         let f = d .new h n (eqb-true _ _ b) in
-        let s = clauses-sound t c in
+        let s = right-sound t r in
         record {
           asks = refl;
           sized = s .0;
@@ -131,7 +136,7 @@ whence h (d ∷ ds) s m z = go (whence h ds (called s d .table) (called-mendable
 -- named by no entry and by no text; so nothing of a file that lay there before is left
 pub another-file : (t : List ℕ) (h : ℕ) (cs ds : List Call) → sized t ≡ true → sound t ≡ true
     → heads h (after t cs) ≡ false → heads h (after (after t cs) ds) ≡ true → Later h (after t cs) ds
-another-file t h cs ds a b n z = go (whence h ds (after t cs) (after-mendable t cs (sound-mendable t (sound-clauses t a b))) z)
+another-file t h cs ds a b n z = go (whence h ds (after t cs) (after-mendable t cs (sound-mendable t (sound-right t a b))) z)
   where
     go : ((heads h (after t cs) ≡ true) × (remains h (after t cs) ds ≡ true)) ⊎ Later h (after t cs) ds → Later h (after t cs) ds
     go (inl x) = absurd (not-both (x .0) n)

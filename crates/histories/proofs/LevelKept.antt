@@ -1,9 +1,9 @@
 -- "Copies must not drop a level": the one heading that a CPY lays has the level of its source, or a declared one that 25 lets through; a
--- heading that stays keeps its level, since only its code, mark and length are laid anew. So from copy to copy, over any history, the level never falls.
+-- heading that stays keeps its level, since only its code, mark, length and counts are laid anew. So from copy to copy the level never falls.
 use mathlib.Core.Bool.{true, false}
-use mathlib.Core.List.{List, [], _∷_}
+use mathlib.Core.List.{List, [], _∷_, _++_}
 use mathlib.Core.Logic.{_⊎_, inl, inr, _≢_, by-cases}
-use mathlib.Core.Path.{_≡_, sym, _∙_}
+use mathlib.Core.Path.{_≡_, refl, sym, _∙_}
 use Prim.Native.Nat.{ℕ, _-_, _≤_, _<_}
 use native.Mathlib.Omega.{arith}
 use native.Mathlib.Decide.{decLe}
@@ -15,21 +15,26 @@ use Rattle.paper.specs.Record.{byte, level, lifetime, blank, headingRecord}
 use Rattle.paper.specs.Table.{sized, rooms, rec, room}
 use Rattle.paper.specs.Declaration.{Part, orElse}
 use Rattle.paper.specs.Line.{Word}
-use Rattle.paper.specs.Check.{Check, passed, verdict}
+use Rattle.paper.specs.Check.{passed, verdict}
 use Rattle.paper.specs.Request.{Request, request, cpy}
 use Rattle.paper.specs.Sound.{sound}
 use Rattle.paper.specs.Block.{block, fileText}
 use Rattle.paper.specs.Walk.{State, start, file, arrived, ended, lastName}
 use Rattle.paper.specs.Store.{Store, puts, run}
-use Rattle.paper.specs.Effect.{Plan, Planned, plan, halted, chainOf, Making, borne, placing, freed, lost, settled, making, newFile, filing, recoded, cpyPlan, listOf, begun}
+use Rattle.paper.specs.Count.{recounted, recounts}
+use Rattle.paper.specs.Effect.{Plan, Planned, plan, halted, chainOf, Making, borne, placing, freed, withCounts, lost, settled, making, newFile, filing, recoded, cpyPlan, listOf, begun}
 use Rattle.paper.specs.Answer.{ran, single, granted, requested}
 use Rattle.laws.proofs.Tests.{not-both, either}
-use Rattle.laws.proofs.Lists.{Every, every-append, every-take, every-each, every-parts, every-both, take-past}
-use Rattle.laws.proofs.Fields.{text-record-kind, entry-record-kind}
+use Rattle.laws.proofs.Lists.{Every, every-append, every-imp, every-take, every-each, take-past}
+use Rattle.laws.proofs.Fields.{text-record-kind, entry-record-kind, length-heading, length-entry}
 use Rattle.laws.proofs.Rewritten.{rewritten-byte}
-use Rattle.laws.proofs.Lay.{within, kind-blank}
-use Rattle.laws.proofs.Runs.{Lays, run-each, run-append, length-run, rooms-run}
+use Rattle.laws.proofs.Lay.{Whole, within, length-rec, kind-blank}
+use Rattle.laws.proofs.Runs.{Lays, run-each, run-append, rooms-run}
+use Rattle.laws.proofs.Recounts.{Recount, every-recounts}
 use Rattle.demands.proofs.Sound.Clauses.{Sound, sound-clauses}
+use Rattle.demands.proofs.Sound.Right.{sound-right}
+use Rattle.demands.proofs.Mending.Part.{Alike, equal, Below, free, stays}
+use Rattle.demands.proofs.Mending.Counts.{alike-byte, but-byte, but-recount}
 use Rattle.demands.proofs.Request.Fair.{verdict-idle}
 use Rattle.demands.proofs.Request.Read.{Told}
 use Rattle.demands.proofs.Request.Course.{Admitted, Course, untried, tried, course}
@@ -39,9 +44,11 @@ use Rattle.demands.proofs.Request.Formed.{named-last}
 use Rattle.demands.proofs.SoundKept.Retexted.{mine-not}
 use Rattle.histories.specs.History.{Call, asks, mends, called, cutAt, after, heads}
 use Rattle.histories.specs.Copy.{CopyOf, Copies, Descends}
-use Rattle.histories.proofs.Calls.Stores.{Put, heading, text, entry, cleared, recodes, rewrites, retexts, Shaped, plain, freeing, Kept}
+use Rattle.histories.proofs.Calls.Stores.{Put, heading, text, entry, cleared, recodes, rewrites, retexts, again}
+use Rattle.histories.proofs.Calls.Falls.{falls-less, falls-take}
+use Rattle.histories.proofs.Calls.Anywhere.{Fits, fit-each, file-fits}
 use Rattle.histories.proofs.Calls.Shapes.{Shape, cpy-shape}
-use Rattle.histories.proofs.Calls.Requests.{passed-shaped, freed-clears}
+use Rattle.histories.proofs.Calls.Requests.{passed-shaped, shaped-fits}
 use Rattle.histories.proofs.Calls.Mendable.{Mendable, mendable-whole, sound-mendable, called-mendable}
 use Rattle.histories.proofs.BetweenStores.{Stored, between-stores}
 
@@ -58,27 +65,31 @@ put-level t h r k (cleared a b) = let z : ⊥ = omega arith in absurd z
 put-level t h r k (recodes code b a w x q) = rw q (getD-set-other (rec t h) 3 2 code 0 (omega arith))
 put-level t h r k (rewrites mark n b a w q) = rw q (rewritten-byte (rec t h) mark n 2 (omega arith, inl (omega arith)))
 put-level t h r k (retexts g a w m n) = absurd (mine-not g (rec t h) 1 m (omega arith) (omega arith) k)
+put-level t h r k (again b) = but-byte (rec t h) r b 2 (omega arith)
 
--- after any stores of a call a record is as it was, laid, or cleared
-stored-each : (t : List ℕ) (o : ℕ → List ℕ) → Stored t o → (k i : ℕ) → i < rooms t → Kept t (o k) i ⊎ (rec (o k) i ≡ blank)
+-- after any stores of a call a record is as it was, or laid, but for counts; or cleared
+abbrev Stands : List ℕ → List ℕ → ℕ → Type 0
+Stands t s i = ((r : List ℕ) × ((r ≡ rec t i) ⊎ Put t i r) × Alike r (rec s i)) ⊎ (rec s i ≡ blank)
+
+stored-each : (t : List ℕ) (o : ℕ → List ℕ) → Stored t o → (k i : ℕ) → i < rooms t → Stands t (o k) i
 stored-each t o d k i l =
     rw (d .tables k)
     (by-cases (decLe k (length (d .first)))
     (λ (x : k ≤ length (d .first)).
-    rw (take-append-le k (d .first) (d .last) x) (inl (run-each (Put t) t (take k (d .first)) (every-take _ k (d .first) (d .puts)) i l)))
+    rw (take-append-le k (d .first) (d .last) x)
+    (inl (_, run-each (Put t) t (take k (d .first)) (every-take _ k (d .first) (d .puts)) i l, equal refl)))
     (λ (x : ¬ (k ≤ length (d .first))).
-    let j : ℕ = k - length (d .first) in
-    rw (take-past k (d .first) (d .last) (omega arith), run-append) (past (take j (d .last)) (every-take _ j (d .last) (d .clears)))))
+    rw (take-past k (d .first) (d .last) (omega arith), run-append) (past (k - length (d .first)))))
   where
-    past : (ss : List Store) → Every (Lays (λ _ r. r ≡ blank) (rooms t)) ss
-        → Kept t (run (run t (d .first)) ss) i ⊎ (rec (run (run t (d .first)) ss) i ≡ blank)
-    past ss h =
-        go (run-each (λ _ r. r ≡ blank) (run t (d .first)) ss (rw rooms-run h) i (rw rooms-run l)) (run-each (Put t) t (d .first) (d .puts) i l)
+    m : List ℕ
+    m = run t (d .first)
+
+    past : (j : ℕ) → Stands t (run m (take j (d .last))) i
+    past j = go (falls-less (take j (d .last)) m (falls-take j (d .last) m (d .falls)) .each i (rw (rooms-run t (d .first)) l))
       where
-        go : (rec (run (run t (d .first)) ss) i ≡ rec (run t (d .first)) i) ⊎ (rec (run (run t (d .first)) ss) i ≡ blank) → Kept t (run t (d .first)) i
-            → Kept t (run (run t (d .first)) ss) i ⊎ (rec (run (run t (d .first)) ss) i ≡ blank)
-        go (inr e) x = inr e
-        go (inl e) x = inl (rw e x)
+        go : Below (rec m i) (rec (run m (take j (d .last))) i) → Stands t (run m (take j (d .last))) i
+        go (stays a) = inl (rec m i, run-each (Put t) t (d .first) (d .puts) i l, a)
+        go (free e) = inr e
 
 -- a heading before a call and after it has its level
 pub level-stays : (t : List ℕ) (h : ℕ) (c : Call) (k : ℕ) → Mendable t → heads h t ≡ true → heads h (called t (cutAt k c) .table) ≡ true
@@ -88,93 +99,113 @@ level-stays t h c k m a b =
     let j : byte (rec (called t (cutAt k c) .table) h) 0 ≡ 1 = eqb-true _ _ b in
     go i j (stored-each t (λ k. called t (cutAt k c) .table) (between-stores t c m) k h (within t h (mendable-whole t m) (omega arith)))
   where
-    go : byte (rec t h) 0 ≡ 1 → byte (rec (called t (cutAt k c) .table) h) 0 ≡ 1
-        → Kept t (called t (cutAt k c) .table) h ⊎ (rec (called t (cutAt k c) .table) h ≡ blank) → level (rec (called t (cutAt k c) .table) h) ≡ level (rec t h)
-    go i j (inl (inl e)) = rw e
-    go i j (inl (inr p)) = put-level t h _ i p
+    laid : (r : List ℕ) → byte (rec t h) 0 ≡ 1 → (r ≡ rec t h) ⊎ Put t h r → level r ≡ level (rec t h)
+    laid r i (inl e) = rw e
+    laid r i (inr p) = put-level t h r i p
+
+    go : byte (rec t h) 0 ≡ 1 → byte (rec (called t (cutAt k c) .table) h) 0 ≡ 1 → Stands t (called t (cutAt k c) .table) h
+        → level (rec (called t (cutAt k c) .table) h) ≡ level (rec t h)
+    go i j (inl (r, p, a)) = alike-byte r (rec (called t (cutAt k c) .table) h) a 2 (omega arith) ∙ laid r i p
     go i j (inr e) = let z : ⊥ = omega (arith, kind-blank _ e) in absurd z
 
 -- ---- a copy
 
--- a heading that is laid has at least this level
-abbrev Raises : ℕ → Store → Type 0
-Raises lev s = byte (s .bytes) 0 ≡ 1 → lev ≤ level (s .bytes)
+-- a heading that is laid where none was has at least this level
+abbrev Raised : ℕ → List ℕ → ℕ → List ℕ → Type 0
+Raised lev t i r = byte r 0 ≡ 1 → byte (rec t i) 0 ≢ 1 → lev ≤ level r
 
-freed-raises : (lev : ℕ) (t : List ℕ) (h : ℕ) → Every (Raises lev) (freed t h)
+abbrev Raises : ℕ → List ℕ → Store → Type 0
+Raises lev t x = Raised lev t (x .at) (x .bytes)
+
+freed-raises : (lev : ℕ) (t : List ℕ) (h : ℕ) → Every (Raises lev t) (freed t h)
 unfolding freed blank
-freed-raises lev t h = (λ k. omega arith, every-each (Raises lev) _ _ (λ p _ k. omega arith))
+freed-raises lev t h = (λ k _. omega arith, every-each (Raises lev t) _ _ (λ p _ k _. omega arith))
 
-file-raises : (lev : ℕ) (t head body : List ℕ) → lev ≤ level head → Every (Raises lev) (newFile t head body)
+file-raises : (lev : ℕ) (t head body : List ℕ) → lev ≤ level head → Every (Raises lev t) (newFile t head body)
 unfolding newFile
 file-raises lev t head body l = (
-  λ _. l,
-  every-each (Raises lev) _ _ (λ p _ k. let z : ⊥ = omega (arith, k, text-record-kind (room t 0) p (block body p)) in absurd z),
+  λ _ _. l,
+  every-each (Raises lev t) _ _ (λ p _ k _. let z : ⊥ = omega (arith, k, text-record-kind (room t 0) p (block body p)) in absurd z),
 )
 
-placing-raises : (lev : ℕ) (t : List ℕ) (m : Making) → Every (Raises lev) (m .first) → byte (m .entry) 0 ≡ 2 → (x : Found)
-    → Every (Raises lev) (placing t m x)
+-- with the counts: a heading keeps its level
+counted-raises : (lev : ℕ) (t : List ℕ) (ss : List Store) → Whole t → Every Fits ss → Every (Raises lev t) ss → Every (Raises lev t) (withCounts t ss)
+counted-raises lev t ss w f h =
+    every-append (Raises lev t) ss (recounts m) h (every-imp (Lays (Recount m) (rooms m)) (Raises lev t) (recounts m) one (every-recounts m))
+  where
+    m : List ℕ
+    m = run t ss
+
+    at : (i : ℕ) → (rec m i ≡ rec t i) ⊎ Raised lev t i (rec m i) → byte (rec m i) 0 ≡ 1 → byte (rec t i) 0 ≢ 1 → lev ≤ level (rec m i)
+    at i (inl e) k n = absurd (n (rw e at k))
+    at i (inr p) k n = p k n
+
+    one : (x : Store) → Lays (Recount m) (rooms m) x → Raises lev t x
+    one x c _ n =
+        let i : ℕ = x .at in
+        let k : byte (rec m i) 0 ≡ 1 = c .holds .1 .0 in
+        let e : level (recounted m i (rec m i)) ≡ level (rec m i) =
+        but-byte (rec m i) (recounted m i (rec m i)) (but-recount m i (rec m i) (length-rec m i (c .within)) k) 2 (omega arith) in
+        rw (c .holds .0, e) (at i (fit-each (Raised lev t) ss t w f h i) k n)
+
+placing-raises : (lev : ℕ) (t : List ℕ) (m : Making) → Whole t → Every Fits (m .first) → Every (Raises lev t) (m .first) → length (m .entry) ≡ 32
+    → byte (m .entry) 0 ≡ 2 → (x : Found) → Every (Raises lev t) (placing t m x)
 unfolding settled
-placing-raises lev t m h k (at e) =
-    every-append (Raises lev) (m .first) _ h (
-      λ z. omega arith,
-      either (Every (Raises lev)) (lost t e (m .entry)) _ _ (freed-raises lev t _) tt,
-    )
-placing-raises lev t m h k nowhere = every-append (Raises lev) (m .first) _ h (λ z. omega arith, tt)
+placing-raises lev t m w f h size k = go
+  where
+    with-entry : (e : ℕ) → Every (Raises lev t) (withCounts t (m .first ++ puts e (m .entry) ∷ []))
+    with-entry e =
+        counted-raises lev t (m .first ++ puts e (m .entry) ∷ []) w (every-append Fits (m .first) _ f (size, tt))
+        (every-append (Raises lev t) (m .first) _ h (λ z _. omega arith, tt))
+
+    go : (x : Found) → Every (Raises lev t) (placing t m x)
+    go (at e) =
+        every-append (Raises lev t) (withCounts t (m .first ++ puts e (m .entry) ∷ [])) _ (with-entry e)
+        (either (Every (Raises lev t)) (lost t e (m .entry)) _ _ (freed-raises lev t _) tt)
+    go nowhere = with-entry (room t (length (m .first)))
 
 -- the plan, where its checks pass
-abbrev Raising : ℕ → Planned → Type 0
-Raising lev (halted f) = Unit {0}
-Raising lev (plan p) = verdict (p .checks) ≡ passed → Every (Raises lev) (p .stores)
+abbrev Raising : ℕ → List ℕ → Planned → Type 0
+Raising lev t (halted f) = Unit {0}
+Raising lev t (plan p) = verdict (p .checks) ≡ passed → Every (Raises lev t) (p .stores)
 
--- CPY of the file that s came to
-copy-raises : (t : List ℕ) (v u : ℕ) (old new : Word) (life lev code : Part) (d s : State) → ended t (start v) (chainOf old) ≡ arrived d s
-    → Raising (level (rec t (file t s))) (cpyPlan t v u old new life lev code)
+-- CPY of the file that s came to, under a name that fits its field
+copy-raises : (t : List ℕ) → Whole t → (v u : ℕ) (old new : Word) (life lev code : Part) (d s : State) → length (lastName (chainOf new)) ≤ 10
+    → ended t (start v) (chainOf old) ≡ arrived d s → Raising (level (rec t (file t s))) t (cpyPlan t v u old new life lev code)
 unfolding cpyPlan making headingRecord
-copy-raises t v u old new life lev code d s e =
-    rw e (holder-by (Raising (level (rec t (file t s)))) 2 (λ _ _ _. tt) t u new _ (λ q _ x.
+copy-raises t w v u old new life lev code d s l e =
+    rw e (holder-by (Raising (level (rec t (file t s))) t) 2 (λ _ _ _. tt) t u new _ (λ q _ x.
     let source : List ℕ = rec t (file t s) in
     let body : List ℕ = fileText t (file t s) in
     let head : List ℕ = headingRecord 1 (orElse lev (level source)) (orElse code 0) (orElse life (lifetime source)) (length body) in
     let m : Making = filing t 2 new q (orElse code 0) head body in
-    placing-raises _ t m (file-raises _ t head body (ltb-false _ _ (verdict-idle _ x .1 .1 .1 .1 .1 .1 .1 .0)))
+    placing-raises _ t m w (file-fits t head body (length-heading 1 (orElse lev (level source)) (orElse code 0) (orElse life (lifetime source)) (length body)))
+    (file-raises _ t head body (ltb-false _ _ (verdict-idle _ x .1 .1 .1 .1 .1 .1 .1 .0)))
+    (length-entry (orElse code 0) (q .holder .heading) (room t 0) (q .holder .user) (lastName (chainOf new)) l)
     (entry-record-kind (orElse code 0) (q .holder .heading) (room t 0) (q .holder .user) (lastName (chainOf new))) (borne t m)))
 
--- stores that lay what they should where they may
-lays-also : (P Q : ℕ → List ℕ → Type 0) (n : ℕ) (ss : List Store) → Every (Lays P n) ss → Every (λ s. Q (s .at) (s .bytes)) ss → Every (Lays Q n) ss
-lays-also P Q n ss = every-both (Lays P n) _ (Lays Q n) ss (λ s a b. record { within = a .within; size = a .size; holds = b })
-
-shaped-lays : (t : List ℕ) → Sound t → (Q : ℕ → List ℕ → Type 0) (ss : List Store) → Shaped t ss → Every (λ s. Q (s .at) (s .bytes)) ss
-    → Every (Lays Q (rooms t)) ss
-shaped-lays t c Q ss (plain h) x = lays-also (Put t) Q (rooms t) ss h x
-shaped-lays t c Q ss (freeing main g h k n e) x =
-    let y = every-parts (λ (s : Store). Q (s .at) (s .bytes)) main (freed t g) (rw e at x) in
-    rw e
-    (every-append (Lays Q (rooms t)) main (freed t g) (lays-also (Put t) Q (rooms t) main h (y .0))
-    (lays-also (λ _ r. r ≡ blank) Q (rooms t) (freed t g) (freed-clears t c g k) (y .1)))
-
 -- after some stores of such a plan, a heading that was none has at least that level
-new-level : (t : List ℕ) → Sound t → (lev : ℕ) (ss : List Store) → Every (Lays (λ i r. byte r 0 ≡ 1 → lev ≤ level r) (rooms t)) ss
+new-level : (t : List ℕ) → Whole t → (lev : ℕ) (ss : List Store) → Every Fits ss → Every (Raises lev t) ss
     → (n : ℕ) → byte (rec t n) 0 ≢ 1 → byte (rec (run t ss) n) 0 ≡ 1 → lev ≤ level (rec (run t ss) n)
-new-level t c lev ss h n a b =
-    go (run-each (λ i r. byte r 0 ≡ 1 → lev ≤ level r) t ss h n
-    (rw (rooms-run t ss) at (within (run t ss) n (rw (length-run t ss) (c .whole)) (omega arith))))
+new-level t w lev ss f h n a b = go (fit-each (Raised lev t) ss t w f h n)
   where
-    go : (rec (run t ss) n ≡ rec t n) ⊎ (byte (rec (run t ss) n) 0 ≡ 1 → lev ≤ level (rec (run t ss) n)) → lev ≤ level (rec (run t ss) n)
+    go : (rec (run t ss) n ≡ rec t n) ⊎ Raised lev t n (rec (run t ss) n) → lev ≤ level (rec (run t ss) n)
     go (inl e) = absurd (a (rw e at b))
-    go (inr f) = f b
+    go (inr p) = p b a
 
-single-level : (t reply : List ℕ) (k : ℕ) → Sound t → (lev : ℕ) (x : Planned) → Shape t x → Raising lev x → (n : ℕ) → byte (rec t n) 0 ≢ 1
+single-level : (t reply : List ℕ) (k : ℕ) → Sound t → (lev : ℕ) (x : Planned) → Shape t x → Raising lev t x → (n : ℕ) → byte (rec t n) 0 ≢ 1
     → byte (rec (single t reply k (ran k x) .table) n) 0 ≡ 1 → lev ≤ level (rec (single t reply k (ran k x) .table) n)
 single-level t reply k c lev x h r n a =
     ran-by (λ y. byte (rec (single t reply k y .table) n) 0 ≡ 1 → lev ≤ level (rec (single t reply k y .table) n)) k x
     (λ _ _ b. absurd (a b))
-    (λ p v _ b. new-level t c lev (p .stores) (lays p v) n a b)
-    (λ p v _ b. new-level t c lev (take k (p .stores)) (every-take _ k (p .stores) (lays p v)) n a b)
+    (λ p v _ b. new-level t (c .whole) lev (p .stores) (fits p v) (raises p v) n a b)
+    (λ p v _ b. new-level t (c .whole) lev (take k (p .stores)) (every-take _ k (p .stores) (fits p v)) (every-take _ k (p .stores) (raises p v)) n a b)
   where
-    lays : (p : Plan) → Passed x p → Every (Lays (λ i r. byte r 0 ≡ 1 → lev ≤ level r) (rooms t)) (p .stores)
-    lays p v =
-        let s : Raising lev (plan p) = rw (v .plan) at r in
-        shaped-lays t c _ (p .stores) (passed-shaped t x p h v) (s (v .checks))
+    fits : (p : Plan) → Passed x p → Every Fits (p .stores)
+    fits p v = shaped-fits t c (p .stores) (passed-shaped t x p h v)
+
+    raises : (p : Plan) → Passed x p → Every (Raises lev t) (p .stores)
+    raises p v = let s : Raising lev t (plan p) = rw (v .plan) at r in s (v .checks)
 
 -- "a copy's level must be at least its source's": a CPY, whole or cut, lays no heading with a level below that of the file it copies,
 -- be a level declared or not
@@ -197,14 +228,15 @@ no-copy-drops t line body reply u k h n q a b = go (course t line body reply u)
     tries r e m p =
         let c = sound-clauses t (m .sized) (m .sound) in
         let m₁ : Told body copy = rw e at (m .told) in
+        let l = named-last (q .new) (m₁ .new) .short in
         let v : ℕ = listOf u (q .from) in
         let w : Word = begun (q .from) (q .old) in
         let x : Planned = cpyPlan t v u w (q .new) (q .life) (q .lev) (q .code) in
         let y : requested t line body reply u k ≡ single t reply k (ran k x) = rw e at (p k) in
         rw (y, ← (q .is))
         (single-level t reply k c (level (rec t (file t (q .source)))) x
-        (cpy-shape t c v u w (q .new) (q .life) (q .lev) (q .code) (named-last (q .new) (m₁ .new) .short))
-        (copy-raises t v u w (q .new) (q .life) (q .lev) (q .code) (q .directory) (q .source) (q .end)) n new (rw y at laid))
+        (cpy-shape t c v u w (q .new) (q .life) (q .lev) (q .code) l)
+        (copy-raises t (c .whole) v u w (q .new) (q .life) (q .lev) (q .code) (q .directory) (q .source) l (q .end)) n new (rw y at laid))
 
     go : Course t line body reply u → level (rec t h) ≤ level (rec (requested t line body reply u k .table) n)
     go (untried f g e) = absurd (not-both b (rw (e k) a))
@@ -216,7 +248,7 @@ no-copy-drops t line body reply u k h n q a b = go (course t line body reply u)
 pub level-kept : (t : List ℕ) (h n : ℕ) (cs : List Call) → sized t ≡ true → sound t ≡ true → heads h t ≡ true → Descends t h cs n
     → level (rec t h) ≤ level (rec (after t cs) n)
 unfolding after Descends
-level-kept t h n cs a b = from-here cs t h (sound-mendable t (sound-clauses t a b))
+level-kept t h n cs a b = from-here cs t h (sound-mendable t (sound-right t a b))
   where
     from-here : (cs : List Call) (t : List ℕ) (h : ℕ) → Mendable t → heads h t ≡ true → Descends t h cs n → level (rec t h) ≤ level (rec (after t cs) n)
     from-here [] t h m i d = rw d (omega arith)

@@ -9,6 +9,8 @@ pub mod SealStays
 pub mod PartOwn
 -- "Copies must not drop a level": `no-copy-drops`, `level-kept`
 pub mod LevelKept
+-- "Soundness says that both are true": the counts, after every mend and every call from there on, none cut: `counts-after`, `counts-mended`
+pub mod CountsTrue
 -- the tables between the stores of a call are those after it is cut: `between-stores`, `heads-between`
 pub mod BetweenStores
 -- ---- one call

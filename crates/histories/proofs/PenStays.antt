@@ -1,8 +1,8 @@
--- "The pen stays capped": only DPR and `WRS*` lay a heading again, and ask write of the joined code; only a heading that no entry names is
--- cleared, and text goes after its heading alone. So a capped heading that is one after every call is held with its text, call by call.
+-- "The pen stays capped": only DPR and `WRS*` lay a heading again but for its counts, and ask write of the joined code; only a heading that
+-- no entry names is cleared, and text goes after its heading alone. So a capped heading that is one after every call is held with its text, call by call.
 use mathlib.Core.Bool.{true}
 use mathlib.Core.List.{List, [], _∷_}
-use mathlib.Core.Logic.{_⊎_, inl, inr, _≢_}
+use mathlib.Core.Logic.{_⊎_, inl, inr}
 use mathlib.Core.Path.{_≡_, _∙_}
 use Prim.Native.Nat.{ℕ, _≤_}
 use native.Mathlib.Omega.{arith}
@@ -17,12 +17,13 @@ use Rattle.paper.specs.Mend.{keepsText}
 use Rattle.paper.specs.Answer.{requested, mending}
 use Rattle.laws.proofs.Tests.{and-left, and-right}
 use Rattle.laws.proofs.Lay.{within}
-use Rattle.demands.proofs.Sound.Clauses.{Sound, sound-clauses}
+use Rattle.demands.proofs.Sound.Right.{Right, sound-right}
 use Rattle.demands.proofs.SoundKept.Freed.{textOf}
+use Rattle.demands.proofs.Mending.Part.{Alike}
 use Rattle.demands.proofs.Mending.Debris.{sound-keeps}
 use Rattle.histories.specs.History.{Call, asks, mends, called, cutAt, after, heads, remains}
-use Rattle.histories.proofs.Calls.Stores.{less-stays}
-use Rattle.histories.proofs.Calls.Held.{Held, held-refl, held-trans, held-kind, held-keeps, held-level, held-code, held-length, held-text}
+use Rattle.histories.proofs.Calls.Stores.{less-stays, less-same}
+use Rattle.histories.proofs.Calls.Held.{Held, alike-front, alike-back, held-refl, held-trans, held-kind, held-keeps, held-level, held-code, held-length, held-text}
 use Rattle.histories.proofs.Calls.Moved.{text-of}
 use Rattle.histories.proofs.Calls.Requests.{request-moved}
 use Rattle.histories.proofs.Calls.Mends.{Tidied, mend-tidied}
@@ -34,17 +35,15 @@ abbrev Owned : ℕ → List ℕ → Type 0
 Owned h t = (i : ℕ) → textOf h (rec t i) ≡ true → keepsText (rec t h) ≡ true
 
 tidied-held : (h : ℕ) (t s : List ℕ) → Mendable t → Tidied t s → Owned h t → byte (rec t h) 0 ≡ 1 → byte (rec s h) 0 ≡ 1 → Held h t s
-tidied-held h t s m d o k z = record { long = d .less .long; front = rw same-h; back = rw same-h; texts = texts }
+tidied-held h t s m d o k z =
+    record { long = d .less .long; front = alike-front (rec t h) (rec s h) same-h; back = alike-back (rec t h) (rec s h) same-h; texts = texts }
   where
-    stays : (i : ℕ) → byte (rec s i) 0 ≢ 0 → rec s i ≡ rec t i
-    stays = less-stays t s (mendable-whole t m) (d .less)
-
-    same-h : rec s h ≡ rec t h
-    same-h = stays h (omega arith)
+    same-h : Alike (rec t h) (rec s h)
+    same-h = less-stays t s (mendable-whole t m) (d .less) h (omega arith)
 
     texts : (i : ℕ) → (textOf h (rec t i) ≡ true) ⊎ (textOf h (rec s i) ≡ true) → rec s i ≡ rec t i
     texts i (inl x) = d .texts h i (o i x) z x
-    texts i (inr x) = stays i (omega (arith, text-of h (rec s i) x .0))
+    texts i (inr x) = less-same t s (mendable-whole t m) (d .less) i 1 (text-of h (rec s i) x .0)
 
 -- one call, on any table that mends to a sound one
 called-held : (h : ℕ) (t : List ℕ) (c : Call) → Mendable t → Owned h t → heads h t ≡ true → noWrite (headingCode (rec t h)) ≡ true
@@ -55,7 +54,7 @@ called-held h t (asks line text reply u k) m o a w b = go (how-asked t line text
   where
     go : Asked t line text reply u k → Held h t (requested t line text reply u k .table)
     go (refused e) = rw e (held-refl h t)
-    go (entered c) = request-moved t line text reply u k c .held h (eqb-true _ _ a) w (eqb-true _ _ b)
+    go (entered c) = request-moved t line text reply u k (c .clauses) .held h (eqb-true _ _ a) w (eqb-true _ _ b)
 
 -- what is promised of the heading h and its file, from t to s
 pub record Capped (h : ℕ) (t s : List ℕ) : Type 0 where
@@ -67,12 +66,12 @@ pub record Capped (h : ℕ) (t s : List ℕ) : Type 0 where
   pub level : level (rec s h) ≡ level (rec t h)
   pub inhibited : noWrite (headingCode (rec s h)) ≡ true
 
-module _ (h : ℕ) (t : List ℕ) (c : Sound t) (k : heads h t ≡ true) (w : noWrite (headingCode (rec t h)) ≡ true) where
+module _ (h : ℕ) (t : List ℕ) (c : Right t) (k : heads h t ≡ true) (w : noWrite (headingCode (rec t h)) ≡ true) where
   -- in a sound table text has a heading that keeps it
   owns : Owned h t
   owns i x =
       let y = text-of h (rec t i) x in
-      let l = within t i (c .whole) (omega (arith, y .0)) in
+      let l = within t i (c .clauses .whole) (omega (arith, y .0)) in
       rw (y .1) at (sound-keeps t c .texts i l (y .0))
 
   owned : (s : List ℕ) → Held h t s → Owned h s
@@ -92,7 +91,7 @@ module _ (h : ℕ) (t : List ℕ) (c : Sound t) (k : heads h t ≡ true) (w : no
   capped s d =
       record {
         held = d;
-        text = held-text h t s d (c .whole);
+        text = held-text h t s d (c .clauses .whole);
         length = held-length h t s d;
         level = held-level h t s d;
         inhibited = rw (held-code h t s d) w;
@@ -103,7 +102,7 @@ module _ (h : ℕ) (t : List ℕ) (c : Sound t) (k : heads h t ≡ true) (w : no
 pub pen-stays : (t : List ℕ) (h : ℕ) (cs : List Call) → sized t ≡ true → sound t ≡ true
     → heads h t ≡ true → noWrite (headingCode (rec t h)) ≡ true → remains h t cs ≡ true → Capped h t (after t cs)
 pen-stays t h cs a b k w r =
-    let c = sound-clauses t a b in
+    let c = sound-right t a b in
     capped h t c k w (after t cs) (held-on h t c k w cs t (sound-mendable t c) (held-refl h t) r)
 
 -- .. and so it is between any two stores of a further call, after which it is a heading
@@ -111,7 +110,7 @@ pub pen-stays-between : (t : List ℕ) (h : ℕ) (cs : List Call) (c : Call) (j 
     → heads h t ≡ true → noWrite (headingCode (rec t h)) ≡ true → remains h t cs ≡ true
     → j ≤ k → heads h (called (after t cs) (cutAt k c) .table) ≡ true → Capped h t (called (after t cs) (cutAt j c) .table)
 pen-stays-between t h cs c j k a b i w r l z =
-    let e = sound-clauses t a b in
+    let e = sound-right t a b in
     let s : List ℕ = after t cs in
     let m = after-mendable t cs (sound-mendable t e) in
     let d = held-on h t e i w cs t (sound-mendable t e) (held-refl h t) r in

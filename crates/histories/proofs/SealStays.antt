@@ -16,6 +16,7 @@ use Rattle.paper.specs.Table.{sized, rec}
 use Rattle.paper.specs.Code.{noRead}
 use Rattle.paper.specs.Sound.{sound}
 use Rattle.demands.proofs.Sound.Clauses.{sound-clauses}
+use Rattle.demands.proofs.Sound.Right.{sound-right}
 use Rattle.histories.specs.History.{Call, called, after, heads, shown}
 use Rattle.histories.proofs.Calls.Mendable.{Mendable, sound-mendable, called-mendable}
 use Rattle.histories.proofs.SealStays.Veils.{Veil}
@@ -41,8 +42,8 @@ pub seal-stays : (t s : List ℕ) (h : ℕ) (cs : List Call) → sized t ≡ tru
     → heads h t ≡ true → noRead (headingCode (rec t h)) ≡ true
     → (shown s cs ≡ shown t cs) × Veil h (after t cs) (after s cs)
 seal-stays t s h cs a b b₁ v k n =
-    let m = sound-mendable t (sound-clauses t a b) in
-    let m₁ = sound-mendable s (sound-clauses s (rw (v .long) a) b₁) in
+    let m = sound-mendable t (sound-right t a b) in
+    let m₁ = sound-mendable s (sound-right s (rw (v .long) a) b₁) in
     let r = alike h cs t s m m₁ (veiled v (λ _. n)) in
     (r .shows, hidden-veil h (after t cs) (after s cs) (r .tables))
 

@@ -1,7 +1,8 @@
 -- A history: "any sequence of requests of any users from a sound table, cuts each followed by a mend included".
-use mathlib.Core.Bool.{Bool, true, false, _&&_}
+use mathlib.Core.Bool.{Bool, true, false, _&&_, not}
 use mathlib.Core.List.{List, [], _∷_}
 use Prim.Native.Nat.{ℕ}
+use lib.Dec.{eqb}
 use Rattle.paper.specs.Record.{isKind}
 use Rattle.paper.specs.Table.{rec}
 use Rattle.paper.specs.Answer.{Answer, Outcome, requested, mending}
@@ -30,6 +31,11 @@ cutAt k (mends stop) = mends k
 unfoldable pub after : List ℕ → List Call → List ℕ
 after t [] = t
 after t (c ∷ cs) = after (called t c .table) cs
+
+-- no call of it is cut by its stop number
+unfoldable pub uncut : List ℕ → List Call → Bool
+uncut t [] = true
+uncut t (c ∷ cs) = not (eqb (called t c .answer .number) 22) && uncut (called t c .table) cs
 
 -- what a history shows to who makes the calls: each answer and each reply
 pub record Shown : Type 0 where

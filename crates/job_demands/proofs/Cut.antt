@@ -27,7 +27,7 @@ use Rattle.job.specs.Lamp.{Lit, admitted, afterFiling, afterReading, lit}
 use Rattle.laws.proofs.Tests.{truth, either, clash}
 use Rattle.laws.proofs.Lists.{Every, every-imp}
 use Rattle.demands.proofs.Answered.{refusal-lends}
-use Rattle.demands.proofs.Sound.Clauses.{sound-clauses}
+use Rattle.demands.proofs.Sound.Right.{sound-right}
 use Rattle.demands.proofs.Mending.Debris.{mended-sound}
 use Rattle.demands.proofs.Mending.{mendedWhole, mend-whole}
 use Rattle.demands.proofs.PowerCut.{Lands, before, after, first, marked, demand-three}
@@ -72,7 +72,7 @@ module _ (chain : List ℕ) (u : ℕ) where
   -- a sound table as it is
   first-none : (t : List ℕ) (xs : List Sheet) → sized t ≡ true → sound t ≡ true → FirstFiled chain u t xs t
   first-none t xs s e =
-      let z : mended t ≡ t = mended-sound t (sound-clauses t s e) in
+      let z : mended t ≡ t = mended-sound t (sound-right t s e) in
       record { sheets = 0; most = omega arith; mended = rw z none; answers = λ j. mend-whole t j (rw z s) (rw z e) }
 
   -- the sheet at which the job stops: one request, cut or refused

@@ -17,6 +17,7 @@ use Rattle.job.specs.Sheet.{Sheet}
 use Rattle.job.specs.Filing as F
 use Rattle.job.specs.Filing.{wrsLine}
 use Rattle.demands.proofs.Sound.Clauses.{Sound}
+use Rattle.demands.proofs.Sound.Right.{Right}
 use Rattle.demands.proofs.Request.Fair.{fair-some}
 use Rattle.demands.proofs.Request.Chains.{namesAt}
 use Rattle.demands.proofs.Request.Read.{Told, WrsRead}
@@ -32,7 +33,7 @@ use Rattle.job_demands.proofs.Filed.{wrs-files, passed-files}
 
 -- sheet x was filed in t, which made f of it
 pub record OneFiled (t chain : List ℕ) (u : ℕ) (x : Sheet) (f : List ℕ) : Type 0 where
-  pub sound : Sound f
+  pub sound : Right f
   pub user : u ≤ 999999
   pub read : (r : Request) × (asked (wrsLine chain (x .link)) (x .text) ≡ request r)
   pub directory : State
@@ -48,7 +49,7 @@ module _ (t chain : List ℕ) (u : ℕ) (x : Sheet) (c : Sound t) (w : Word) (l 
   made : (p : Plan) → Passed filing p → OneFiled t chain u x (run t (p .stores))
   made p v =
       let s = passed-sound t filing p (wrs-keeps t c u (x .text) 1 notGiven notGiven w l h) v in
-      let f = passed-files t u (x .text) w filing p (wrs-files t u (x .text) w c l h) v s in
+      let f = passed-files t u (x .text) w filing p (wrs-files t u (x .text) w c l h) v (s .clauses) in
       let n : lastName (chainOf w) ≡ x .link = rw e (last-of (prefix chain) (x .link)) in
       record {
         sound = s;

@@ -15,6 +15,7 @@ use Rattle.job.specs.Filing.{wrsLine, filed, whole, failed, afterFiled, filing}
 use Rattle.laws.proofs.Tests.{truth, clash}
 use Rattle.laws.proofs.Lists.{Every, every-both}
 use Rattle.demands.proofs.Sound.Clauses.{Sound}
+use Rattle.demands.proofs.Sound.Right.{Right}
 use Rattle.job_demands.proofs.Lines.{prefix}
 use Rattle.job_demands.proofs.Kept.{Stood, stood, kept}
 use Rattle.job_demands.proofs.Walks.{Meets, walk-last, walk-kept}
@@ -32,7 +33,7 @@ pub record Standing (t chain : List ℕ) (d : State) (x : Sheet) : Type 0 where
 
 -- the sheets ys stand in d, and the walk reaches it or stops with 12
 pub record Held (t chain : List ℕ) (u : ℕ) (d : State) (ys : List Sheet) : Type 0 where
-  pub sound : Sound t
+  pub sound : Right t
   pub user : u ≤ 999999
   pub walk : Meets (reached d) (walk t chain u)
   pub sheets : Every (Standing t chain d) ys
@@ -45,13 +46,13 @@ module _ (chain : List ℕ) (u : ℕ) where
       record {
         sound = o .sound;
         user = o .user;
-        walk = walk-kept t f (d .holder) (x .link) (x .text) c (o .sound) (o .filed) 1 (start u) _ d
+        walk = walk-kept t f (d .holder) (x .link) (x .text) c (o .sound .clauses) (o .filed) 1 (start u) _ d
             (walk-last t 1 (start u) (prefix chain) [] (x .link) ∙ o .walk);
         sheets = (
-          record { stood = stood t f (d .holder) (x .link) (x .text) c (o .sound) (o .filed); read = o .read },
+          record { stood = stood t f (d .holder) (x .link) (x .text) c (o .sound .clauses) (o .filed); read = o .read },
           every-both (Standing t chain d) (Other x) (Standing f chain d) ys
               (λ y s q. record {
-                stood = kept t f (d .holder) (x .link) (x .text) c (o .sound) (o .filed) (y .link) (y .text) q (s .stood);
+                stood = kept t f (d .holder) (x .link) (x .text) c (o .sound .clauses) (o .filed) (y .link) (y .text) q (s .stood);
                 read = s .read;
               }) h a,
         );
@@ -66,7 +67,7 @@ module _ (chain : List ℕ) (u : ℕ) where
   next t f d x ys h o a =
       let q = same (h .walk) in
       subst (λ (z : State). Held f chain u z (x ∷ ys)) q
-      (more t f x ys (h .sound) o (subst (λ (z : State). Every (Standing t chain z) ys) (sym q) (h .sheets)) a)
+      (more t f x ys (h .sound .clauses) o (subst (λ (z : State). Every (Standing t chain z) ys) (sym q) (h .sheets)) a)
     where
       there : walk t chain u ≡ reached (o .directory)
       there = walk-last t 1 (start u) (prefix chain) [] (x .link) ∙ o .walk
@@ -99,7 +100,7 @@ module _ (chain : List ℕ) (u : ℕ) where
   rest-held m [] t d ys k i made f n h a p e = let z : t ≡ f = cc in (subst (λ (y : List ℕ). Held y chain u d ys) z h, tt)
   rest-held m (x ∷ xs) t d ys k i made f n h a p e =
       let w = whole-first k i made x xs t f n e in
-      let o = one-filed t chain u k x (h .sound) (p .0 .legal) (w .0) in
+      let o = one-filed t chain u k x (h .sound .clauses) (p .0 .legal) (w .0) in
       let r = rest-held m xs _ d (x ∷ ys) _ _ _ f n (next t _ d x ys h o (a .0)) (a .1) (p .1) (w .1) in
       (record { sound = r .0 .sound; user = r .0 .user; walk = r .0 .walk; sheets = r .0 .sheets .1 }, (r .0 .sheets .0, r .1))
 

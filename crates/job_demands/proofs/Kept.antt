@@ -1,25 +1,28 @@
--- A sheet filed changes free records, the one entry of its name, and the file that this displaced, if no entry names it now.
--- So every other entry, the heading it names and that heading's text stay; names stand once, so each is found where it was.
+-- A sheet filed changes free records, the one entry of its name, and the file that this displaced, if no entry names it now; and
+-- counts. So every other entry, the heading it names but for its counts and that heading's text stay; names stand once, so each is found where it was.
 use mathlib.Core.Bool.{true, false}
 use mathlib.Core.List.{List}
 use mathlib.Core.Logic.{_⊎_, inl, inr, _≢_}
 use mathlib.Core.Path.{_≡_, sym, ap, _∙_}
-use Prim.Native.Nat.{ℕ, _<_}
+use Prim.Native.Nat.{ℕ, _+_, _<_}
 use native.Mathlib.Omega.{arith}
 use lib.ListN.{length}
 use Rattle.paper.specs.Scan.{at}
-use Rattle.paper.specs.Record.{byte, marked, simple, headingNamed, headingOf, nameOf, held}
+use Rattle.paper.specs.Record.{byte, marked, simple, textLength, headingNamed, headingOf, nameOf, held}
 use Rattle.paper.specs.Table.{rooms, rec, textRoom}
 use Rattle.paper.specs.Entry.{Holder, bears, find}
 use Rattle.paper.specs.Block.{blocksOf, fileText}
 use Rattle.paper.specs.Walk.{applies}
 use Rattle.laws.proofs.Tests.{false-by}
+use Rattle.laws.proofs.Numbers.{number-cong}
 use Rattle.laws.proofs.Scans.{first-here, any-none}
 use Rattle.laws.proofs.Lists.{join-cong}
 use Rattle.laws.proofs.Entries.{bears-stands, bears-name, bears-both, found-bears, text-by}
 use Rattle.laws.proofs.Lay.{within}
 use Rattle.demands.proofs.Sound.Clauses.{SoundBut, Sound, simple-by}
 use Rattle.demands.proofs.SoundKept.Freed.{room-only, text-found}
+use Rattle.demands.proofs.Mending.Part.{Alike}
+use Rattle.demands.proofs.Mending.Counts.{alike-kind, alike-byte}
 
 -- f is t with one sheet filed: in d, under the name n, with this text
 pub record Filed (t f : List ℕ) (d : Holder) (n text : List ℕ) : Type 0 where
@@ -27,9 +30,9 @@ pub record Filed (t f : List ℕ) (d : Holder) (n text : List ℕ) : Type 0 wher
   pub entry : ℕ
   pub inside : entry < rooms t
   pub was : (byte (rec t entry) 0 ≡ 0) ⊎ (bears d n (rec t entry) ≡ true)
-  -- every other entry stays; so does a heading that is still one, and its text
+  -- every other entry stays; so does a heading that is still one, but for its counts, and its text
   pub entries : (i : ℕ) → byte (rec t i) 0 ≡ 2 → i ≢ entry → rec f i ≡ rec t i
-  pub headings : (h : ℕ) → byte (rec t h) 0 ≡ 1 → byte (rec f h) 0 ≡ 1 → rec f h ≡ rec t h
+  pub headings : (h : ℕ) → byte (rec t h) 0 ≡ 1 → byte (rec f h) 0 ≡ 1 → Alike (rec t h) (rec f h)
   pub texts : (i : ℕ) → byte (rec t i) 0 ≡ 3 → byte (rec f (headingOf (rec t i))) 0 ≡ 1 → rec f i ≡ rec t i
   -- the new entry, and the simple file that it names
   pub bears : bears d n (rec f entry) ≡ true
@@ -46,6 +49,17 @@ pub record Stood (t : List ℕ) (d : Holder) (n text : List ℕ) : Type 0 where
   pub simple : simple (rec t (headingNamed (rec t entry))) ≡ true
   pub unmarked : marked (rec t (headingNamed (rec t entry))) ≡ false
   pub reads : fileText t (headingNamed (rec t entry)) ≡ text
+
+-- a heading with other counts has the type, mark and length that it had
+module _ (x r : List ℕ) (a : Alike x r) where
+  pub alike-simple : simple r ≡ simple x
+  alike-simple = rw (alike-kind x r a, alike-byte x r a 1 (omega arith))
+
+  pub alike-marked : marked r ≡ marked x
+  alike-marked = rw (alike-byte x r a 5 (omega arith))
+
+  pub alike-length : textLength r ≡ textLength x
+  alike-length = number-cong 2 r x 10 10 (λ i l. alike-byte x r a (10 + i) (omega arith))
 
 -- no name stands twice in one place, so an entry that bears it is the one found
 pub found-by : (o : ℕ) (t : List ℕ) (d : Holder) (n : List ℕ) (e : ℕ) → SoundBut o t → e < rooms t → bears d n (rec t e) ≡ true → find t d n ≡ at e
@@ -78,31 +92,36 @@ module _ (t f : List ℕ) (d : Holder) (n text : List ℕ) (c : Sound t) (s : So
     still-heading : byte (rec f (headingNamed (rec t e))) 0 ≡ 1
     still-heading = rw same-entry at (s .targets e (rw (x .long) l) (rw same-entry k))
 
-    pub same-heading : rec f (headingNamed (rec t e)) ≡ rec t (headingNamed (rec t e))
+    pub same-heading : Alike (rec t (headingNamed (rec t e))) (rec f (headingNamed (rec t e)))
     same-heading = x .headings (headingNamed (rec t e)) (c .targets e l k) still-heading
 
     pub same-code : applies f e ≡ applies t e
     unfolding applies
-    same-code = rw (same-entry, same-heading)
+    same-code = rw (same-entry, alike-byte _ _ same-heading 3 (omega arith))
 
   -- a heading that stays keeps its text: each block is there once, so it is found where it was
-  module _ (h : ℕ) (k : byte (rec t h) 0 ≡ 1) (q : rec f h ≡ rec t h) where
+  module _ (h : ℕ) (k : byte (rec t h) 0 ≡ 1) (q : Alike (rec t h) (rec f h)) where
+    still : byte (rec f h) 0 ≡ 1
+    still = alike-kind (rec t h) (rec f h) q ∙ k
+
+    long-same : textLength (rec f h) ≡ textLength (rec t h)
+    long-same = alike-length (rec t h) (rec f h) q
+
     same-block : (p : ℕ) → p < blocksOf t h → held (rec f (textRoom f h p)) ≡ held (rec t (textRoom t h p))
     same-block p b =
         let g = text-found 65535 t h c k p b in
         let i : rec f (textRoom t h p) ≡ rec t (textRoom t h p) =
-        x .texts (textRoom t h p) (g .1 .kind) (rw (g .1 .heading, q) k) in
-        let kf : byte (rec f h) 0 ≡ 1 = rw q k in
-        let lf : h < rooms f = within f h (s .whole) (omega arith) in
-        let bf : p < blocksOf f h = rw q b in
+        x .texts (textRoom t h p) (g .1 .kind) (rw (g .1 .heading) still) in
+        let lf : h < rooms f = within f h (s .whole) (omega (arith, still)) in
+        let bf : p < blocksOf f h = rw long-same b in
         let r : textRoom f h p ≡ textRoom t h p =
-        room-only f h p (s .once h p lf kf (simple-by (rec f h) (s .own h lf .heading kf) p bf) bf) (textRoom t h p) (rw (x .long) (g .0))
+        room-only f h p (s .once h p lf still (simple-by (rec f h) (s .own h lf .heading still) p bf) bf) (textRoom t h p) (rw (x .long) (g .0))
         (rw i (text-by h p (rec t (textRoom t h p)) (g .1))) in
         rw (r, i)
 
     pub same-text : fileText f h ≡ fileText t h
     unfolding fileText
-    same-text = rw q (join-cong (λ p. held (rec f (textRoom f h p))) (λ p. held (rec t (textRoom t h p))) (blocksOf t h) same-block)
+    same-text = rw long-same (join-cong (λ p. held (rec f (textRoom f h p))) (λ p. held (rec t (textRoom t h p))) (blocksOf t h) same-block)
 
   -- what stood under another name stands as it did
   pub kept : (m y : List ℕ) → m ≢ n → Stood t d m y → Stood f d m y
@@ -111,11 +130,11 @@ module _ (t f : List ℕ) (d : Holder) (n text : List ℕ) (c : Sound t) (s : So
         entry = z .entry;
         found = other-entry d m (z .entry) (z .found) apart;
         code = same-code (z .entry) (g .0) k apart ∙ z .code;
-        simple = rw (x .entries (z .entry) k apart, same-heading (z .entry) (g .0) k apart) (z .simple);
-        unmarked = rw (x .entries (z .entry) k apart, same-heading (z .entry) (g .0) k apart) (z .unmarked);
+        simple = rw (x .entries (z .entry) k apart, alike-simple _ _ alike) (z .simple);
+        unmarked = rw (x .entries (z .entry) k apart, alike-marked _ _ alike) (z .unmarked);
         reads =
             rw (x .entries (z .entry) k apart)
-            (same-text (headingNamed (rec t (z .entry))) (c .targets (z .entry) (g .0) k) (same-heading (z .entry) (g .0) k apart) ∙ z .reads);
+            (same-text (headingNamed (rec t (z .entry))) (c .targets (z .entry) (g .0) k) alike ∙ z .reads);
       }
     where
       g : (z .entry < rooms t) × (bears d m (rec t (z .entry)) ≡ true)
@@ -130,3 +149,6 @@ module _ (t f : List ℕ) (d : Holder) (n text : List ℕ) (c : Sound t) (s : So
 
       apart : z .entry ≢ x .entry
       apart e = go e (x .was)
+
+      alike : Alike (rec t (headingNamed (rec t (z .entry)))) (rec f (headingNamed (rec t (z .entry))))
+      alike = same-heading (z .entry) (g .0) k apart

@@ -27,6 +27,7 @@ use Rattle.demands.proofs.SoundKept.Filed.{filed, textNew, heading-there, text-
 use Rattle.demands.proofs.SoundKept.FiledSound.{NewFile}
 use Rattle.demands.proofs.SoundKept.Cleared.{Cleared}
 use Rattle.demands.proofs.SoundKept.Freed.{room-only, textOf, fileOf}
+use Rattle.demands.proofs.Mending.Part.{equal}
 use Rattle.job_demands.proofs.Kept.{Filed}
 
 -- nothing more is cleared, or heading h of t and its text are
@@ -200,7 +201,7 @@ module _ (t text : List ℕ) (d : Holder) (n r : List ℕ) (e h : ℕ) (f : List
         inside = y .inside;
         was = y .was;
         entries = entries;
-        headings = headings;
+        headings = λ i k z. equal (headings i k z);
         texts = texts;
         bears =
             rw entry-there

@@ -14,6 +14,7 @@ pub mod Green
 pub mod Kept
 pub mod Walks
 pub mod Laid
+pub mod Counted
 pub mod Filed
 pub mod FileOne
 pub mod ReadOne

@@ -29,6 +29,7 @@ use Rattle.laws.proofs.Tests.{clash}
 use Rattle.laws.proofs.Entries.{same-refl}
 use Rattle.laws.proofs.Lists.{Every}
 use Rattle.demands.proofs.Sound.Clauses.{Sound, sound-clauses}
+use Rattle.demands.proofs.Sound.Right.{Right}
 use Rattle.job_demands.proofs.Lines.{prefix, rds-reads}
 use Rattle.job_demands.proofs.Walks.{Meets, walk-last}
 use Rattle.job_demands.proofs.ReadOne.{sound-admits, Wrote, rds-writes, rds-stops}
@@ -48,7 +49,7 @@ readable chain link text r l q =
 
 -- ---- one sheet read back
 
-module _ (t chain back : List ℕ) (u : ℕ) (x : Sheet) (c : Sound t) (l : u ≤ 999999) (n : Readable chain (x .link)) where
+module _ (t chain back : List ℕ) (u : ℕ) (x : Sheet) (c : Right t) (l : u ≤ 999999) (n : Readable chain (x .link)) where
   -- from the directory where it stands: whole, and the table stays
   read-whole : (d : State) → walk t chain u ≡ reached d → Standing t chain d x → length (x .text) ≤ length back
       → Wrote t back (x .text) (readBack t chain back u x)
@@ -82,7 +83,7 @@ wrote-long t back text o l w = rw (w .reply, length-append, length-drop) (omega 
 abbrev pub ReadsBack : List ℕ → ℕ → Reading → Type 0
 ReadsBack t i r = ((b : List ℕ) × (r ≡ R.whole t b)) ⊎ ((b : List ℕ) × (r ≡ R.failed i 12 t b))
 
-module _ (t chain : List ℕ) (u : ℕ) (d : State) (c : Sound t) (l : u ≤ 999999) where
+module _ (t chain : List ℕ) (u : ℕ) (d : State) (c : Right t) (l : u ≤ 999999) where
   all-read : (m : ℕ) → walk t chain u ≡ reached d → (xs : List Sheet) (back : List ℕ) (i : ℕ) → length back ≡ m → Every (Proper m) xs
       → Every (Standing t chain d) xs → (b : List ℕ) × (reading t chain back u i xs ≡ R.whole t b)
   unfolding reading
@@ -130,7 +131,7 @@ read-back m (x ∷ xs) t chain back u k i made f n c q a p e =
 abbrev pub Brings : List ℕ → List ℕ → ℕ → ℕ → Sheet → Type 0
 Brings t chain u m x = (back : List ℕ) → length back ≡ m → readBack t chain back u x .answer .number ≡ 0 → brought x (readBack t chain back u x) ≡ true
 
-module _ (t chain : List ℕ) (u m : ℕ) (d : State) (h : Sound t) (l : u ≤ 999999) where
+module _ (t chain : List ℕ) (u m : ℕ) (d : State) (h : Right t) (l : u ≤ 999999) where
   each-brings : (xs : List Sheet) → Meets (reached d) (walk t chain u) → Every (Proper m) xs → Every (Standing t chain d) xs → Every (Brings t chain u m) xs
   each-brings [] w p s = tt
   each-brings (x ∷ xs) w p s = (go w, each-brings xs w (p .1) (s .1))

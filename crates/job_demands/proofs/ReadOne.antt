@@ -14,16 +14,16 @@ use Rattle.paper.specs.Walk.{State, start, look, reached, stopped, toDirectory,
 use Rattle.paper.specs.Store.{run}
 use Rattle.paper.specs.Effect.{chainOf, rdsPlan}
 use Rattle.paper.specs.Answer.{Outcome, refusing, ran, single, granted, requested}
-use Rattle.demands.proofs.Sound.Clauses.{Sound, clauses-sound}
+use Rattle.demands.proofs.Sound.Right.{Right, right-sound}
 use Rattle.demands.proofs.Request.Course.{admits}
 use Rattle.demands.proofs.Parts.{part-whole}
 use Rattle.job_demands.proofs.Kept.{Stood}
 use Rattle.job_demands.proofs.Walks.{last-of}
 
 -- what was read is tried on a sound table
-pub sound-admits : (t line text reply : List ℕ) (u k : ℕ) (r : Request) → Sound t → u ≤ 999999 → asked line text ≡ request r
+pub sound-admits : (t line text reply : List ℕ) (u k : ℕ) (r : Request) → Right t → u ≤ 999999 → asked line text ≡ request r
     → requested t line text reply u k ≡ granted t text reply u k r
-sound-admits t line text reply u k r c = let z = clauses-sound t c in admits t line text reply u k r (z .0) (z .1)
+sound-admits t line text reply u k r c = let z = right-sound t c in admits t line text reply u k r (z .0) (z .1)
 
 -- the text is written to the front of the buffer, and the table stays
 pub record Wrote (t buffer text : List ℕ) (o : Outcome) : Type 0 where

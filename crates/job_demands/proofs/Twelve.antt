@@ -3,7 +3,7 @@
 use mathlib.Core.List.{List, [], _∷_, _++_}
 use mathlib.Core.Path.{_≡_, refl}
 use Prim.Native.Nat.{ℕ}
-use lib.ListN.{replicate}
+use lib.ListN.{take, replicate}
 use Rattle.paper.specs.Record.{blank, headingRecord, entryRecord}
 use Rattle.paper.proofs.Cases.{hold}
 use Rattle.job.specs.Sheet.{unpadded, linkOf, formed, start, sheet, job}
@@ -12,9 +12,9 @@ use Rattle.job.specs.Filing.{wrsLine, filed, filing}
 use Rattle.job.specs.Reading.{rdsLine, readBack, brought, reading}
 use Rattle.job.specs.Lamp.{red, lit}
 
--- `CRD .R`, `DUP .R .R:A`: a directory, its base entry of user 1, and its own entry A; and one free record
+-- `CRD .R`, `DUP .R .R:A`: a directory, named by two entries and with one, its base entry of user 1, and its own entry A; and one free record
 abbrev looped : List ℕ
-looped = headingRecord 0 0 0 1 0 ++ entryRecord 0 65535 0 1 (46 ∷ 82 ∷ []) ++ entryRecord 0 0 0 0 (65 ∷ []) ++ blank
+looped = take 12 (headingRecord 0 0 0 1 0) ++ 2 ∷ 0 ∷ 1 ∷ replicate 17 0 ++ entryRecord 0 65535 0 1 (46 ∷ 82 ∷ []) ++ entryRecord 0 0 0 0 (65 ∷ []) ++ blank
 
 -- one sheet, A, without text
 abbrev sheetA : List ℕ
@@ -24,6 +24,6 @@ sheetA = 65 ∷ replicate 31 0
 abbrev chainRA : List ℕ
 chainRA = 46 ∷ 82 ∷ 58 ∷ 65 ∷ []
 
-pub twelve-comes : lit looped sheetA [] [] chainRA 1 9 .answer ≡ red 2 1 12 2
+pub twelve-comes : lit looped sheetA [] [] chainRA 1 9 .answer ≡ red 2 1 12 4
 unfolding hold unpadded linkOf formed start sheet job each admission wrsLine filed filing rdsLine readBack brought reading lit
 twelve-comes = refl

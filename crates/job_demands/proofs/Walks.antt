@@ -18,6 +18,8 @@ use Rattle.laws.proofs.Tests.{clash, false-by}
 use Rattle.laws.proofs.Entries.{bears-stands, bears-name, stands-holder, typed-type}
 use Rattle.demands.proofs.Sound.Clauses.{Sound}
 use Rattle.demands.proofs.Request.Steps.{Looked, look-on}
+use Rattle.demands.proofs.Mending.Part.{Alike}
+use Rattle.demands.proofs.Mending.Counts.{alike-kind, alike-byte}
 use Rattle.job_demands.proofs.Kept.{Filed, found-new, other-entry, same-heading, same-code}
 
 -- ---- the last name is not looked at
@@ -59,9 +61,9 @@ module _ (t f : List ℕ) (d : Holder) (n text : List ℕ) (c : Sound t) (s : So
   unfolding look
   look-same a m e q z r = rw (other-entry t f d n text c s x (a .holder) m e q z, q, r)
 
-  enter-same : (y : State) → rec f (y .entry) ≡ rec t (y .entry) → rec f (file t y) ≡ rec t (file t y) → enter f y ≡ enter t y
+  enter-same : (y : State) → rec f (y .entry) ≡ rec t (y .entry) → Alike (rec t (file t y)) (rec f (file t y)) → enter f y ≡ enter t y
   unfolding enter
-  enter-same y r z = rw (r, z)
+  enter-same y r z = rw (r, alike-kind _ _ z, alike-byte _ _ z 1 (omega arith))
 
   -- the entry filed is met under its own name alone
   met : (a : State) (m : List ℕ) (y : State) → Looked t a m y → y .entry ≡ x .entry

@@ -19,7 +19,7 @@ ghost use mathlib.Core.Bool.{true, false};
 ghost use Prim.Native.Nat.{_+_, _<_, _≤_, _%_};
 ghost use lib.ListN.{length};
 ghost use Rattle.paper.specs.Record.{isKind, directory, headingNamed, holderOf, userOf, nameLength};
-ghost use Rattle.paper.specs.Sound.{isBase, noneCrowded, sound};
+ghost use Rattle.paper.specs.Sound.{isBase, noneCrowded, shaped};
 ghost use Rattle.paper.specs.Table.{rooms, rec};
 ghost use Rattle.judge_laws.specs.Mask.{without};
 ghost use Rattle.judge_laws.specs.Shapes.{baseRight, entryRight, Classed};
@@ -90,7 +90,7 @@ fn is_entry_right(
 }
 
 // Entry i is counted for the heading that it names.
-fn name_turn(t: &[u8], named: &mut [u16; Room::MOST], i: usize)
+pub(crate) fn name_turn(t: &[u8], named: &mut [u16; Room::MOST], i: usize)
     requires { ⌜ (i < rooms (now t)) × (length (now t) ≤ 65536) × (isKind 2 (rec (now t) i) ≡ true) × (headingNamed (rec (now t) i) < 2048)
         × Numbered (naming (now t) i) (now named) ⌝ }
     ensures { λ _. ⌜ Numbered (naming (now (t .entry)) (i + 1)) (now (named .exit)) ⌝ }
@@ -131,7 +131,7 @@ pub(crate) fn entry_turn(
 ) -> Walked
     requires { ⌜ (i < rooms (now t)) × (length (now t) % 32 ≡ 0) × (length (now t) ≤ 65536) × (isKind 2 (rec (now t) i) ≡ true)
         × Classed (now class) × Entries (now t) (now named) (now held) (now head) (now next) left i × Found (now gone) (now t) (now held) ⌝ }
-    ensures { λ r. ⌜ (r .right ≡ false → sound (without (now (gone .entry)) (now (t .entry))) ≡ false)
+    ensures { λ r. ⌜ (r .right ≡ false → shaped (without (now (gone .entry)) (now (t .entry))) ≡ false)
         × (r .right ≡ true → (entryRight (without (now (gone .entry)) (now (t .entry))) (rec (now (t .entry)) i) ≡ true)
         × Entries (now (t .entry)) (now (named .exit)) (now (held .exit)) (now (head .exit)) (now (next .exit)) (r .left) (i + 1)) ⌝ }
 {

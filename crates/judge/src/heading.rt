@@ -3,7 +3,7 @@ use crate::read::byte_of;
 use crate::read::raw_of;
 use crate::read::two_of;
 use crate::read::wide;
-use crate::zeros::are_twenty_zeros;
+use crate::zeros::are_sixteen_zeros;
 use crate::zeros::are_zeros;
 use records::block::blocks;
 use records::bytes::Bytes;
@@ -20,7 +20,7 @@ ghost use Rattle.paper.specs.Sound.{markRight};
 ghost use Rattle.paper.specs.Table.{rooms, rec};
 ghost use Rattle.judge_laws.specs.Mask.{without};
 ghost use Rattle.judge_laws.specs.Places.{weight};
-ghost use Rattle.judge_laws.specs.Shapes.{plainTest, headingRight};
+ghost use Rattle.judge_laws.specs.Shapes.{plainTest, bareTest, headingRight};
 
 // Whether record h is a heading that stays.
 pub(crate) fn is_heading(t: &[u8], gone: &[u8; Room::MOST], h: usize) -> bool
@@ -103,6 +103,17 @@ fn is_plain(t: &[u8], i: usize) -> bool
     is_medium_and_empty(t, i)
 }
 
+// Whether heading i, if it is a simple file's, has no count of entries that it holds.
+fn is_bare(t: &[u8], i: usize) -> bool
+    requires { ⌜ i < rooms (now t) ⌝ }
+    ensures { λ r. ⌜ r ≡ bareTest (rec (now (t .entry)) i) ⌝ }
+{
+    if raw_of(t, i, Heading::TYPE) != Heading::SIMPLE {
+        return true;
+    }
+    are_zeros(t, i, Heading::HELD, Heading::REST - Heading::HELD)
+}
+
 // Whether heading i is not marked, or marked as it may be: simple, M, of length 0.
 fn is_mark_right(t: &[u8], i: usize) -> bool
     requires { ⌜ i < rooms (now t) ⌝ }
@@ -148,7 +159,10 @@ fn is_heading_right(t: &[u8], i: usize) -> bool
     if !are_zeros(t, i, Heading::GAP, Heading::GAP_SIZE) {
         return false;
     }
-    if !are_twenty_zeros(t, i, Heading::REST) {
+    if !is_bare(t, i) {
+        return false;
+    }
+    if !are_sixteen_zeros(t, i, Heading::REST) {
         return false;
     }
     is_plain(t, i)

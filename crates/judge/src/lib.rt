@@ -1,9 +1,9 @@
 // Is this table sound? One pass over its records, and what they leave to be compared at its end.
+mod counts;
 mod crowds;
 mod entry;
 mod heading;
 mod name;
-mod named;
 mod order;
 mod pass;
 mod read;
@@ -13,9 +13,8 @@ mod zeros;
 
 use crate::crowds::crowd_all;
 use crate::name::classes;
-use crate::named::mark_named;
 use crate::order::none_are_twins;
-use crate::pass::count_named;
+use crate::pass::are_named;
 use crate::pass::pass_all;
 use crate::text::lay_out;
 use records::bytes::Room;
@@ -24,20 +23,19 @@ use records::entry::Entry;
 ghost use mathlib.Core.Path.{_≡_};
 ghost use mathlib.Core.Bool.{true};
 ghost use Rattle.paper.specs.Table.{sized};
-ghost use Rattle.paper.specs.Sound.{sound};
 ghost use Rattle.judge_laws.specs.Mask.{without};
-ghost use Rattle.judge_laws.specs.Naming.{namedMarks};
-ghost use Rattle.judge.specs.Judged.{judged};
+ghost use Rattle.judge_laws.specs.Counts.{soundBut};
+ghost use Rattle.judge.specs.Judged.{judged, judgedShape, judgedBut};
 
-// Whether a sized table is sound without the records that go. No user can have too many base files where there are few in all.
-fn is_sound(table: &[u8], gone: &[u8; Room::MOST]) -> bool
+// Whether a sized table is sound without the records that go, its counts judged or not. No user can have too many base files where there
+// are few in all.
+fn is_sound(table: &[u8], gone: &[u8; Room::MOST], counted: bool) -> bool
     requires { ⌜ sized (now table) ≡ true ⌝ }
-    ensures { λ r. ⌜ r ≡ sound (without (now (gone .entry)) (now (table .entry))) ⌝ }
+    ensures { λ r. ⌜ r ≡ soundBut counted (without (now (gone .entry)) (now (table .entry))) ⌝ }
 {
     let mut start = [0u16; Room::MOST];
-    let n = table.len() / Room::SIZE;
-    let asked = lay_out(table, gone, &mut start);
-    if n < asked.slots {
+    let slots = lay_out(table, gone, &mut start);
+    if table.len() / Room::SIZE < slots {
         return false;
     }
     let class = classes();
@@ -60,10 +58,10 @@ fn is_sound(table: &[u8], gone: &[u8; Room::MOST]) -> bool
     if !s.right {
         return false;
     }
-    if s.texts != asked.slots {
+    if s.texts != slots {
         return false;
     }
-    if count_named(&named, n) != asked.headings {
+    if !are_named(table, gone, &named, &held, counted) {
         return false;
     }
     if !none_are_twins(table, s.left, &mut next) {
@@ -76,31 +74,29 @@ fn is_sound(table: &[u8], gone: &[u8; Room::MOST]) -> bool
     crowd_all(table, &mut head, &mut next, &mut mark)
 }
 
-// The number for the table as it would be without the records that go: those that `gone` marks and that are no entries.
-pub fn judge_without(table: &[u8], gone: &[u8; Room::MOST]) -> u8
-    ensures { λ r. ⌜ r ≡ judged (without (now (gone .entry)) (now (table .entry))) ⌝ }
+// The number for the table as it would be without the records that go, its counts judged or not.
+fn number_of(table: &[u8], gone: &[u8; Room::MOST], counted: bool) -> u8
+    ensures { λ r. ⌜ r ≡ judgedBut counted (without (now (gone .entry)) (now (table .entry))) ⌝ }
 {
     if !is_sized(table) {
         return 1;
     }
-    if !is_sound(table, gone) {
+    if !is_sound(table, gone, counted) {
         return 2;
     }
     0
+}
+
+// The number for the table as it would be without the records that go, those that `gone` marks and that are no entries; whatever its counts.
+pub fn judge_without(table: &[u8], gone: &[u8; Room::MOST]) -> u8
+    ensures { λ r. ⌜ r ≡ judgedShape (without (now (gone .entry)) (now (table .entry))) ⌝ }
+{
+    number_of(table, gone, false)
 }
 
 // Document 01's number for the table: 1 if it is not sized, 2 if it is not sound, and else 0.
 pub fn judge(table: &[u8]) -> u8
     ensures { λ r. ⌜ r ≡ judged (now (table .entry)) ⌝ }
 {
-    judge_without(table, &[0u8; Room::MOST])
-}
-
-// The records that an entry names: 1 for each, and else 0.
-pub fn named_records(t: &[u8]) -> [u8; Room::MOST]
-    ensures { λ r. ⌜ r ≡ namedMarks (now (t .entry)) ⌝ }
-{
-    let mut mark = [0u8; Room::MOST];
-    mark_named(t, &mut mark);
-    mark
+    number_of(table, &[0u8; Room::MOST], true)
 }

@@ -1,8 +1,11 @@
 // One pass over the table: each record is judged by its kind, and what the whole table must show is counted on the way.
+use crate::counts::is_told;
 use crate::entry::entry_turn;
 use crate::heading::heading_turn;
 use crate::read::raw_of;
 use crate::read::two_of;
+use crate::read::wide;
+use crate::read::wide16;
 use crate::text::text_turn;
 use crate::zeros::is_free;
 use records::bytes::Room;
@@ -11,16 +14,15 @@ use records::entry::Holder;
 use records::heading::Heading;
 use records::text::Text;
 ghost use mathlib.Core.Path.{_≡_};
-ghost use mathlib.Core.Bool.{true, false, cond, not};
+ghost use mathlib.Core.Bool.{true, false, cond};
 ghost use Prim.Native.Nat.{_+_, _<_, _≤_, _%_};
-ghost use lib.Dec.{eqb};
 ghost use lib.ListN.{length};
-ghost use Rattle.paper.specs.Sound.{isBase, sound};
+ghost use Rattle.paper.specs.Sound.{isBase, shaped};
 ghost use Rattle.paper.specs.Table.{rooms, rec};
 ghost use Rattle.judge_laws.specs.Mask.{without};
-ghost use Rattle.judge_laws.specs.Naming.{nonzeros};
+ghost use Rattle.judge_laws.specs.Counts.{headed, allHeaded};
 ghost use Rattle.judge_laws.specs.Places.{Laid};
-ghost use Rattle.judge_laws.specs.Pass.{Passed};
+ghost use Rattle.judge_laws.specs.Pass.{naming, holding, Numbered, Passed};
 ghost use Rattle.judge_laws.specs.Shapes.{Classed};
 
 // What was passed: whether all of it is right, how many text records, how many entries of base files, and the steps left for the chains.
@@ -59,7 +61,7 @@ fn turn(
     requires { ⌜ (i < rooms (now t)) × (length (now t) % 32 ≡ 0) × (length (now t) ≤ 65536) × Classed (now class)
         × Laid (without (now gone) (now t)) (now start)
         × Passed (now gone) (now t) (now mark) (now named) (now held) (now head) (now next) (s .texts) (s .bases) (s .left) i ⌝ }
-    ensures { λ r. ⌜ (r .right ≡ false → sound (without (now (gone .entry)) (now (t .entry))) ≡ false)
+    ensures { λ r. ⌜ (r .right ≡ false → shaped (without (now (gone .entry)) (now (t .entry))) ≡ false)
         × (r .right ≡ true → Passed (now (gone .entry)) (now (t .entry)) (now (mark .exit)) (now (named .exit)) (now (held .exit)) (now (head .exit))
         (now (next .exit)) (r .texts) (r .bases) (r .left) (i + 1)) ⌝ }
 {
@@ -130,7 +132,7 @@ pub(crate) fn pass_all(
 ) -> Tally
     requires { ⌜ (length (now t) % 32 ≡ 0) × (length (now t) ≤ 65536) × Classed (now class) × Laid (without (now gone) (now t)) (now start)
         × Passed (now gone) (now t) (now mark) (now named) (now held) (now head) (now next) 0 0 8192 0 ⌝ }
-    ensures { λ r. ⌜ (r .right ≡ false → sound (without (now (gone .entry)) (now (t .entry))) ≡ false)
+    ensures { λ r. ⌜ (r .right ≡ false → shaped (without (now (gone .entry)) (now (t .entry))) ≡ false)
         × (r .right ≡ true → Passed (now (gone .entry)) (now (t .entry)) (now (mark .exit)) (now (named .exit)) (now (held .exit)) (now (head .exit))
         (now (next .exit)) (r .texts) (r .bases) (r .left) (rooms (now (t .entry)))) ⌝ }
 {
@@ -152,26 +154,54 @@ pub(crate) fn pass_all(
     s
 }
 
-// 1 if a number is not 0.
-fn one_if(m: u16) -> usize
-    ensures { λ r. ⌜ (r ≡ cond (not (eqb m 0)) 1 0) × (r ≤ 1) ⌝ }
+// Whether record i, if it is a heading that stays, is named and, where counts are judged, says them.
+fn is_named(
+    t: &[u8],
+    gone: &[u8; Room::MOST],
+    named: &[u16; Room::MOST],
+    held: &[u8; Room::MOST],
+    counted: bool,
+    i: usize,
+) -> bool
+    requires { ⌜ (i < rooms (now t)) × (length (now t) % 32 ≡ 0) × (length (now t) ≤ 65536) × Numbered (naming (now t) (rooms (now t))) (now named)
+        × Numbered (holding (now t) (rooms (now t))) (now held) ⌝ }
+    ensures { λ r. ⌜ r ≡ headed counted (without (now (gone .entry)) (now (t .entry))) i ⌝ }
 {
-    if m == 0 {
-        return 0;
+    if raw_of(t, i, Room::KIND) != Heading::KIND {
+        return true;
     }
-    1
+    if gone[i] != 0 {
+        return true;
+    }
+    let n = named[i];
+    if n == 0 {
+        return false;
+    }
+    if !counted {
+        return true;
+    }
+    is_told(t, i, wide16(n), wide(held[i]))
 }
 
-// How many of the first n records are named.
-pub(crate) fn count_named(named: &[u16; Room::MOST], n: usize) -> usize
-    requires { ⌜ (n ≤ 2048) × (length (now named) ≡ 2048) ⌝ }
-    ensures { λ r. ⌜ r ≡ nonzeros (now (named .entry)) n ⌝ }
+// Whether every heading that stays is named and, where counts are judged, says them.
+pub(crate) fn are_named(
+    t: &[u8],
+    gone: &[u8; Room::MOST],
+    named: &[u16; Room::MOST],
+    held: &[u8; Room::MOST],
+    counted: bool,
+) -> bool
+    requires { ⌜ (length (now t) % 32 ≡ 0) × (length (now t) ≤ 65536) × Numbered (naming (now t) (rooms (now t))) (now named)
+        × Numbered (holding (now t) (rooms (now t))) (now held) ⌝ }
+    ensures { λ r. ⌜ r ≡ allHeaded counted (without (now (gone .entry)) (now (t .entry))) ⌝ }
 {
-    let mut sum: usize = 0;
+    let n = t.len() / Room::SIZE;
     let mut i: usize = 0;
     while i < n {
-        sum += one_if(named[i]);
+        if !is_named(t, gone, named, held, counted, i) {
+            return false;
+        }
         i += 1;
     }
-    sum
+    true
 }

@@ -15,29 +15,20 @@ ghost use Prim.Native.Nat.{_+_, _<_, _≤_, _%_};
 ghost use lib.ListN.{length, getD};
 ghost use Rattle.paper.specs.Record.{byte, simple, position, zeros};
 ghost use Rattle.paper.specs.Table.{rooms, rec};
-ghost use Rattle.paper.specs.Sound.{textAsAbove, inPlace, sound};
+ghost use Rattle.paper.specs.Sound.{textAsAbove, inPlace, shaped};
 ghost use Rattle.judge_laws.specs.Mask.{without};
-ghost use Rattle.judge_laws.specs.Naming.{headings};
 ghost use Rattle.judge_laws.specs.Places.{starts, Laid, Marked};
 ghost use Rattle.judge_laws.specs.Shapes.{rightAt};
 
-// What the headings ask for: how many slots, and how many headings there are.
-pub(crate) struct Asked {
-    pub slots: usize,
-    pub headings: usize,
-}
-
-// If the table has no more slots than records, each heading's first slot is laid down.
-pub(crate) fn lay_out(t: &[u8], gone: &[u8; Room::MOST], start: &mut [u16; Room::MOST]) -> Asked
+// How many slots the table has; if there are no more than records, each heading's first slot is laid down.
+pub(crate) fn lay_out(t: &[u8], gone: &[u8; Room::MOST], start: &mut [u16; Room::MOST]) -> usize
     requires { ⌜ (length (now t) % 32 ≡ 0) × (length (now t) ≤ 65536) × (length (now start) ≡ 2048) ⌝ }
-    ensures { λ r. ⌜ (rooms (now (t .entry)) < r .slots → sound (without (now (gone .entry)) (now (t .entry))) ≡ false)
-        × (r .slots ≤ rooms (now (t .entry)) → Laid (without (now (gone .entry)) (now (t .entry))) (now (start .exit))
-        × (r .slots ≡ starts (without (now (gone .entry)) (now (t .entry))) (rooms (now (t .entry))))
-        × (r .headings ≡ headings (without (now (gone .entry)) (now (t .entry))) (rooms (now (t .entry))))) ⌝ }
+    ensures { λ r. ⌜ (rooms (now (t .entry)) < r → shaped (without (now (gone .entry)) (now (t .entry))) ≡ false)
+        × (r ≤ rooms (now (t .entry)) → Laid (without (now (gone .entry)) (now (t .entry))) (now (start .exit))
+        × (r ≡ starts (without (now (gone .entry)) (now (t .entry))) (rooms (now (t .entry))))) ⌝ }
 {
     let n = t.len() / Room::SIZE;
     let mut slots: usize = 0;
-    let mut headings: usize = 0;
     let mut i: usize = 0;
     while i < n {
         let h = i;
@@ -46,13 +37,12 @@ pub(crate) fn lay_out(t: &[u8], gone: &[u8; Room::MOST], start: &mut [u16; Room:
             let more = weight_of(t, gone, h);
             start[h] = slots as u16;
             slots += more;
-            headings += 1;
             if n < slots {
-                return Asked { slots, headings };
+                return slots;
             }
         }
     }
-    Asked { slots, headings }
+    slots
 }
 
 // Whether text record i, at position p, holds what it may of the file of heading h: a full block ends where the file does or before, and
@@ -108,7 +98,7 @@ pub(crate) fn text_turn(
 ) -> bool
     requires { ⌜ (i < rooms (now t)) × Laid (without (now gone) (now t)) (now start) × Marked (without (now gone) (now t)) (now mark) i
         × (byte (rec (now t) i) 0 ≡ 3) × (getD (now gone) i 0 ≡ 0) ⌝ }
-    ensures { λ r. ⌜ (r ≡ false → sound (without (now (gone .entry)) (now (t .entry))) ≡ false)
+    ensures { λ r. ⌜ (r ≡ false → shaped (without (now (gone .entry)) (now (t .entry))) ≡ false)
         × (r ≡ true → (rightAt (without (now (gone .entry)) (now (t .entry))) i ≡ true)
         × Marked (without (now (gone .entry)) (now (t .entry))) (now (mark .exit)) (i + 1)) ⌝ }
 {

@@ -67,16 +67,13 @@ pub(crate) fn are_twelve_zeros(t: &[u8], i: usize, j: usize) -> bool
     four_of(t, i, j + 8) == 0
 }
 
-// Whether the twenty bytes of record i from place j on are zero: three reads.
-pub(crate) fn are_twenty_zeros(t: &[u8], i: usize, j: usize) -> bool
-    requires { ⌜ (i < rooms (now t)) × (j ≤ 12) ⌝ }
-    ensures { λ r. ⌜ r ≡ zeros j 20 (rec (now (t .entry)) i) ⌝ }
+// Whether the sixteen bytes of record i from place j on are zero: two reads.
+pub(crate) fn are_sixteen_zeros(t: &[u8], i: usize, j: usize) -> bool
+    requires { ⌜ (i < rooms (now t)) × (j ≤ 16) ⌝ }
+    ensures { λ r. ⌜ r ≡ zeros j 16 (rec (now (t .entry)) i) ⌝ }
 {
     if eight_of(t, i, j) != 0 {
         return false;
     }
-    if eight_of(t, i, j + 8) != 0 {
-        return false;
-    }
-    four_of(t, i, j + 16) == 0
+    eight_of(t, i, j + 8) == 0
 }

@@ -9,7 +9,7 @@ use native.Mathlib.Omega.{arith}
 use native.Mathlib.Decide.{ℕ-discrete}
 use lib.Dec.{leb}
 use borrow.Author.Tests.{ne-eqb, leb-true, le-leb}
-use Rattle.judge_laws.specs.Shapes.{headingRight, entryRight, rightAt, shaped}
+use Rattle.judge_laws.specs.Shapes.{headingRight, entryRight, rightAt, eachRight}
 use Rattle.paper.specs.Name.{linkName}
 use Rattle.paper.specs.Record.{byte, entryCode, nameLength, nameOf, zeros}
 use Rattle.paper.specs.Sound.{freeAsAbove, headingAsAbove, entryAsAbove, textAsAbove, asAbove, holderThere, holdersThere, headingThere, headingsThere, userRight, usersRight, namePadded, namesPadded, directoryPlain, directoriesPlain, nameLegal, namesLegal}
@@ -50,9 +50,9 @@ pub record Clauses (t : List ℕ) : Type 0 where
   pub plain : directoriesPlain t ≡ true
   pub legal : namesLegal t ≡ true
 
-pub shaped-view : (t : List ℕ) → shaped t ≡ true → Clauses t
-unfolding shaped joined
-shaped-view t e =
+pub each-view : (t : List ℕ) → eachRight t ≡ true → Clauses t
+unfolding eachRight joined
+each-view t e =
     let s = holdersThere t ∷ headingsThere t ∷ usersRight t ∷ namesPadded t ∷ directoriesPlain t ∷ namesLegal t ∷ [] in
     record {
       above = joined-first (asAbove t) s e;
@@ -64,9 +64,9 @@ shaped-view t e =
       legal = joined-part (asAbove t) s 5 e;
     }
 
-pub shaped-made : (t : List ℕ) → Clauses t → shaped t ≡ true
-unfolding shaped
-shaped-made t h = rw (h .above, h .holders, h .headings, h .users, h .padded, h .plain) (h .legal)
+pub each-made : (t : List ℕ) → Clauses t → eachRight t ≡ true
+unfolding eachRight
+each-made t h = rw (h .above, h .holders, h .headings, h .users, h .padded, h .plain) (h .legal)
 
 -- the clauses hold: each record passes
 module _ (t : List ℕ) (h : Clauses t) (a : Above t) (i : ℕ) (l : i < rooms t) where
@@ -153,9 +153,9 @@ module _ (t : List ℕ) (h : (i : ℕ) → i < rooms t → rightAt t i ≡ true)
             and-both (linkName (nameOf (rec t i))) _ (entered i l k .link) (base-legal t (rec t i) (entered i l k .place)));
       }
 
-pub shaped-all : (t : List ℕ) → ((i : ℕ) → i < rooms t → rightAt t i ≡ true) → shaped t ≡ true
-shaped-all t h = shaped-made t (right-clauses t h)
+pub each-all : (t : List ℕ) → ((i : ℕ) → i < rooms t → rightAt t i ≡ true) → eachRight t ≡ true
+each-all t h = each-made t (right-clauses t h)
 
-pub shaped-not : (t : List ℕ) (i : ℕ) → i < rooms t → rightAt t i ≡ false → shaped t ≡ false
-shaped-not t i l e =
-    false-by (shaped t) (λ s. let c = shaped-view t s in not-both (clause-right t c (above-view t (c .above)) i l) e)
+pub each-not : (t : List ℕ) (i : ℕ) → i < rooms t → rightAt t i ≡ false → eachRight t ≡ false
+each-not t i l e =
+    false-by (eachRight t) (λ s. let c = each-view t s in not-both (clause-right t c (above-view t (c .above)) i l) e)

@@ -3,8 +3,6 @@ pub mod Tests
 pub mod Names
 pub mod Shapes
 pub mod Clauses
--- headings named
-pub mod Naming
 -- text, by slots that are marked once
 pub mod Sums
 pub mod Slots
@@ -22,3 +20,5 @@ pub mod Sound
 pub mod Mask
 -- one pass: what each kind of record adds, and what it shows at its end
 pub mod Pass
+-- headings named and the counts that they say
+pub mod Counts

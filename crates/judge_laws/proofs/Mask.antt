@@ -13,6 +13,7 @@ use borrow.Author.Tests.{eqb-true}
 use Rattle.judge_laws.specs.Mask.{stays, goes, without}
 use Rattle.judge_laws.specs.Shapes.{rightAt}
 use Rattle.judge_laws.specs.Twins.{twin, noTwins}
+use Rattle.paper.specs.Count.{namings}
 use Rattle.paper.specs.Entry.{Holder, holder, stands, crowd, limit, named}
 use Rattle.paper.specs.Record.{byte, isKind, simple, directory, names, zeros, blank}
 use Rattle.paper.specs.Scan.{allBelow, anyBelow}
@@ -143,6 +144,10 @@ module _ (gone t : List ℕ) where
   unfolding named
   named-without h = rw rooms-without (any-cong _ _ (rooms t) (λ j l. entries (names h) (λ r e. rw e) j l))
 
+  pub namings-without : (h : ℕ) → namings (without gone t) h ≡ namings t h
+  unfolding namings
+  namings-without h = rw rooms-without (count-cong _ _ (rooms t) (λ j l. entries (names h) (λ r e. rw e) j l))
+
   stands-without : (d : Holder) (j : ℕ) → j < rooms t → stands d (rec (without gone t) j) ≡ stands d (rec t j)
   unfolding stands
   stands-without d j l = entries (stands d) (λ r e. rw e) j l
@@ -172,7 +177,7 @@ module _ (gone t : List ℕ) where
       (asked (λ i r. not (anyBelow (λ j. twin r (rec (without gone t) j)) i)) (λ i r. not (anyBelow (λ j. twin r (rec t j)) i))
       (λ i l. ap not (any-cong _ _ i (λ j m. twin-without (rec t i) j (omega arith))))))
 
-  crowd-without : (d : Holder) → crowd (without gone t) d ≡ crowd t d
+  pub crowd-without : (d : Holder) → crowd (without gone t) d ≡ crowd t d
   unfolding crowd
   crowd-without d = rw rooms-without (count-cong _ _ (rooms t) (λ j l. stands-without d j l))
 

@@ -13,28 +13,26 @@ use lib.Dec.{eqb, leb}
 use borrow.Author.Count.{below-more, below-none}
 use borrow.Author.Tests.{eqb-true, eq-eqb, ne-eqb, leb-true, leb-false, le-leb, lt-leb}
 use Rattle.judge_laws.specs.Mask.{stays, without}
-use Rattle.judge_laws.specs.Naming.{headed, headings, nonzeros}
 use Rattle.judge_laws.specs.Pass.{naming, holding, baseEntry, basing, Numbered, Held, Found, Entries, Passed}
 use Rattle.judge_laws.specs.Places.{textFits, shortAt, textSound, texts, starts, slotOf, Laid, Marked, fresh}
-use Rattle.judge_laws.specs.Shapes.{headingRight, entryRight, rightAt, shaped}
+use Rattle.judge_laws.specs.Shapes.{headingRight, entryRight, rightAt, eachRight}
 use Rattle.judge_laws.specs.Twins.{hashOf, single, noTwins}
 use Rattle.paper.specs.Entry.{inDirectory, holder, stands, crowd, limit, named}
 use Rattle.paper.specs.Record.{byte, isKind, headingType, textLength, simple, directory, headingNamed, holderOf, userOf, names, headingOf, position, zeros}
 use Rattle.paper.specs.Scan.{anyBelow, countBelow}
-use Rattle.paper.specs.Sound.{textAsAbove, isBase, notCrowded, noneCrowded, allNamed, inPlace, sound}
+use Rattle.paper.specs.Sound.{textAsAbove, isBase, notCrowded, noneCrowded, allNamed, inPlace, shaped}
 use Rattle.paper.specs.Table.{rooms, rec}
-use Rattle.laws.proofs.Counts.{count-cong, count-more, count-none, count-up, count-most, count-mono, count-least}
+use Rattle.laws.proofs.Counts.{count-more, count-none, count-up, count-most, count-mono, count-least}
 use Rattle.laws.proofs.Entries.{stands-true}
 use Rattle.laws.proofs.Lay.{Whole, within}
-use Rattle.laws.proofs.Scans.{all-true, any-true, any-here}
+use Rattle.laws.proofs.Scans.{any-true, any-here}
 use Rattle.laws.proofs.Sound.{every-here, every-true}
-use Rattle.laws.proofs.Tests.{truth, and-left, and-right, and-both, and-no-right, not-both, false-by, implies-use, implies-by, same-truth}
+use Rattle.laws.proofs.Tests.{truth, and-left, and-right, and-both, and-no-right, not-both, false-by, implies-by}
 use Rattle.judge_laws.proofs.Chains.{chains-none, chains-other}
-use Rattle.judge_laws.proofs.Clauses.{shaped-all, shaped-not, right-heading, right-entry, right-text, right-other}
-use Rattle.judge_laws.proofs.Mask.{rooms-without, whole-without, rec-stays, rec-entry, text-without, simple-without, right-gone, named-without, twins-without, crowded-without}
-use Rattle.judge_laws.proofs.Naming.{all-headed, count-same}
+use Rattle.judge_laws.proofs.Clauses.{each-all, each-not, right-heading, right-entry, right-text, right-other}
+use Rattle.judge_laws.proofs.Mask.{rooms-without, whole-without, rec-stays, rec-entry, text-without, simple-without, right-gone, twins-without, crowded-without}
 use Rattle.judge_laws.proofs.Shapes.{heading-view, entry-view, base-holder, base-user}
-use Rattle.judge_laws.proofs.Sound.{sound-not-shaped, sound-not-named, sound-not-text, sound-not-twins, sound-not-crowded, sound-left}
+use Rattle.judge_laws.proofs.Sound.{shaped-not-each, shaped-not-text, shaped-not-twins, shaped-not-crowded, shaped-left}
 use Rattle.judge_laws.proofs.Tests.{and-past}
 use Rattle.judge_laws.proofs.Text.{by-slots, sound-not-long, sound-not-apart}
 use Rattle.judge_laws.proofs.TextTurns.{marked-none, marked, unmarked, mark-refused, code-slot, starts-up, texts-none, texts-more, texts-most}
@@ -71,11 +69,11 @@ counted-any p n = go (truth (anyBelow p n))
         rw (e, z)
 
 module _ (t : List ℕ) (i : ℕ) where
-  naming-more : (h : ℕ) → naming t (i + 1) h ≡ cond (names h (rec t i)) (naming t i h + 1) (naming t i h)
+  pub naming-more : (h : ℕ) → naming t (i + 1) h ≡ cond (names h (rec t i)) (naming t i h + 1) (naming t i h)
   unfolding naming
   naming-more h = count-more (λ j. names h (rec t j)) i
 
-  holding-more : (d : ℕ) → holding t (i + 1) d ≡ cond (stands (inDirectory d) (rec t i)) (holding t i d + 1) (holding t i d)
+  pub holding-more : (d : ℕ) → holding t (i + 1) d ≡ cond (stands (inDirectory d) (rec t i)) (holding t i d + 1) (holding t i d)
   unfolding holding
   holding-more d = count-more (λ j. stands (inDirectory d) (rec t j)) i
 
@@ -186,11 +184,6 @@ few-bases t named held head next left s few users there = every-here 2 (notCrowd
         let u : userOf (rec t i) ≡ 0 = eqb-true _ _ (rw b at (users i l k)) in
         rw (b, u) (le-leb (countBelow (λ j. stands (inDirectory (holderOf (rec t i))) (rec t j)) (rooms t)) 112 (s .holding .most _ (there i l k b)))
 
--- the numbers tell whether a heading is named
-pub named-tells : (t a : List ℕ) (i : ℕ) → Numbered (naming t (rooms t)) a → i < 2048 → not (eqb (getD a i 0) 0) ≡ named t i
-unfolding naming named
-named-tells t a i n l = rw (n .at i l) (counted-any (λ j. names i (rec t j)) (rooms t))
-
 module _ (gone t : List ℕ) (w : Whole t) where
   -- an entry that is right names a record of the table, and stands in one or in a base list
   pub entry-names : (r : List ℕ) → entryRight (without gone t) r ≡ true → headingNamed r < rooms t
@@ -211,23 +204,23 @@ module _ (gone t : List ℕ) (w : Whole t) where
       )
 
   -- two entries that are twins
-  pub refuted-twins : noTwins t ≡ false → sound (without gone t) ≡ false
-  refuted-twins e = sound-not-twins (without gone t) (twins-without gone t ∙ e)
+  pub refuted-twins : noTwins t ≡ false → shaped (without gone t) ≡ false
+  refuted-twins e = shaped-not-twins (without gone t) (twins-without gone t ∙ e)
 
   -- what one record refutes
   module _ (i : ℕ) (l : i < rooms t) where
-    pub refuted : rightAt (without gone t) i ≡ false → sound (without gone t) ≡ false
-    refuted e = sound-not-shaped (without gone t) (shaped-not (without gone t) i (rw (rooms-without gone t) l) e)
+    pub refuted : rightAt (without gone t) i ≡ false → shaped (without gone t) ≡ false
+    refuted e = shaped-not-each (without gone t) (each-not (without gone t) i (rw (rooms-without gone t) l) e)
 
-    pub refuted-long : shortAt (without gone t) i ≡ false → sound (without gone t) ≡ false
+    pub refuted-long : shortAt (without gone t) i ≡ false → shaped (without gone t) ≡ false
     unfolding textSound
     refuted-long e =
-        sound-not-text (without gone t) (sound-not-long (without gone t) (whole-without gone t w) i (rw (rooms-without gone t) l) e)
+        shaped-not-text (without gone t) (sound-not-long (without gone t) (whole-without gone t w) i (rw (rooms-without gone t) l) e)
 
-    pub refuted-twin : single t i ≡ false → sound (without gone t) ≡ false
+    pub refuted-twin : single t i ≡ false → shaped (without gone t) ≡ false
     refuted-twin e = refuted-twins (twin-one t i l e)
 
-    pub refuted-entry : isKind 2 (rec t i) ≡ true → entryRight (without gone t) (rec t i) ≡ false → sound (without gone t) ≡ false
+    pub refuted-entry : isKind 2 (rec t i) ≡ true → entryRight (without gone t) (rec t i) ≡ false → shaped (without gone t) ≡ false
     refuted-entry k e =
         let q = rec-entry gone t w i k in
         refuted (right-entry (without gone t) i (ap (λ r. byte r 0) q ∙ eqb-true _ _ k) ∙ rw q e)
@@ -239,10 +232,10 @@ module _ (gone t : List ℕ) (w : Whole t) where
 
     -- a heading that is not right, or too long: a directory's has length 0
     pub refuted-heading : byte (rec t i) 0 ≡ 1 → stays gone i ≡ true → (headingRight (rec t i) && leb (textLength (rec t i)) 24000) ≡ false
-        → sound (without gone t) ≡ false
+        → shaped (without gone t) ≡ false
     refuted-heading k s f = go (truth (headingRight (rec t i)))
       where
-        long : headingRight (rec t i) ≡ true → 24000 < textLength (rec t i) → sound (without gone t) ≡ false
+        long : headingRight (rec t i) ≡ true → 24000 < textLength (rec t i) → shaped (without gone t) ≡ false
         long e n =
             let v = heading-view (rec t i) e in
             by-cases (ℕ-discrete (headingType (rec t i)) 0)
@@ -251,7 +244,7 @@ module _ (gone t : List ℕ) (w : Whole t) where
             let one : headingType (rec t i) ≡ 1 = omega (arith, v .type) in
             refuted-long (rw (rec-stays gone t w i s, k, one) (lt-leb (textLength (rec t i)) 24000 n)))
 
-        go : (headingRight (rec t i) ≡ true) ⊎ (headingRight (rec t i) ≡ false) → sound (without gone t) ≡ false
+        go : (headingRight (rec t i) ≡ true) ⊎ (headingRight (rec t i) ≡ false) → shaped (without gone t) ≡ false
         go (inr e) = refuted (heading-right k s ∙ e)
         go (inl e) = long e (leb-false _ _ (rw e at f))
 
@@ -263,23 +256,23 @@ module _ (gone t : List ℕ) (w : Whole t) where
         let y : byte (rec (without gone t) i) 0 ≡ byte (rec t i) 0 = ap (λ r. byte r 0) z in
         right-other (without gone t) i (λ q. n1 (sym y ∙ q)) (λ q. n2 (sym y ∙ q)) (λ q. n3 (sym y ∙ q)) ∙ rw z
 
-  pub refuted-crowd : noneCrowded t ≡ false → sound (without gone t) ≡ false
-  refuted-crowd e = sound-not-crowded (without gone t) (crowded-without gone t ∙ e)
+  pub refuted-crowd : noneCrowded t ≡ false → shaped (without gone t) ≡ false
+  refuted-crowd e = shaped-not-crowded (without gone t) (crowded-without gone t ∙ e)
 
   -- more slots than records, or another number of text records than of slots
-  pub refuted-slots : (i : ℕ) → i < rooms t → rooms t < starts (without gone t) (i + 1) → sound (without gone t) ≡ false
+  pub refuted-slots : (i : ℕ) → i < rooms t → rooms t < starts (without gone t) (i + 1) → shaped (without gone t) ≡ false
   unfolding textSound
   refuted-slots i l m =
       let q = rooms-without gone t in
       let b = starts-up (without gone t) (i + 1) (rooms (without gone t)) (omega arith) in
       let d = texts-most (without gone t) (rooms (without gone t)) in
-      sound-not-text (without gone t) (sound-not-apart (without gone t) (whole-without gone t w)
+      shaped-not-text (without gone t) (sound-not-apart (without gone t) (whole-without gone t w)
       (λ (e : texts (without gone t) (rooms (without gone t)) ≡ starts (without gone t) (rooms (without gone t))). omega arith))
 
-  pub refuted-total : (texts (without gone t) (rooms t) ≡ starts (without gone t) (rooms t) → ⊥) → sound (without gone t) ≡ false
+  pub refuted-total : (texts (without gone t) (rooms t) ≡ starts (without gone t) (rooms t) → ⊥) → shaped (without gone t) ≡ false
   unfolding textSound
   refuted-total n =
-      sound-not-text (without gone t) (sound-not-apart (without gone t) (whole-without gone t w) (rw (rooms-without gone t) n))
+      shaped-not-text (without gone t) (sound-not-apart (without gone t) (whole-without gone t w) (rw (rooms-without gone t) n))
 
   -- a text record takes its slot
   module _ (start mark : List ℕ) (i : ℕ) (a : Laid (without gone t) start) (l : i < rooms t) (m : Marked (without gone t) mark i)
@@ -293,19 +286,19 @@ module _ (gone t : List ℕ) (w : Whole t) where
     pub text-right : rightAt (without gone t) i ≡ textAsAbove 0 (rec t i)
     text-right = right-text (without gone t) i kind ∙ rw same
 
-    stale : fresh (without gone t) mark i ≡ false → sound (without gone t) ≡ false
+    stale : fresh (without gone t) mark i ≡ false → shaped (without gone t) ≡ false
     unfolding textSound
-    stale e = sound-not-text (without gone t) (mark-refused (without gone t) start mark i a (rw (rooms-without gone t) l) m e)
+    stale e = shaped-not-text (without gone t) (mark-refused (without gone t) start mark i a (rw (rooms-without gone t) l) m e)
 
     -- in the file of heading h, from slot v on
     module _ (h v : ℕ) (eh : h ≡ headingOf (rec t i)) where
-      misplaced : inPlace (rec (without gone t) h) (rec t i) ≡ false → sound (without gone t) ≡ false
+      misplaced : inPlace (rec (without gone t) h) (rec t i) ≡ false → shaped (without gone t) ≡ false
       misplaced e = stale (rw (kind, same, ← eh, e))
 
-      pub text-refuted : (textAsAbove 0 (rec t i) && inPlace (rec (without gone t) h) (rec t i)) ≡ false → sound (without gone t) ≡ false
+      pub text-refuted : (textAsAbove 0 (rec t i) && inPlace (rec (without gone t) h) (rec t i)) ≡ false → shaped (without gone t) ≡ false
       text-refuted e = go (truth (textAsAbove 0 (rec t i)))
         where
-          go : (textAsAbove 0 (rec t i) ≡ true) ⊎ (textAsAbove 0 (rec t i) ≡ false) → sound (without gone t) ≡ false
+          go : (textAsAbove 0 (rec t i) ≡ true) ⊎ (textAsAbove 0 (rec t i) ≡ false) → shaped (without gone t) ≡ false
           go (inl q) = misplaced (sym (and-past (textAsAbove 0 (rec t i)) (inPlace (rec (without gone t) h) (rec t i)) q) ∙ e)
           go (inr q) = refuted i l (text-right ∙ q)
 
@@ -320,7 +313,7 @@ module _ (gone t : List ℕ) (w : Whole t) where
         fits : textFits (without gone t) i ≡ true
         fits = rw (kind, same, ← eh, e)
 
-        pub slot-taken : (getD mark (v + p) 0 ≡ 0 → ⊥) → sound (without gone t) ≡ false
+        pub slot-taken : (getD mark (v + p) 0 ≡ 0 → ⊥) → shaped (without gone t) ≡ false
         slot-taken n = stale (and-no-right (textFits (without gone t) i) _ (rw (kind, ← (slot .0)) (ne-eqb (getD mark (v + p) 0) 0 n)))
 
         pub slot-marked : getD mark (v + p) 0 ≡ 0 → Marked (without gone t) (set mark (v + p) 1) (i + 1)
@@ -444,48 +437,11 @@ module _ (gone t : List ℕ) (w : Whole t) where
           let a = any-true (λ j. stands (inDirectory d) (rec t j)) i (sym (counted-any (λ j. stands (inDirectory d) (rec t j)) i) ∙ p) in
           go d (a .0) l (a .1) (a .2)
 
-  -- a record that is named is a heading, so the headings are all named where there are as many as records that are named
-  module _ (small : length t ≤ 65536) (a : List ℕ) (m : Numbered (naming t (rooms t)) a)
-      (r : (j : ℕ) → j < rooms t → rightAt (without gone t) j ≡ true) where
-    tells : (h : ℕ) → h < rooms t → not (eqb (getD a h 0) 0) ≡ named t h
-    tells h l = named-tells t a h m (omega arith)
-
-    named-heading : (h : ℕ) → h < rooms t → not (eqb (getD a h 0) 0) ≡ true → isKind 1 (rec (without gone t) h) ≡ true
-    unfolding named
-    named-heading h l e = let i = any-true (λ j. names h (rec t j)) (rooms t) (sym (tells h l) ∙ e) in go (i .0) (i .1) (i .2)
-      where
-        go : (j : ℕ) → j < rooms t → names h (rec t j) ≡ true → isKind 1 (rec (without gone t) h) ≡ true
-        go j b q =
-            let k : byte (rec t j) 0 ≡ 2 = eqb-true _ _ (and-left (isKind 2 (rec t j)) _ q) in
-            let n : headingNamed (rec t j) ≡ h = eqb-true _ _ (and-right (isKind 2 (rec t j)) _ q) in
-            rw (← n) (entry-view (without gone t) (rec t j) (right-is-entry j (r j b) k) .named)
-
-    pub counts-named : nonzeros a (rooms t) ≡ headings (without gone t) (rooms t) → allNamed (without gone t) ≡ true
-    unfolding nonzeros headings
-    counts-named e =
-        all-headed (without gone t)
-        (λ h l.
-        let b : h < rooms t = rw (rooms-without gone t) at l in
-        implies-by (isKind 1 (rec (without gone t) h)) _
-        (λ k. named-without gone t h ∙ sym (tells h b)
-        ∙ count-same (λ j. not (eqb (getD a j 0) 0)) (λ j. isKind 1 (rec (without gone t) j)) (rooms t) named-heading e h b k))
-
-    pub refuted-named : (nonzeros a (rooms t) ≡ headings (without gone t) (rooms t) → ⊥) → sound (without gone t) ≡ false
-    unfolding nonzeros headings allNamed
-    refuted-named n =
-        sound-not-named (without gone t)
-        (false-by (allNamed (without gone t))
-        (λ e. n (count-cong (λ j. not (eqb (getD a j 0) 0)) (λ j. isKind 1 (rec (without gone t) j)) (rooms t)
-        (λ h l. same-truth (not (eqb (getD a h 0) 0)) (isKind 1 (rec (without gone t) h)) (named-heading h l)
-        (λ k. tells h l ∙ sym (named-without gone t h)
-        ∙ implies-use (isKind 1 (rec (without gone t) h)) _
-        (all-true (headed (without gone t)) (rooms (without gone t)) h (rw (rooms-without gone t) l) e) k)))))
-
   -- what is known past the last record
   module _ (start mark named held head next : List ℕ) (x b u : ℕ) (a : Laid (without gone t) start)
       (p : Passed gone t mark named held head next x b u (rooms t)) where
-    all-right : shaped (without gone t) ≡ true
-    all-right = shaped-all (without gone t) (λ j l. p .right j (rw (rooms-without gone t) at l))
+    all-right : eachRight (without gone t) ≡ true
+    all-right = each-all (without gone t) (λ j l. p .right j (rw (rooms-without gone t) at l))
 
     all-text : x ≡ starts (without gone t) (rooms t) → textSound (without gone t) ≡ true
     all-text e =
@@ -497,9 +453,9 @@ module _ (gone t : List ℕ) (w : Whole t) where
     pub passed-single : 0 < u → noTwins t ≡ true
     passed-single z = single-all t (p .entries .single z)
 
-    pub passed-all : x ≡ starts (without gone t) (rooms t) → allNamed (without gone t) ≡ true → noTwins t ≡ true → sound (without gone t) ≡ noneCrowded t
+    pub passed-all : x ≡ starts (without gone t) (rooms t) → allNamed (without gone t) ≡ true → noTwins t ≡ true → shaped (without gone t) ≡ noneCrowded t
     unfolding textSound
-    passed-all e n o = sound-left (without gone t) all-right n (all-text e) (twins-without gone t ∙ o) ∙ crowded-without gone t
+    passed-all e n o = shaped-left (without gone t) all-right n (all-text e) (twins-without gone t ∙ o) ∙ crowded-without gone t
 
     pub passed-few : length t ≤ 65536 → b ≤ 100 → noneCrowded t ≡ true
     passed-few small few =

@@ -11,7 +11,7 @@ use native.Mathlib.Nat.{add-zero}
 use lib.Dec.{eqb, leb}
 use lib.ListN.{getD}
 use borrow.Author.Tests.{eqb-true, eq-eqb, leb-true, le-leb}
-use Rattle.judge_laws.specs.Shapes.{plainTest, headingRight, baseRight, insideRight, entryRight}
+use Rattle.judge_laws.specs.Shapes.{plainTest, bareTest, headingRight, baseRight, insideRight, entryRight}
 use Rattle.paper.specs.Name.{linkName, legalBase}
 use Rattle.paper.specs.Number.{numberAt}
 use Rattle.paper.specs.Record.{byte, isKind, headingType, level, headingCode, lifetime, textLength, directory, entryCode, holderOf, headingNamed, userOf, nameLength, nameOf, bytesHeld, zeros}
@@ -76,7 +76,8 @@ pub record Heading (r : List ℕ) : Type 0 where
   pub most : lifetime r ≤ 2
   pub mark : markRight r ≡ true
   pub gap : zeros 6 4 r ≡ true
-  pub rest : zeros 12 20 r ≡ true
+  pub bare : bareTest r ≡ true
+  pub rest : zeros 16 16 r ≡ true
   pub plain : headingType r ≡ 0 → (lifetime r ≡ 1) × (textLength r ≡ 0)
 
 plain-use : (r : List ℕ) → plainTest r ≡ true → headingType r ≡ 0 → (lifetime r ≡ 1) × (textLength r ≡ 0)
@@ -88,7 +89,9 @@ pub heading-view : (r : List ℕ) → headingRight r ≡ true → Heading r
 unfolding headingRight joined
 heading-view r e =
     let a = leb (headingType r) 1 in
-    let s = leb (level r) 3 ∷ leb (headingCode r) 7 ∷ leb 1 (lifetime r) ∷ leb (lifetime r) 2 ∷ markRight r ∷ zeros 6 4 r ∷ zeros 12 20 r ∷ plainTest r ∷ [] in
+    let s =
+    leb (level r) 3 ∷ leb (headingCode r) 7 ∷ leb 1 (lifetime r) ∷ leb (lifetime r) 2 ∷ markRight r ∷ zeros 6 4 r
+    ∷ bareTest r ∷ zeros 16 16 r ∷ plainTest r ∷ [] in
     record {
       type = leb-true _ _ (joined-first a s e);
       grade = leb-true _ _ (joined-part a s 0 e);
@@ -97,8 +100,9 @@ heading-view r e =
       most = leb-true _ _ (joined-part a s 3 e);
       mark = joined-part a s 4 e;
       gap = joined-part a s 5 e;
-      rest = joined-part a s 6 e;
-      plain = plain-use r (joined-part a s 7 e);
+      bare = joined-part a s 6 e;
+      rest = joined-part a s 7 e;
+      plain = plain-use r (joined-part a s 8 e);
     }
 
 -- a text record, part by part
@@ -182,10 +186,10 @@ pub heading-not : (r : List ℕ) → (Heading r → ⊥) → headingRight r ≡ 
 heading-not r n = false-by (headingRight r) (λ e. n (heading-view r e))
 
 pub heading-left : (r : List ℕ) → headingType r ≤ 1 → level r ≤ 3 → headingCode r ≤ 7 → 1 ≤ lifetime r → lifetime r ≤ 2 → markRight r ≡ true
-    → zeros 6 4 r ≡ true → zeros 12 20 r ≡ true → headingRight r ≡ plainTest r
+    → zeros 6 4 r ≡ true → bareTest r ≡ true → zeros 16 16 r ≡ true → headingRight r ≡ plainTest r
 unfolding headingRight
-heading-left r a b d e f m g h =
-    rw (m, le-leb (headingType r) 1 a, le-leb (level r) 3 b, le-leb (headingCode r) 7 d, le-leb 1 (lifetime r) e, le-leb (lifetime r) 2 f, g, h)
+heading-left r a b d e f m g o h =
+    rw (m, le-leb (headingType r) 1 a, le-leb (level r) 3 b, le-leb (headingCode r) 7 d, le-leb 1 (lifetime r) e, le-leb (lifetime r) 2 f, g, o, h)
 
 pub text-not : (r : List ℕ) → (Texted r → ⊥) → textAsAbove 0 r ≡ false
 text-not r n = false-by (textAsAbove 0 r) (λ e. n (text-view r e))

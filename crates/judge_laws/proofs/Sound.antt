@@ -1,22 +1,22 @@
--- Soundness from the clauses as the judge takes them: what the records show, headings named, text, twins, crowds.
+-- The shape of a table from the clauses as the judge takes them: what the records show, headings named, text, twins, crowds.
 -- Every clause of the paper is one of these, and twins are names borne twice once the records are right.
 use mathlib.Core.Bool.{true, false, _&&_}
 use mathlib.Core.List.{List}
 use mathlib.Core.Path.{_≡_, sym, _∙_}
 use Prim.Native.Nat.{ℕ}
-use Rattle.judge_laws.specs.Shapes.{shaped}
+use Rattle.judge_laws.specs.Shapes.{eachRight}
 use Rattle.judge_laws.specs.Twins.{noTwins}
-use Rattle.paper.specs.Sound.{allNamed, noneCrowded, textsWhole, noOtherText, sound}
-use Rattle.judge_laws.proofs.Clauses.{shaped-view, shaped-made}
+use Rattle.paper.specs.Sound.{allNamed, noneCrowded, textsWhole, noOtherText, shaped}
+use Rattle.judge_laws.proofs.Clauses.{each-view, each-made}
 use Rattle.judge_laws.proofs.Literal.{twins-literal}
 use Rattle.laws.proofs.Tests.{and-left, and-right, and-both, not-both, false-by, same-truth}
 use Rattle.laws.proofs.Sound.{tested, untested}
 
 module _ (t : List ℕ) where
-  sound-shaped : sound t ≡ true → shaped t ≡ true
-  sound-shaped e =
+  shaped-each : shaped t ≡ true → eachRight t ≡ true
+  shaped-each e =
       let c = tested t e in
-      shaped-made t (record {
+      each-made t (record {
         above = c .above;
         holders = c .holders;
         headings = c .headings;
@@ -27,26 +27,26 @@ module _ (t : List ℕ) where
       })
 
   -- a clause that fails
-  pub sound-not-shaped : shaped t ≡ false → sound t ≡ false
-  sound-not-shaped f = false-by (sound t) (λ e. not-both (sound-shaped e) f)
+  pub shaped-not-each : eachRight t ≡ false → shaped t ≡ false
+  shaped-not-each f = false-by (shaped t) (λ e. not-both (shaped-each e) f)
 
-  pub sound-not-named : allNamed t ≡ false → sound t ≡ false
-  sound-not-named f = false-by (sound t) (λ e. not-both (tested t e .named) f)
+  pub shaped-not-named : allNamed t ≡ false → shaped t ≡ false
+  shaped-not-named f = false-by (shaped t) (λ e. not-both (tested t e .named) f)
 
-  pub sound-not-text : (textsWhole t && noOtherText t) ≡ false → sound t ≡ false
-  sound-not-text f = false-by (sound t) (λ e. not-both (and-both (textsWhole t) _ (tested t e .whole) (tested t e .other)) f)
+  pub shaped-not-text : (textsWhole t && noOtherText t) ≡ false → shaped t ≡ false
+  shaped-not-text f = false-by (shaped t) (λ e. not-both (and-both (textsWhole t) _ (tested t e .whole) (tested t e .other)) f)
 
-  pub sound-not-twins : noTwins t ≡ false → sound t ≡ false
-  sound-not-twins f = false-by (sound t) (λ e. not-both (twins-literal t (shaped-view t (sound-shaped e)) ∙ tested t e .twice) f)
+  pub shaped-not-twins : noTwins t ≡ false → shaped t ≡ false
+  shaped-not-twins f = false-by (shaped t) (λ e. not-both (twins-literal t (each-view t (shaped-each e)) ∙ tested t e .twice) f)
 
-  pub sound-not-crowded : noneCrowded t ≡ false → sound t ≡ false
-  sound-not-crowded f = false-by (sound t) (λ e. not-both (tested t e .crowded) f)
+  pub shaped-not-crowded : noneCrowded t ≡ false → shaped t ≡ false
+  shaped-not-crowded f = false-by (shaped t) (λ e. not-both (tested t e .crowded) f)
 
   -- the crowds are what is left
-  pub sound-left : shaped t ≡ true → allNamed t ≡ true → (textsWhole t && noOtherText t) ≡ true → noTwins t ≡ true → sound t ≡ noneCrowded t
-  sound-left s n x w =
-      let c = shaped-view t s in
-      same-truth (sound t) (noneCrowded t) (λ e. tested t e .crowded)
+  pub shaped-left : eachRight t ≡ true → allNamed t ≡ true → (textsWhole t && noOtherText t) ≡ true → noTwins t ≡ true → shaped t ≡ noneCrowded t
+  shaped-left s n x w =
+      let c = each-view t s in
+      same-truth (shaped t) (noneCrowded t) (λ e. tested t e .crowded)
       (λ k. untested t (record {
         above = c .above;
         holders = c .holders;

@@ -1,6 +1,5 @@
 pub mod Tally
 pub mod Places
-pub mod Naming
 pub mod Chains
 pub mod Crowds
 pub mod Twins
@@ -8,3 +7,4 @@ pub mod Order
 pub mod Shapes
 pub mod Mask
 pub mod Pass
+pub mod Counts

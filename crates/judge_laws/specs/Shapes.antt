@@ -14,6 +14,10 @@ use Rattle.paper.specs.Table.{rec}
 abbrev pub plainTest : List ℕ → Bool
 plainTest r = implies (eqb (headingType r) 0) (eqb (lifetime r) 1 && eqb (textLength r) 0)
 
+-- a simple file's heading holds nothing
+abbrev pub bareTest : List ℕ → Bool
+bareTest r = implies (eqb (headingType r) 1) (zeros 14 2 r)
+
 -- `.R`, `.W`, `.G` or `.T`, by the letter
 abbrev pub area : ℕ → Bool
 area b = eqb b 82 || eqb b 87 || eqb b 71 || eqb b 84
@@ -43,8 +47,8 @@ rightAt t i =
     (cond (isKind 2 (rec t i)) (entryRight t (rec t i)) (cond (isKind 3 (rec t i)) (textAsAbove 0 (rec t i)) (zeros 0 32 (rec t i))))
 
 -- the clauses that the records show one by one
-unfoldable pub shaped : List ℕ → Bool
-shaped t =
+unfoldable pub eachRight : List ℕ → Bool
+eachRight t =
     asAbove t && holdersThere t && headingsThere t && usersRight t && namesPadded t && directoriesPlain t && namesLegal t
 
 -- the class of a byte: 1 if it may be in a name, 0 if it is zero, and 2 if it is neither

@@ -9,10 +9,12 @@ pub mod Lists
 pub mod Fields
 pub mod Entries
 pub mod Blocks
--- a table: one store, a list of stores, its free records
+-- a table: one store, a list of stores, records laid by a test, counts corrected, its free records
 pub mod Lay
 pub mod Rewritten
 pub mod Runs
+pub mod Fills
+pub mod Recounts
 pub mod Rooms
 -- soundness taken apart, and the order of a listing
 pub mod Sound

@@ -1,4 +1,4 @@
--- Soundness taken apart and put together: a chain of `&&` passes exactly when each of its tests does, so `sound` is its twelve clauses
+-- Soundness taken apart and put together: a chain of `&&` passes exactly when each of its tests does, so `shaped` is its twelve clauses
 -- and "every record is as above" its five. A clause on one kind passes exactly when each record of that kind does.
 use mathlib.Core.Bool.{Bool, true}
 use mathlib.Core.List.{List, [], _∷_}
@@ -10,7 +10,7 @@ use borrow.Author.Tests.{eqb-true, eq-eqb, leb-true}
 use Rattle.paper.specs.Scan.{allBelow}
 use Rattle.paper.specs.Record.{byte, isKind}
 use Rattle.paper.specs.Table.{sized, rooms, rec}
-use Rattle.paper.specs.Sound.{implies, every, freeAsAbove, headingAsAbove, entryAsAbove, textAsAbove, asAbove, holdersThere, headingsThere, usersRight, namesPadded, noneTwice, allNamed, noneCrowded, directoriesPlain, textsWhole, noOtherText, namesLegal, sound}
+use Rattle.paper.specs.Sound.{implies, every, freeAsAbove, headingAsAbove, entryAsAbove, textAsAbove, asAbove, holdersThere, headingsThere, usersRight, namesPadded, noneTwice, allNamed, noneCrowded, directoriesPlain, textsWhole, noOtherText, namesLegal, shaped}
 use Rattle.laws.proofs.Tests.{and-left, and-right, implies-use, implies-by, joined, joined-first, joined-part}
 use Rattle.laws.proofs.Scans.{all-true, all-here}
 
@@ -33,8 +33,8 @@ pub record Tested (t : List ℕ) : Type 0 where
   pub other : noOtherText t ≡ true
   pub legal : namesLegal t ≡ true
 
-pub tested : (t : List ℕ) → sound t ≡ true → Tested t
-unfolding sound joined
+pub tested : (t : List ℕ) → shaped t ≡ true → Tested t
+unfolding shaped joined
 tested t e =
     let a = asAbove t in
     let s =
@@ -55,8 +55,8 @@ tested t e =
       legal = joined-part a s 10 e;
     }
 
-pub untested : (t : List ℕ) → Tested t → sound t ≡ true
-unfolding sound
+pub untested : (t : List ℕ) → Tested t → shaped t ≡ true
+unfolding shaped
 untested t c =
     rw (c .above, c .holders, c .headings, c .users, c .padded, c .twice, c .named, c .crowded, c .plain, c .whole, c .other, c .legal)
 

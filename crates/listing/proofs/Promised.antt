@@ -14,7 +14,7 @@ use Rattle.paper.specs.Record.{entryCode}
 use Rattle.paper.specs.Table.{rooms, rec}
 use Rattle.paper.specs.Entry.{Holder, baseList, inDirectory, stands}
 use Rattle.paper.specs.Listing.{line, lineOf, listed, lines}
-use Rattle.paper.specs.Sound.{sound, entryAsAbove}
+use Rattle.paper.specs.Sound.{shaped, sound, entryAsAbove}
 use Rattle.laws.proofs.Tests.{and-left}
 use Rattle.laws.proofs.Lists.{Every}
 use Rattle.laws.proofs.Sound.{Tested, tested, above-view, every-true}
@@ -55,9 +55,10 @@ sound-code w t c i l p =
 -- on a sound table the lines written are those of document 01
 pub sound-listed : (w : Listed) (t : List ℕ) → sound t ≡ true
     → linesShown t (listed t (isListed w)) ≡ lines t (listed t (isListed w))
+unfolding sound
 sound-listed w t e =
     lines-code t (listed t (isListed w))
-    (every-listed (λ e. entryCode (rec t e) ≤ 7) t (isListed w) (sound-code w t (tested t e)))
+    (every-listed (λ e. entryCode (rec t e) ≤ 7) t (isListed w) (sound-code w t (tested t (and-left (shaped t) _ e))))
 
 -- bytes that fit, written to the front: "The rest of the buffer is unchanged."
 pub sets-front : (s reply : List ℕ) → length s ≤ length reply → sets reply 0 s ≡ s ++ drop (length s) reply

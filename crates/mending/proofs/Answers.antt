@@ -6,27 +6,27 @@ use mathlib.Core.Logic.{_⊎_, inl, inr, _≢_}
 use mathlib.Core.Path.{_≡_, ap, _∙_}
 use Prim.Native.Nat.{ℕ, _≤_, _<_}
 use native.Mathlib.Omega.{arith}
-use native.Mathlib.Nat.{sub-zero}
 use lib.ListN.{length, take}
 use lib.Seq.{take-all}
 use borrow.Author.Tests.{le-leb, lt-leb}
 use Rattle.paper.specs.Answer.{plain, mending, mendable}
 use Rattle.paper.specs.Check as place
 use Rattle.paper.specs.Check.{verdict}
-use Rattle.paper.specs.Mend.{mendStores, mended}
+use Rattle.paper.specs.Mend.{cleared, mendStores, mended}
 use Rattle.paper.specs.Sound.{sound}
 use Rattle.paper.specs.Store.{run}
 use Rattle.paper.specs.Table.{sized, rooms}
-use Rattle.judge.specs.Judged.{judged}
+use Rattle.judge.specs.Judged.{judgedShape}
 use Rattle.judge_laws.specs.Mask.{without}
 use Rattle.laws.proofs.Runs.{length-run}
 use Rattle.laws.proofs.Tests.{truth, false-by}
 use Rattle.laws.proofs.Sound.{sized-whole}
 use Rattle.demands.proofs.MendAnswered.{MendCame, unsized, unsound, whole, cutOff, mend-came}
 use Rattle.mending.specs.declared.Mended.{Mended}
-use Rattle.mending.specs.Counted.{Counted}
-use Rattle.mending.specs.Gone.{GoneBelow, goneStores}
+use Rattle.mending.specs.Counted.{Allowed}
+use Rattle.mending.specs.Gone.{GoneBelow, allStores}
 use Rattle.mending.specs.Shown.{mendShown}
+use Rattle.mending.proofs.Corrected.{sound-mended}
 use Rattle.mending.proofs.Marks.{stores-by-marks, without-gone}
 
 -- what `mend` promises of its answer and of the table after it
@@ -37,15 +37,15 @@ pub mends-unsized : (t : List ℕ) (k : ℕ) → sized t ≡ false → Mends t k
 unfolding mending mendable verdict
 mends-unsized t k e = (rw e, rw e)
 
-module _ (t gone : List ℕ) (k n : ℕ) (s : sized t ≡ true) (g : GoneBelow t gone (rooms t)) (e : n ≡ judged (without gone t)) where
+module _ (t gone : List ℕ) (k n : ℕ) (s : sized t ≡ true) (g : GoneBelow t gone (rooms t)) (e : n ≡ judgedShape (without gone t)) where
   number-mended : n ≡ cond (sound (mended t)) 0 2
-  unfolding judged
+  unfolding judgedShape
   number-mended =
-      let z : sized (mended t) ≡ true = unfold mended in rw length-run s in
-      e ∙ rw (without-gone t gone (sized-whole t s .0) g, z)
+      let z : sized (cleared t) ≡ true = unfold cleared in rw length-run s in
+      e ∙ rw (without-gone t gone (sized-whole t s .0) g, z, sound-mended t s)
 
-  sound-mended : n ≡ 0 → sound (mended t) ≡ true
-  sound-mended q = go (truth (sound (mended t)))
+  sound-after : n ≡ 0 → sound (mended t) ≡ true
+  sound-after q = go (truth (sound (mended t)))
     where
       go : (sound (mended t) ≡ true) ⊎ (sound (mended t) ≡ false) → sound (mended t) ≡ true
       go (inl y) = y
@@ -57,28 +57,27 @@ module _ (t gone : List ℕ) (k n : ℕ) (s : sized t ≡ true) (g : GoneBelow t
       let y : sound (mended t) ≡ false = false-by (sound (mended t)) (λ y. q (number-mended ∙ rw y)) in
       (rw (s, y), rw (s, y))
 
-  module _ (q : n ≡ 0) (u : List ℕ) (m : ℕ) (c : Counted t u k 0 m (goneStores gone t)) where
-    stores-mended : goneStores gone t ≡ mendStores t
-    stores-mended = stores-by-marks t gone (sized-whole t s .0) g
-
-    count-mended : m ≡ length (mendStores t)
-    count-mended = let y = ap length stores-mended in omega (arith, c .count)
+  module _ (q : n ≡ 0) (u : List ℕ) (m : ℕ) (c : Allowed t u k m (allStores gone t)) where
+    stores-mended : allStores gone t ≡ mendStores t
+    unfolding allStores mendStores cleared
+    stores-mended = rw (stores-by-marks t gone (sized-whole t s .0) g)
 
     table-mended : u ≡ run t (take k (mendStores t))
-    table-mended = c .table ∙ rw (sub-zero, stores-mended)
+    table-mended = c .table ∙ rw stores-mended
 
     pub mends-stopped : k < m → Mends t k (record { number = 22; stores = k }) u
     unfolding mending mendable verdict
     mends-stopped l =
-        let y = lt-leb (length (mendStores t)) k (omega (arith, count-mended)) in
-        (rw (s, sound-mended q, y), table-mended ∙ rw (s, sound-mended q, y))
+        let y = lt-leb (length (mendStores t)) k (rw (← stores-mended) (c .more l)) in
+        (rw (s, sound-after q, y), table-mended ∙ rw (s, sound-after q, y))
 
     pub mends-whole : m ≤ k → Mends t k (record { number = 0; stores = m }) u
     unfolding mending mendable verdict
     mends-whole l =
-        let b : length (mendStores t) ≤ k = omega (arith, count-mended) in
+        let f : m ≡ length (mendStores t) = c .all l ∙ ap length stores-mended in
+        let b : length (mendStores t) ≤ k = omega arith in
         let y = le-leb (length (mendStores t)) k b in
-        (rw (s, sound-mended q, y, count-mended), table-mended ∙ rw (s, sound-mended q, y, take-all k (mendStores t) b))
+        (rw (s, sound-after q, y, f), table-mended ∙ rw (s, sound-after q, y, take-all k (mendStores t) b))
 
 -- "Its answer has place, names and bytes 0, displaced no, and the stores made", and there is no reply
 pub mend-answer : (t : List ℕ) (k : ℕ) → mending t k .answer ≡ plain (mending t k .answer .number) (place.whole 0) 0 (mending t k .answer .stores)

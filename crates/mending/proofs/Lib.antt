@@ -1,3 +1,4 @@
 pub mod Stores
 pub mod Marks
+pub mod Corrected
 pub mod Answers

@@ -1,7 +1,7 @@
 -- "Exactly the first k stores are made. If more were needed, the answer is 22": a stage of stores, with the count of what is needed.
 use mathlib.Core.List.{List}
 use mathlib.Core.Path.{_≡_}
-use Prim.Native.Nat.{ℕ, _+_, _-_}
+use Prim.Native.Nat.{ℕ, _+_, _-_, _≤_, _<_}
 use lib.ListN.{length, take}
 use Rattle.paper.specs.Store.{Store, run}
 
@@ -9,3 +9,9 @@ use Rattle.paper.specs.Store.{Store, run}
 pub record Counted (t u : List ℕ) (k m n : ℕ) (stage : List Store) : Type 0 where
   pub table : u ≡ run t (take (k - m) stage)
   pub count : n ≡ m + length stage
+
+-- table t has become u by the first k of the stores; n is how many they are, or more than k where k does not allow them all
+pub record Allowed (t u : List ℕ) (k n : ℕ) (stores : List Store) : Type 0 where
+  pub table : u ≡ run t (take k stores)
+  pub all : n ≤ k → n ≡ length stores
+  pub more : k < n → k < length stores

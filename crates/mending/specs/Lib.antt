@@ -1,3 +1,4 @@
 pub mod Gone
 pub mod Counted
 pub mod Shown
+pub mod Corrected

@@ -79,12 +79,20 @@ one = replicate 32 0
 abbrev pub pair : List ℕ
 pair = replicate 64 0
 
--- "record 0 is 1,0,0,0,1 and zeros; record 1 is 2,0,255,255,0,0,1,0,0,2,46,82 and zeros"
-abbrev pub headingR : List ℕ
-headingR = 1 ∷ 0 ∷ 0 ∷ 0 ∷ 1 ∷ replicate 27 0
+-- "record 0 is 1,0,0,0,1", and document 02: "A heading now stores how many entries name it (bytes 12-13) and, for a directory, how many
+-- it holds (bytes 14-15)"; "after `CRD .R` record 0 has 1 in byte 12"
+abbrev pub box : (named holds : ℕ) → List ℕ
+box named holds = 1 ∷ 0 ∷ 0 ∷ 0 ∷ 1 ∷ replicate 7 0 ++ named ∷ 0 ∷ holds ∷ 0 ∷ replicate 16 0
 
+abbrev pub headingR : List ℕ
+headingR = box 1 0
+
+-- "record 1 is 2,0,255,255,0,0,1,0,0,2,46,82 and zeros"; and a base file of user 1, of one letter, that names this heading
 abbrev pub entryR : List ℕ
 entryR = 2 ∷ 0 ∷ 255 ∷ 255 ∷ 0 ∷ 0 ∷ 1 ∷ 0 ∷ 0 ∷ 2 ∷ 46 ∷ 82 ∷ replicate 20 0
+
+abbrev pub ours : (letter heading : ℕ) → List ℕ
+ours letter heading = 2 ∷ 0 ∷ 255 ∷ 255 ∷ heading ∷ 0 ∷ 1 ∷ 0 ∷ 0 ∷ 2 ∷ 46 ∷ letter ∷ replicate 20 0
 
 -- `DUP ` old, a blank and new; `.000777`; `:A`
 abbrev pub dup : List ℕ → List ℕ → List ℕ
@@ -100,9 +108,12 @@ link = 58 ∷ 65 ∷ []
 abbrev pub nights : (letter heading : ℕ) → List ℕ
 nights letter heading = 2 ∷ 0 ∷ 255 ∷ 255 ∷ heading ∷ 0 ∷ 9 ∷ 3 ∷ 0 ∷ 2 ∷ 46 ∷ letter ∷ replicate 20 0
 
--- the directory `.R` of user 1, and `.G` of user 777; the entry A there, of the file that `.R` names
+-- the directory `.R` of user 1, and `.G` of user 777; the entry A there, of the file that `.R` names, and the table with it
 abbrev pub shelf : List ℕ
 shelf = headingR ++ entryR ++ headingR ++ nights 71 2
+
+abbrev pub given : (base entry : List ℕ) → List ℕ
+given base entry = box 2 0 ++ base ++ box 1 1 ++ nights 71 2 ++ entry
 
 abbrev pub entryA : List ℕ
 entryA = 2 ∷ 0 ∷ 2 ∷ 0 ∷ 0 ∷ 0 ∷ 0 ∷ 0 ∷ 0 ∷ 1 ∷ 65 ∷ replicate 21 0
@@ -115,9 +126,12 @@ coded code entry = 2 ∷ code ∷ drop 2 entry
 abbrev pub lent : List ℕ
 lent = headingR ++ coded 4 entryR ++ headingR ++ nights 71 2
 
--- a simple file without text, of this level; `.R` of user 1, such a file, and the directory `.T` of user 777
+-- a simple file without text, of this level, that so many entries name, or one; `.R` of user 1, such a file, and the directory `.T` of user 777
+abbrev pub sheetOf : (level named : ℕ) → List ℕ
+sheetOf level named = 1 ∷ 1 ∷ level ∷ 0 ∷ 1 ∷ replicate 7 0 ++ named ∷ replicate 19 0
+
 abbrev pub sheet : (level : ℕ) → List ℕ
-sheet level = 1 ∷ 1 ∷ level ∷ 0 ∷ 1 ∷ replicate 27 0
+sheet level = sheetOf level 1
 
 abbrev pub desk : List ℕ
 desk = sheet 0 ++ entryR ++ headingR ++ nights 84 2
@@ -127,11 +141,11 @@ abbrev pub cpyRG : (letter : ℕ) → List ℕ
 cpyRG letter = 67 ∷ 80 ∷ 89 ∷ 32 ∷ dotR ++ 32 ∷ 46 ∷ 71 ∷ 32 ∷ 46 ∷ letter ∷ []
 
 abbrev pub entryG : List ℕ
-entryG = 2 ∷ 0 ∷ 255 ∷ 255 ∷ 2 ∷ 0 ∷ 1 ∷ 0 ∷ 0 ∷ 2 ∷ 46 ∷ 71 ∷ replicate 20 0
+entryG = ours 71 2
 
 -- `.R:A` in user 1's `.R`, a simple file without text
 abbrev pub inside : List ℕ
-inside = headingR ++ entryR ++ sheet 0 ++ 2 ∷ 0 ∷ 0 ∷ 0 ∷ 2 ∷ 0 ∷ 0 ∷ 0 ∷ 0 ∷ 1 ∷ 65 ∷ replicate 21 0
+inside = box 1 1 ++ entryR ++ sheet 0 ++ 2 ∷ 0 ∷ 0 ∷ 0 ∷ 2 ∷ 0 ∷ 0 ∷ 0 ∷ 0 ∷ 1 ∷ 65 ∷ replicate 21 0
 
 -- so many links `:A`
 unfoldable pub linksA : ℕ → List ℕ
@@ -141,7 +155,7 @@ linksA (suc n) = link ++ linksA n
 -- the simple file `.R` of user 1, its text `ABCDEFGHI`
 abbrev pub lettered : List ℕ
 lettered =
-    1 ∷ 1 ∷ 0 ∷ 0 ∷ 1 ∷ 0 ∷ 0 ∷ 0 ∷ 0 ∷ 0 ∷ 9 ∷ replicate 21 0
+    1 ∷ 1 ∷ 0 ∷ 0 ∷ 1 ∷ 0 ∷ 0 ∷ 0 ∷ 0 ∷ 0 ∷ 9 ∷ 0 ∷ 1 ∷ replicate 19 0
     ++ 3 ∷ 9 ∷ 0 ∷ 0 ∷ 0 ∷ 0 ∷ 0 ∷ 0 ∷ 65 ∷ 66 ∷ 67 ∷ 68 ∷ 69 ∷ 70 ∷ 71 ∷ 72 ∷ 73 ∷ replicate 15 0
     ++ entryR
 
@@ -159,8 +173,11 @@ abbrev pub within : (d letter h c : ℕ) → List ℕ
 within d letter h c = 2 ∷ c ∷ d ∷ 0 ∷ h ∷ 0 ∷ 0 ∷ 0 ∷ 0 ∷ 1 ∷ letter ∷ replicate 21 0
 
 -- `.R` of user 1 holds the directory D, of this code, and the simple file E; D holds the simple file F, of code 1
+abbrev pub branchesOf : (first second third : List ℕ) (code : ℕ) → List ℕ
+branchesOf first second third code = first ++ entryR ++ second ++ within 0 68 2 code ++ third ++ within 0 69 4 0 ++ within 2 70 4 1
+
 abbrev pub branches : (code : ℕ) → List ℕ
-branches code = headingR ++ entryR ++ headingR ++ within 0 68 2 code ++ sheet 1 ++ within 0 69 4 0 ++ within 2 70 4 1
+branches = branchesOf (box 1 2) (box 1 1) (sheetOf 1 2)
 
 -- .. and their lines: `DM.U` and the code of D; `FM.P0    E`; two blanks and `FM.P1    F`
 abbrev pub lineD : (code : ℕ) → List ℕ
@@ -174,7 +191,7 @@ lineF = 70 ∷ 77 ∷ 46 ∷ 80 ∷ 49 ∷ 32 ∷ 32 ∷ 32 ∷ 32 ∷ 70 ∷ 13
 
 -- a directory `.R` of user 1 that holds itself as D
 abbrev pub loop : List ℕ
-loop = headingR ++ entryR ++ within 0 68 0 0
+loop = box 2 1 ++ entryR ++ within 0 68 0 0
 
 -- `WRS* `, a declaration and ` .R`; `CPY .R .G`; `DPR .R .1`
 abbrev pub wrsStar : List ℕ → List ℕ
@@ -188,7 +205,7 @@ dprR = 68 ∷ 80 ∷ 82 ∷ 32 ∷ dotR ++ 32 ∷ 46 ∷ 49 ∷ []
 
 -- a simple file's heading of this code, lifetime, mark and length; its text at this position: a letter, n times
 abbrev pub limits : (code lifetime mark n : ℕ) → List ℕ
-limits code lifetime mark n = 1 ∷ 1 ∷ 0 ∷ code ∷ lifetime ∷ mark ∷ 0 ∷ 0 ∷ 0 ∷ 0 ∷ n ∷ replicate 21 0
+limits code lifetime mark n = 1 ∷ 1 ∷ 0 ∷ code ∷ lifetime ∷ mark ∷ 0 ∷ 0 ∷ 0 ∷ 0 ∷ n ∷ 0 ∷ 1 ∷ replicate 19 0
 
 abbrev pub written : (position letter n : ℕ) → List ℕ
 written position letter n = 3 ∷ n ∷ 0 ∷ 0 ∷ position ∷ 0 ∷ 0 ∷ 0 ∷ replicate n letter ++ replicate (24 - n) 0
@@ -207,6 +224,25 @@ half one other = limits 0 1 1 0 ++ entryR ++ one ++ other
 abbrev pub rewrites : (table : List ℕ) (stop number names stores : ℕ) → List ℕ → Case
 rewrites table stop number names stores after =
     asks table (wrsStar (77 ∷ [])) (replicate 25 66) [] 1 stop (answer number 0 0 names 0 0 stores) after []
+
+-- `CHN .R .G`; `DEL .R:A`
+abbrev pub chnRG : List ℕ
+chnRG = 67 ∷ 72 ∷ 78 ∷ 32 ∷ dotR ++ 32 ∷ 46 ∷ 71 ∷ []
+
+abbrev pub delRA : List ℕ
+delRA = delR ++ link
+
+-- `.R` of user 1 names record 2, and record 0 is the file that it named
+abbrev pub displaced : (old new : List ℕ) → List ℕ
+displaced old new = old ++ ours 82 2 ++ new
+
+-- two simple files of user 1, `.R` and `.W`, that so many entries name; `.G` names heading g
+abbrev pub twoFiles : (one other g : ℕ) → List ℕ
+twoFiles one other g = sheetOf 0 one ++ entryR ++ sheetOf 1 other ++ ours 71 g ++ ours 87 2
+
+-- a table that is refused
+abbrev pub unsound : List ℕ → Case
+unsound table = asks table delR [] [] 1 9 (answer 2 0 0 0 0 0 0) table []
 
 unfoldable pub cases : List Case
 cases =
@@ -231,24 +267,29 @@ cases =
     ∷ declares (46 ∷ []) true
     ∷ declares (77 ∷ 70 ∷ []) false
     ∷ declares (49 ∷ []) false
-    -- "user 1, 64 zero bytes, `CRD .R`"
-    ∷ asks pair crdR [] [] 1 9 (answer 0 0 0 1 0 0 2) (headingR ++ entryR) []
-    -- "With k = 1 only record 0, answer 22, and mending gives zeros again. With 32 bytes: 19."
-    ∷ asks pair crdR [] [] 1 1 (answer 22 0 0 0 0 0 1) (headingR ++ blank) []
-    ∷ mends (headingR ++ blank) 9 (answer 0 0 0 0 0 0 1) pair
+    -- "user 1, 64 zero bytes, `CRD .R`": heading, entry, and "after `CRD .R` record 0 has 1 in byte 12"
+    ∷ asks pair crdR [] [] 1 9 (answer 0 0 0 1 0 0 3) (headingR ++ entryR) []
+    -- "With k = 1 only record 0, answer 22, and mending gives zeros again. With 32 bytes: 19." "A new heading starts with both at 0."
+    ∷ asks pair crdR [] [] 1 1 (answer 22 0 0 0 0 0 1) (box 0 0 ++ blank) []
+    ∷ mends (box 0 0 ++ blank) 9 (answer 0 0 0 0 0 0 1) pair
     ∷ asks one crdR [] [] 1 9 (answer 19 0 0 0 0 0 0) one []
-    -- "then `CRD .R:A` gets 19; `DEL .R` gives zeros, 2 stores"
+    -- with k = 2 the entry stands and the count is untrue: "At its end mending corrects untrue counts, one store a heading"
+    ∷ asks pair crdR [] [] 1 2 (answer 22 0 0 0 0 0 2) (box 0 0 ++ entryR) []
+    ∷ mends (box 0 0 ++ entryR) 9 (answer 0 0 0 0 0 0 1) (headingR ++ entryR)
+    -- "then `CRD .R:A` gets 19; `DEL .R` gives zeros", and "takes 3 stores": the file about to be cleared gets its count too
     ∷ asks (headingR ++ entryR) crdRA [] [] 1 9 (answer 19 0 0 0 0 0 0) (headingR ++ entryR) []
-    ∷ asks (headingR ++ entryR) delR [] [] 1 9 (answer 0 0 0 1 0 0 2) pair []
+    ∷ asks (headingR ++ entryR) delR [] [] 1 9 (answer 0 0 0 1 0 0 3) pair []
+    ∷ asks (headingR ++ entryR) delR [] [] 1 1 (answer 22 0 0 0 0 0 1) (headingR ++ blank) []
+    ∷ asks (headingR ++ entryR) delR [] [] 1 2 (answer 22 0 0 0 0 0 2) (box 0 0 ++ blank) []
     -- document 02: "A new name `.nnnnnn:link` in DUP (six digits) enters the file in that user's `.G`"
-    ∷ asks (shelf ++ blank) (dup dotR (night ++ link)) [] [] 1 9 (answer 0 0 0 1 0 0 1) (shelf ++ entryA) []
+    ∷ asks (shelf ++ blank) (dup dotR (night ++ link)) [] [] 1 9 (answer 0 0 0 1 0 0 3) (given entryR entryA) []
     -- "in RDS and LST, `.nnnnnn` starts at that user's `.T`": a directory, here empty
     ∷ asks (headingR ++ nights 84 0) (76 ∷ 83 ∷ 84 ∷ 32 ∷ night) [] [] 1 9 (answer 0 0 0 1 0 0 0) (headingR ++ nights 84 0) []
     ∷ asks (headingR ++ nights 84 0) (rds night) [] [] 1 9 (answer 15 1 1 0 0 0 0) (headingR ++ nights 84 0) []
     -- "Codes join as always, so nobody receives more than the giver's entry has": 4, and 1 declared
-    ∷ asks (lent ++ blank) (dup dotR (night ++ link ++ 32 ∷ 46 ∷ 49 ∷ [])) [] [] 1 9 (answer 0 0 0 1 0 0 1) (lent ++ coded 5 entryA) []
+    ∷ asks (lent ++ blank) (dup dotR (night ++ link ++ 32 ∷ 46 ∷ 49 ∷ [])) [] [] 1 9 (answer 0 0 0 1 0 0 3) (given (coded 4 entryR) (coded 5 entryA)) []
     -- "16 where the link is taken"
-    ∷ asks (shelf ++ entryA) (dup dotR (night ++ link)) [] [] 1 9 (answer 16 2 2 0 0 0 0) (shelf ++ entryA) []
+    ∷ asks (given entryR entryA) (dup dotR (night ++ link)) [] [] 1 9 (answer 16 2 2 0 0 0 0) (given entryR entryA) []
     -- "11 where `.G` or `.T` is missing": `.G` does not stand in for `.T`
     ∷ asks (headingR ++ entryR) (dup dotR (night ++ link)) [] [] 1 9 (answer 11 2 1 0 0 0 0) (headingR ++ entryR) []
     ∷ asks (shelf ++ blank) (rds night) [] [] 1 9 (answer 11 1 1 0 0 0 0) (shelf ++ blank) []
@@ -261,8 +302,8 @@ cases =
     ∷ asks [] (67 ∷ 82 ∷ 68 ∷ 32 ∷ night ++ link) [] [] 1 9 (answer 8 1 1 0 0 0 0) [] []
     ∷ asks (desk ++ pair) (67 ∷ 80 ∷ 89 ∷ 32 ∷ dotR ++ 32 ∷ night ++ link) [] [] 1 9 (answer 8 2 1 0 0 0 0) (desk ++ pair) []
     -- "With U lowest, then P, A, S, a copy's level must be at least its source's": A from P, A from A; P from A gets 25, and 19 before it
-    ∷ asks (sheet 1 ++ entryR ++ pair) (cpyRG 65) [] [] 1 9 (answer 0 0 0 1 0 0 2) (sheet 1 ++ entryR ++ sheet 2 ++ entryG) []
-    ∷ asks (sheet 2 ++ entryR ++ pair) (cpyRG 65) [] [] 1 9 (answer 0 0 0 1 0 0 2) (sheet 2 ++ entryR ++ sheet 2 ++ entryG) []
+    ∷ asks (sheet 1 ++ entryR ++ pair) (cpyRG 65) [] [] 1 9 (answer 0 0 0 1 0 0 3) (sheet 1 ++ entryR ++ sheet 2 ++ entryG) []
+    ∷ asks (sheet 2 ++ entryR ++ pair) (cpyRG 65) [] [] 1 9 (answer 0 0 0 1 0 0 3) (sheet 2 ++ entryR ++ sheet 2 ++ entryG) []
     ∷ asks (sheet 2 ++ entryR ++ pair) (cpyRG 80) [] [] 1 9 (answer 25 3 0 0 0 0 0) (sheet 2 ++ entryR ++ pair) []
     ∷ asks (sheet 2 ++ entryR) (cpyRG 80) [] [] 1 9 (answer 19 0 0 0 0 0 0) (sheet 2 ++ entryR) []
     -- "the link counted from 1 with the supplied `.W` as link 1. For 7 and 8 it is the first wrong name": `@`, `A:@`, past the sixteenth
@@ -313,8 +354,8 @@ cases =
     ∷ asks loop (lstStar dotR 51) [] (replicate 42 7) 1 9 (answer 0 0 0 1 0 42 0) loop
     (lineD 48 ++ 32 ∷ 32 ∷ lineD 48 ++ 32 ∷ 32 ∷ 32 ∷ 32 ∷ lineD 48)
     -- "a lone point and request g's `.nnnnnn` included"
-    ∷ asks (headingR ++ nights 84 0 ++ within 0 68 0 0) (lstStar night 49) [] (replicate 12 7) 1 9 (answer 0 0 0 1 0 12 0)
-    (headingR ++ nights 84 0 ++ within 0 68 0 0) (lineD 48)
+    ∷ asks (box 2 1 ++ nights 84 0 ++ within 0 68 0 0) (lstStar night 49) [] (replicate 12 7) 1 9 (answer 0 0 0 1 0 12 0)
+    (box 2 1 ++ nights 84 0 ++ within 0 68 0 0) (lineD 48)
     ∷ asks loop (lstStar (46 ∷ []) 50) [] (replicate 27 7) 1 9 (answer 0 0 0 1 0 27 0) loop
     (68 ∷ 77 ∷ 46 ∷ 85 ∷ 48 ∷ 32 ∷ 32 ∷ 32 ∷ 32 ∷ 46 ∷ 82 ∷ 13 ∷ 10 ∷ 32 ∷ 32 ∷ lineD 48)
     -- "9 for another digit"; 8 before it
@@ -356,8 +397,47 @@ cases =
     ∷ asks [] (wrsStar (77 ∷ [])) (replicate 24000 66) [] 1 9 (answer 11 2 1 0 0 0 0) [] []
     ∷ asks [] (wrsStar (77 ∷ [])) (replicate 24001 66) [] 1 9 (answer 10 0 0 0 0 0 0) [] []
     -- "A marked file, simple, M, length 0, is sound": not a long one, not a directory
-    ∷ asks (limits 0 2 1 0 ++ entryR) delR [] [] 1 9 (answer 2 0 0 0 0 0 0) (limits 0 2 1 0 ++ entryR) []
-    ∷ asks (1 ∷ 0 ∷ drop 2 (limits 0 1 1 0) ++ entryR) delR [] [] 1 9 (answer 2 0 0 0 0 0 0) (1 ∷ 0 ∷ drop 2 (limits 0 1 1 0) ++ entryR) []
-    ∷ asks (limits 0 1 2 0 ++ entryR) delR [] [] 1 9 (answer 2 0 0 0 0 0 0) (limits 0 1 2 0 ++ entryR) []
-    ∷ asks (limits 0 1 1 0 ++ entryR) delR [] [] 1 9 (answer 0 0 0 1 0 0 2) pair []
+    ∷ unsound (limits 0 2 1 0 ++ entryR)
+    ∷ unsound (1 ∷ 0 ∷ drop 2 (limits 0 1 1 0) ++ entryR)
+    ∷ unsound (limits 0 1 2 0 ++ entryR)
+    ∷ asks (limits 0 1 1 0 ++ entryR) delR [] [] 1 9 (answer 0 0 0 1 0 0 3) pair []
+    -- "(the file named, the file displaced, the holder), one store each, by record number, after that entry store": the holder's count, and
+    -- then that of the new file
+    ∷ asks (headingR ++ entryR ++ pair) crdRA [] [] 1 9 (answer 0 0 0 1 0 0 4) (box 1 1 ++ entryR ++ headingR ++ within 0 65 2 0) []
+    ∷ asks (headingR ++ entryR ++ pair) crdRA [] [] 1 3 (answer 22 0 0 0 0 0 3) (box 1 1 ++ entryR ++ box 0 0 ++ within 0 65 2 0) []
+    -- ".. and before any clearing": the holder's, the file's, and then the file is cleared; the next name finds the holder empty
+    ∷ asks inside delRA [] [] 1 9 (answer 0 0 0 1 0 0 4) (headingR ++ entryR ++ pair) []
+    ∷ asks inside delRA [] [] 1 2 (answer 22 0 0 0 0 0 2) (headingR ++ entryR ++ sheet 0 ++ blank) []
+    ∷ asks inside delRA [] [] 1 3 (answer 22 0 0 0 0 0 3) (headingR ++ entryR ++ sheetOf 0 0 ++ blank) []
+    ∷ asks inside (delRA ++ 32 ∷ dotR) [] [] 1 9 (answer 0 0 0 2 0 0 7) (pair ++ pair) []
+    -- the file displaced, about to be cleared: heading, entry, two counts, and the clearing; a cut before the counts is mended
+    ∷ asks (sheet 0 ++ entryR ++ blank) crdR [] [] 1 9 (answer 0 0 0 1 1 0 5) (displaced blank headingR) []
+    ∷ asks (sheet 0 ++ entryR ++ blank) crdR [] [] 1 2 (answer 22 0 0 0 0 0 2) (displaced (sheet 0) (box 0 0)) []
+    ∷ asks (sheet 0 ++ entryR ++ blank) crdR [] [] 1 3 (answer 22 0 0 0 0 0 3) (displaced (sheetOf 0 0) (box 0 0)) []
+    ∷ asks (sheet 0 ++ entryR ++ blank) crdR [] [] 1 4 (answer 22 0 0 0 0 0 4) (displaced (sheetOf 0 0) headingR) []
+    ∷ mends (displaced (sheet 0) (box 0 0)) 9 (answer 0 0 0 0 0 0 2) (displaced blank headingR)
+    ∷ mends (displaced (sheet 0) (box 0 0)) 1 (answer 22 0 0 0 0 0 1) (displaced blank (box 0 0))
+    -- .. and displaced where another entry names it: `DUP .R .G`
+    ∷ asks (twoFiles 1 2 2) (dup dotR (46 ∷ 71 ∷ [])) [] [] 1 9 (answer 0 0 0 1 1 0 3) (twoFiles 2 1 0) []
+    -- "counts still true get no store": `DUP .R:A .R:A .1`, `CHN .R .G`
+    ∷ asks inside (dup (dotR ++ link) (dotR ++ link ++ 32 ∷ 46 ∷ 49 ∷ [])) [] [] 1 9 (answer 0 0 0 1 1 0 1)
+    (box 1 1 ++ entryR ++ sheet 0 ++ within 0 65 2 1) []
+    ∷ asks (headingR ++ entryR) chnRG [] [] 1 9 (answer 0 0 0 1 0 0 1) (headingR ++ ours 71 0) []
+    -- "one store each": a directory in itself, `DUP .R .R:D` and `DEL .R:D`
+    ∷ asks (headingR ++ entryR ++ blank) (dup dotR (dotR ++ 58 ∷ 68 ∷ [])) [] [] 1 9 (answer 0 0 0 1 0 0 2) loop []
+    ∷ asks loop (delR ++ 58 ∷ 68 ∷ []) [] [] 1 9 (answer 0 0 0 1 0 0 2) (headingR ++ entryR ++ blank) []
+    -- "Soundness says that both are true": bytes 12-13, the second of them too, and bytes 14-15; a table of document 01 has neither
+    ∷ unsound (box 2 0 ++ entryR)
+    ∷ unsound (take 13 headingR ++ 1 ∷ drop 14 headingR ++ entryR)
+    ∷ unsound (box 1 1 ++ entryR)
+    ∷ unsound (branchesOf (box 0 0) (box 0 0) (sheetOf 1 0) 4)
+    -- "mending corrects untrue counts, one store a heading, by record number"
+    ∷ mends (box 2 0 ++ entryR) 9 (answer 0 0 0 0 0 0 1) (headingR ++ entryR)
+    ∷ mends (box 1 1 ++ entryR) 9 (answer 0 0 0 0 0 0 1) (headingR ++ entryR)
+    ∷ mends (branchesOf (box 0 0) (box 0 0) (sheetOf 1 0) 4) 9 (answer 0 0 0 0 0 0 3) (branches 4)
+    ∷ mends (branchesOf (box 0 0) (box 0 0) (sheetOf 1 0) 4) 2 (answer 22 0 0 0 0 0 2) (branchesOf (box 1 2) (box 1 1) (sheetOf 1 0) 4)
+    ∷ mends (branches 4) 9 (answer 0 0 0 0 0 0 0) (branches 4)
+    -- "for a directory": a simple file's bytes 14-15 are zero, and mending leaves them
+    ∷ unsound (take 14 (sheet 0) ++ 1 ∷ drop 15 (sheet 0) ++ entryR)
+    ∷ mends (take 14 (sheet 0) ++ 1 ∷ drop 15 (sheet 0) ++ entryR) 9 (answer 2 0 0 0 0 0 0) (take 14 (sheet 0) ++ 1 ∷ drop 15 (sheet 0) ++ entryR)
     ∷ []

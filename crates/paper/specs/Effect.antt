@@ -17,6 +17,7 @@ use Rattle.paper.specs.Entry.{find, full, named, peopled}
 use Rattle.paper.specs.Block.{blocks, block, blocksOf, fileText}
 use Rattle.paper.specs.Walk.{State, start, file, Walked, reached, stopped, toDirectory, lastName, End, arrived, astray, ended}
 use Rattle.paper.specs.Store.{Store, puts, clear, run}
+use Rattle.paper.specs.Count.{recounts}
 use Rattle.paper.specs.Listing.{directoryLines, baseLines, directoryTree, baseTree}
 
 -- what a request does where its walks end: its end checks, its stores, whether an entry is displaced, and what it writes
@@ -76,6 +77,11 @@ bared t h = eachBelow (λ p. clear (textRoom t h p)) (blocksOf t h)
 unfoldable pub freed : List ℕ → ℕ → List Store
 freed t h = clear h ∷ bared t h
 
+-- document 02: "Each function corrects every heading whose counts its entry store made untrue .., after that entry store and before any
+-- clearing": the stores up to the entry's, and those of the counts
+abbrev pub withCounts : List ℕ → List Store → List Store
+withCounts t ss = ss ++ recounts (run t ss)
+
 -- entry e of t once r is laid in its place: its file "is now named by no entry"
 unfoldable pub lost : List ℕ → ℕ → List ℕ → Bool
 lost t e r = not (named (lay t e r) (headingNamed (rec t e)))
@@ -101,8 +107,8 @@ isFound nowhere = false
 
 -- ".. is overwritten in place (displaced)": the stores of a new entry
 abbrev pub placing : List ℕ → Making → Found → List Store
-placing t m (at e) = m .first ++ puts e (m .entry) ∷ settled t e (m .entry)
-placing t m nowhere = m .first ++ puts (room t (length (m .first))) (m .entry) ∷ []
+placing t m (at e) = withCounts t (m .first ++ puts e (m .entry) ∷ []) ++ settled t e (m .entry)
+placing t m nowhere = withCounts t (m .first ++ puts (room t (length (m .first))) (m .entry) ∷ [])
 
 -- the free records that it needs
 abbrev pub needed : Making → Found → ℕ
@@ -285,7 +291,7 @@ dprPlan t u name code = toEnd t u 1 name (λ _ f. dprAt t (endOf 1 name) code f)
 abbrev pub delAt : List ℕ → Place → State → State → Planned
 delAt t place d f =
     storing (writeInhibited place d ∷ stillPeopled place (losing t (f .entry) blank) ∷ [])
-    (clear (f .entry) ∷ settled t (f .entry) blank)
+    (withCounts t (clear (f .entry) ∷ []) ++ settled t (f .entry) blank)
 
 unfoldable pub delPlan : List ℕ → ℕ → ℕ → Word → Planned
 delPlan t u argument name = toEnd t u argument name (delAt t (endOf argument name))

@@ -11,9 +11,10 @@ pub mod Request
 pub mod Code
 pub mod Entry
 pub mod Block
+pub mod Store
+pub mod Count
 pub mod Sound
 pub mod Walk
-pub mod Store
 pub mod Listing
 pub mod Effect
 pub mod Mend

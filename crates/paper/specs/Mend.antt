@@ -1,12 +1,12 @@
 -- "Mending, with kind and type read from bytes 0 and 1 alone", and the mark from byte 5, as a list of stores.
 use mathlib.Core.Bool.{Bool, _&&_, not}
-use mathlib.Core.List.{List, _++_, map}
+use mathlib.Core.List.{List, _++_}
 use Prim.Native.Nat.{ℕ}
-use Rattle.paper.specs.Scan.{listBelow}
 use Rattle.paper.specs.Record.{isKind, simple, marked, headingOf}
 use Rattle.paper.specs.Table.{rooms, rec}
 use Rattle.paper.specs.Entry.{named}
-use Rattle.paper.specs.Store.{Store, clear, run}
+use Rattle.paper.specs.Store.{Store, clears, run}
+use Rattle.paper.specs.Count.{recounts}
 
 -- a heading "that no entry names"
 abbrev pub orphan : List ℕ → ℕ → Bool
@@ -20,10 +20,6 @@ keepsText r = simple r && not (marked r)
 abbrev pub stray : List ℕ → ℕ → Bool
 stray t i = isKind 3 (rec t i) && not (keepsText (rec t (headingOf (rec t i))))
 
--- the records below n that pass the test cleared, "each by record number"
-unfoldable pub clears : (ℕ → Bool) → ℕ → List Store
-clears p n = map clear (listBelow p n)
-
 -- a table with the records that pass the test cleared
 abbrev pub wiped : (ℕ → Bool) → List ℕ → List ℕ
 wiped p t = run t (clears p (rooms t))
@@ -36,8 +32,15 @@ mendFirst t = clears (orphan t) (rooms t)
 abbrev pub mendSecond : List ℕ → List Store
 mendSecond t = clears (stray t) (rooms t)
 
+unfoldable pub clearStores : List ℕ → List Store
+clearStores t = mendFirst t ++ mendSecond (run t (mendFirst t))
+
+unfoldable pub cleared : List ℕ → List ℕ
+cleared t = run t (clearStores t)
+
+-- document 02: "At its end mending corrects untrue counts, one store a heading, by record number."
 unfoldable pub mendStores : List ℕ → List Store
-mendStores t = mendFirst t ++ mendSecond (run t (mendFirst t))
+mendStores t = clearStores t ++ recounts (cleared t)
 
 unfoldable pub mended : List ℕ → List ℕ
 mended t = run t (mendStores t)

@@ -9,6 +9,7 @@ use Rattle.paper.specs.Table.{rooms, rec}
 use Rattle.paper.specs.Name.{linkName, legalBase}
 use Rattle.paper.specs.Entry.{holder, bears, crowd, limit, named}
 use Rattle.paper.specs.Block.{blocks, share}
+use Rattle.paper.specs.Count.{countsRight}
 
 -- if the first then the second
 abbrev pub implies : Bool → Bool → Bool
@@ -30,7 +31,7 @@ markRight r = eqb (mark r) 0 || (eqb (mark r) 1 && (eqb (headingType r) 1 && (eq
 abbrev pub headingAsAbove : ℕ → List ℕ → Bool
 headingAsAbove i r =
     leb (headingType r) 1 && leb (level r) 3 && leb (headingCode r) 7 && leb 1 (lifetime r) && leb (lifetime r) 2
-    && markRight r && zeros 6 4 r && zeros 12 20 r
+    && markRight r && zeros 6 4 r && implies (eqb (headingType r) 1) (zeros 14 2 r) && zeros 16 16 r
 
 abbrev pub entryAsAbove : ℕ → List ℕ → Bool
 entryAsAbove i r = leb (entryCode r) 7 && leb (nameLength r) 10 && zeros 20 12 r
@@ -134,7 +135,15 @@ nameLegal i r = linkName (nameOf r) && implies (isBase r) (legalBase (nameOf r))
 unfoldable pub namesLegal : List ℕ → Bool
 namesLegal t = every 2 nameLegal t
 
-unfoldable pub sound : List ℕ → Bool
-sound t =
+-- document 02: "Soundness says that both are true."
+unfoldable pub countsTrue : List ℕ → Bool
+countsTrue t = every 1 (countsRight t) t
+
+-- all of it but the counts
+unfoldable pub shaped : List ℕ → Bool
+shaped t =
     asAbove t && holdersThere t && headingsThere t && usersRight t && namesPadded t && noneTwice t && allNamed t
     && noneCrowded t && directoriesPlain t && textsWhole t && noOtherText t && namesLegal t
+
+unfoldable pub sound : List ℕ → Bool
+sound t = shaped t && countsTrue t

@@ -1,1 +1,4 @@
+pub mod Moving
+pub mod Holding
+pub mod Entering
 pub mod Meeting

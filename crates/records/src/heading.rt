@@ -14,6 +14,7 @@ ghost use lib.Dec.{eqb};
 ghost use Rattle.paper.specs.Record.{isKind, headingType, level, headingCode, lifetime, textLength, mark, marked, directory, simple, headingRecord, rewritten, padded};
 ghost use Rattle.paper.specs.Table.{rec};
 ghost use Rattle.paper.specs.Effect.{recoded};
+ghost use Rattle.records.specs.Counts.{namedCount, heldCount, counted};
 
 pub struct Heading {
     pub ty: u8,
@@ -52,14 +53,18 @@ impl Heading {
     pub const UNMARKED: u8 = 0;
 
     pub const MARKED: u8 = 1;
-    // The bytes between mark and length and those past the length, which are zero.
+    // "how many entries name it (bytes 12-13) and, for a directory, how many it holds (bytes 14-15)"
+    pub const NAMED: usize = 12;
+
+    pub const HELD: usize = 14;
+    // The bytes between mark and length and those past the counts, which are zero.
     pub const GAP: usize = 6;
 
     pub const GAP_SIZE: usize = 4;
 
-    pub const REST: usize = 12;
+    pub const REST: usize = 16;
 
-    pub const REST_SIZE: usize = 20;
+    pub const REST_SIZE: usize = 16;
     // "a simple file of length n (at most 24,000)"
     pub const MOST_LENGTH: usize = 24000;
 
@@ -108,6 +113,20 @@ pub fn text_length(table: &[u8], room: Room) -> Bytes
     ensures { λ r. ⌜ (r .0 ≡ textLength (rec (now (table .entry)) (room .0))) × (r .0 < 65536) ⌝ }
 {
     Bytes(two_of(table, room, Heading::LENGTH) as usize)
+}
+
+// How many entries name a heading.
+pub fn named_count(table: &[u8], room: Room) -> Room
+    ensures { λ r. ⌜ (r .0 ≡ namedCount (rec (now (table .entry)) (room .0))) × (r .0 < 65536) ⌝ }
+{
+    Room(two_of(table, room, Heading::NAMED) as usize)
+}
+
+// How many entries a directory holds.
+pub fn held_count(table: &[u8], room: Room) -> Room
+    ensures { λ r. ⌜ (r .0 ≡ heldCount (rec (now (table .entry)) (room .0))) × (r .0 < 65536) ⌝ }
+{
+    Room(two_of(table, room, Heading::HELD) as usize)
 }
 
 pub fn mark_of(table: &[u8], room: Room) -> u8
@@ -162,5 +181,19 @@ pub fn rewritten(table: &[u8], room: Room, mark: u8, length: Bytes) -> [u8; Room
     r[Heading::MARK] = mark;
     r[Heading::LENGTH] = (n % 256) as u8;
     r[Heading::LENGTH + 1] = (n / 256 % 256) as u8;
+    r
+}
+
+// A heading's record with other counts.
+pub fn recounted(table: &[u8], room: Room, named: Room, held: Room) -> [u8; Room::SIZE]
+    ensures { λ r. ⌜ r ≡ counted (padded 32 (rec (now (table .entry)) (room .0))) (named .0) (held .0) ⌝ }
+{
+    let n = named.0;
+    let h = held.0;
+    let mut r = whole(table, room);
+    r[Heading::NAMED] = (n % 256) as u8;
+    r[Heading::NAMED + 1] = (n / 256 % 256) as u8;
+    r[Heading::HELD] = (h % 256) as u8;
+    r[Heading::HELD + 1] = (h / 256 % 256) as u8;
     r
 }

@@ -10,7 +10,7 @@ ghost use Prim.Native.Nat.{_<_};
 ghost use lib.ListN.{length};
 ghost use Rattle.paper.specs.Record.{isKind};
 ghost use Rattle.paper.specs.Table.{rooms, rec, frees};
-ghost use Rattle.paper.specs.Entry.{stands, bears, find, crowd, full, peopled};
+ghost use Rattle.paper.specs.Entry.{stands, bears, find, crowd, full};
 ghost use Rattle.records.specs.Shown.{holderShown};
 ghost use Rattle.scans.specs.Shown.{foundShown};
 ghost use Rattle.scans.specs.Free.{nextFree};
@@ -63,13 +63,6 @@ pub fn crowd(table: &[u8], d: Holder) -> Room
         i += 1;
     }
     Room(count)
-}
-
-// Whether some entry stands in a directory.
-pub fn is_peopled(table: &[u8], heading: Room) -> bool
-    ensures { λ r. ⌜ r ≡ peopled (now (table .entry)) (heading .0) ⌝ }
-{
-    0 < crowd(table, Holder { heading, user: 0 }).0
 }
 
 // Whether d has as many entries as it may have.

@@ -1,6 +1,6 @@
 -- A number comes digit by digit, and what is there so far is no more than the whole, which six digits keep to at most 999,999;
 -- an octal digit is a digit.
-use mathlib.Core.Bool.{Bool, true, _&&_}
+use mathlib.Core.Bool.{Bool, true}
 use mathlib.Core.List.{List, [], _∷_}
 use mathlib.Core.Path.{_≡_, refl}
 use Prim.Native.Nat.{ℕ, zero, suc, _+_, _*_, _-_, _≤_, _<_}

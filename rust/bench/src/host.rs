@@ -262,10 +262,11 @@ mod tests {
     fn a_phase_has_a_flush_and_a_store_has_a_flush() {
         let folder = std::env::temp_dir();
         let long = Duration::from_millis(200);
-        // a turn of four requests: three flushes for the sheet that displaces, one for the DUP, one for the DEL; 23, 1 and 1 stores
+        // a turn of four requests: three flushes for the sheet that displaces, two for the DUP, two for the DEL, whose counts are of the last
+        // phase; 23, 3 and 3 records written
         for (clients, flushed, each) in [
-            (14, Flushed::EachPhase, 1.25),
-            (1, Flushed::EachStore, 6.25),
+            (14, Flushed::EachPhase, 1.75),
+            (1, Flushed::EachStore, 7.25),
         ] {
             let measured = measured(&folder, clients, flushed, long).unwrap();
             assert!(

@@ -59,7 +59,7 @@ impl Job {
         let lamp = light(table, sheets, texts, back, CHAIN.as_bytes(), USER, NO_STOP);
         assert_eq!(
             lamp.numbers(),
-            [0, 0, 0, 0, (SHEETS * (BYTES / 24 + 2)) as u32]
+            [0, 0, 0, 0, (SHEETS * (BYTES / 24 + 4)) as u32]
         );
     }
 

@@ -5,7 +5,9 @@ use turns::nanoseconds;
 
 use crate::names::{of_one_length, of_other_lengths, ONE_LENGTH, OTHER_LENGTHS};
 use crate::parts::part_of_long;
-use crate::tables::{cut, hundred, long_text, with_long_file, with_room_for_another, USER};
+use crate::tables::{
+    crowded, cut, hundred, long_text, with_long_file, with_room_for_another, USER,
+};
 use crate::trees::{full_of_loops, tree};
 
 /// One call of the library.
@@ -35,7 +37,7 @@ fn files(line: &str, bytes: usize) -> Call {
     Call::Request { line, text }
 }
 
-pub const OPERATIONS: [Operation; 15] = [
+pub const OPERATIONS: [Operation; 17] = [
     Operation {
         name: "rds",
         title: "RDS of 24 bytes",
@@ -112,6 +114,20 @@ pub const OPERATIONS: [Operation; 15] = [
         bar: Some(5.0),
         table: hundred,
         calls: |_| vec![asks("DUP .R:F12 .W:NEW")],
+    },
+    Operation {
+        name: "del",
+        title: "DEL of one name",
+        bar: Some(5.0),
+        table: hundred,
+        calls: |_| vec![asks("DEL .R:F12")],
+    },
+    Operation {
+        name: "crd-crowded",
+        title: "CRD into a directory of 111",
+        bar: Some(5.0),
+        table: crowded,
+        calls: |_| vec![asks("CRD .R:NEW")],
     },
     Operation {
         name: "mend",
@@ -246,7 +262,7 @@ mod tests {
                 let (ready, table) = after(name, records);
                 assert!(table.as_ref() == ready.before, "{name}");
             }
-            for name in ["wrs-over", "rewrite", "dup"] {
+            for name in ["wrs-over", "rewrite", "dup", "del", "crd-crowded"] {
                 let (mut ready, table) = after(name, records);
                 assert!(table.as_ref() != ready.before, "{name}");
                 ready.set_right();
@@ -254,6 +270,8 @@ mod tests {
                 assert!(table.as_ref() == ready.table, "{name}");
             }
             assert!(after("mend-cut", records).1.as_ref() == hundred(records));
+            let list = after("crd-crowded", records).1.list(USER, ".R").unwrap();
+            assert_eq!(list.iter().filter(|&&byte| byte == b'\n').count(), 112);
         }
     }
 }

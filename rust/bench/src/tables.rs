@@ -62,6 +62,13 @@ pub fn with_room_for_another(records: usize) -> Vec<u8> {
     filled(records, true, fitting(records, two))
 }
 
+/// A directory in which a file has 111 names: room for one more entry.
+pub fn crowded(records: usize) -> Vec<u8> {
+    let first = ["CRD .R", "WRS M .R:F00"].map(|line| (line.to_string(), vec![b'S'; 24]));
+    let links = (1..111).map(|n| (format!("DUP .R:F00 .R:F{n:02}"), Vec::new()));
+    grown(records, first.into_iter().chain(links)).into_bytes()
+}
+
 /// A hundred files, and a WRS that was cut in its text.
 pub fn cut(records: usize) -> Vec<u8> {
     let mut table = hundred(records);

@@ -102,8 +102,23 @@ impl Table {
         heading
     }
 
-    fn finish(self) -> Vec<u8> {
+    /// The full table, with true counts in its headings.
+    fn finish(mut self) -> Vec<u8> {
         assert_eq!(self.room * RECORD, self.bytes.len());
+        let mut counts = vec![[0u16; 2]; self.room];
+        for entry in self.bytes.chunks(RECORD).filter(|r| r[0] == 2) {
+            for (which, at) in [(0, 4), (1, 2)] {
+                let number = u16::from_le_bytes([entry[at], entry[at + 1]]);
+                if let Some(count) = counts.get_mut(usize::from(number)) {
+                    count[which] += 1;
+                }
+            }
+        }
+        let records = self.bytes.chunks_mut(RECORD).zip(counts);
+        for (heading, [named, holding]) in records.filter(|(r, _)| r[0] == 1) {
+            heading[12..14].copy_from_slice(&named.to_le_bytes());
+            heading[14..16].copy_from_slice(&holding.to_le_bytes());
+        }
         self.bytes
     }
 }

@@ -1,7 +1,7 @@
 //! The two calls, `request` and `mend`, and their answer.
 
 use crate::effects::{outcome, Asked, Outcome};
-use crate::mend::{clear, records_to_clear};
+use crate::mend::{make, stores};
 use crate::records::RECORD_BYTES;
 use crate::request::{read, refusal, Place, Refusal};
 use crate::sound::{is_sound, sound, HIGHEST_USER};
@@ -147,15 +147,15 @@ pub fn mend(table: &mut [u8], stop: u32) -> Answer {
     if !length_fits(table) {
         return Answer::refused(refusal(1, Place::NONE));
     }
-    let numbers = records_to_clear(table);
+    let stores = stores(table);
     let mut result = table.to_vec();
-    clear(&mut result, &numbers);
+    make(&mut result, &stores);
     if !sound(&result) {
         return Answer::refused(refusal(2, Place::NONE));
     }
-    let made = first(numbers.len(), stop);
-    clear(table, &numbers[..made]);
-    let number = if made < numbers.len() { 22 } else { 0 };
+    let made = first(stores.len(), stop);
+    make(table, &stores[..made]);
+    let number = if made < stores.len() { 22 } else { 0 };
     Answer {
         stores: made as u32,
         ..Answer::refused(refusal(number, Place::NONE))

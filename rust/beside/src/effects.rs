@@ -1,7 +1,7 @@
 //! "Effects, store by store": each function's walks, its end checks in number order, and its stores.
 
 use crate::declarations::Guard;
-use crate::entries::{check, cleared, settle, strands_entries, NewName};
+use crate::entries::{check, cleared, recount, settle, strands_entries, NewName};
 use crate::listing::{listing, tree};
 use crate::names::Chain;
 use crate::octal::Portion;
@@ -110,7 +110,7 @@ fn texts(heading: u16, content: &[u8]) -> impl Iterator<Item = Record> + '_ {
     })
 }
 
-/// The store of a heading with this mark and length: "same heading, same level and codes".
+/// The store of a heading with this mark and length: "same heading, same level and codes", and the same counts.
 fn headed(number: u16, heading: &Heading, marked: bool, length: u16) -> Store {
     let heading = Heading {
         marked,
@@ -144,7 +144,7 @@ impl Asked<'_> {
         })
     }
 
-    /// "CRD: heading, entry."
+    /// "CRD: heading, entry." "A new heading starts with both at 0."
     fn crd(&self, name: &Chain, guard: Guard) -> Result<Outcome, Refusal> {
         let new = self.new_name(1, name)?;
         check(new.directory.may_be_written(), 14, new.place)?;
@@ -155,6 +155,8 @@ impl Asked<'_> {
             lifetime: Lifetime::M,
             marked: false,
             length: 0,
+            named: 0,
+            holding: 0,
         };
         let numbers = new.numbers(self.table, 1, None)?;
         Ok(self.new_file(&new, numbers, heading, b""))
@@ -171,6 +173,8 @@ impl Asked<'_> {
             lifetime,
             marked: false,
             length: self.text.len() as u16,
+            named: 0,
+            holding: 0,
         };
         let numbers = new.numbers(self.table, 1 + blocks(self.text.len()), None)?;
         Ok(self.new_file(&new, numbers, heading, self.text))
@@ -197,6 +201,8 @@ impl Asked<'_> {
             lifetime: lifetime.unwrap_or(old.heading.lifetime),
             marked: false,
             length: old.heading.length,
+            named: 0,
+            holding: 0,
         };
         let content = self.table.content(old.entry.heading);
         let numbers = new.numbers(self.table, 1 + blocks(content.len()), None)?;
@@ -241,8 +247,7 @@ impl Asked<'_> {
         let entry = new.entry(heading.code, number);
         let mut records = vec![Record::Heading(heading)];
         records.extend(texts(number, content));
-        records.push(Record::Entry(entry));
-        self.named(new, numbers, records)
+        self.named(new, numbers, records, entry)
     }
 
     /// "DUP: entry, its code the old entry's joined with the declared one." "A give never displaces": 16 "where the
@@ -255,14 +260,25 @@ impl Asked<'_> {
         check(!gives || new.displaced.is_none(), 16, new.place)?;
         let numbers = new.numbers(self.table, 0, Some(old.heading))?;
         let entry = new.entry(old.code | digit.unwrap_or(0), old.heading);
-        Ok(self.named(&new, numbers, vec![Record::Entry(entry)]))
+        Ok(self.named(&new, numbers, Vec::new(), entry))
     }
 
-    /// These records stored under these numbers, the entry last; then what it displaced is settled.
-    fn named(&self, new: &NewName, numbers: Vec<usize>, records: Vec<Record>) -> Outcome {
+    /// These records stored under these numbers, the entry last; then the counts that are no longer true are corrected, and
+    /// what it displaced is settled.
+    fn named(
+        &self,
+        new: &NewName,
+        numbers: Vec<usize>,
+        mut records: Vec<Record>,
+        entry: Entry,
+    ) -> Outcome {
+        let displaced = new.displaced.map(|(_, heading)| heading);
+        let files: Vec<u16> = displaced.into_iter().chain([entry.heading]).collect();
+        records.push(Record::Entry(entry));
         let store = |(number, record)| Store { number, record };
         let mut stores: Vec<Store> = numbers.into_iter().zip(records).map(store).collect();
-        if let Some((_, heading)) = new.displaced {
+        recount(self.table, &mut stores, &files, new.directory.list);
+        if let Some(heading) = displaced {
             settle(self.table, &mut stores, heading);
         }
         Outcome {
@@ -330,6 +346,7 @@ impl Asked<'_> {
         let stranded = strands_entries(self.table, file.entry_number, heading);
         check(!stranded, 18, end)?;
         let mut stores = vec![cleared(file.entry_number)];
+        recount(self.table, &mut stores, &[heading], file.directory.list);
         settle(self.table, &mut stores, heading);
         Ok(stores)
     }

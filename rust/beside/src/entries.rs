@@ -1,6 +1,8 @@
 //! What befalls an entry: a new one, one overwritten in place, one cleared; and the file that it named.
 
-use crate::records::{Entry, Record, Type, BASE_FILE};
+use std::collections::BTreeSet;
+
+use crate::records::{Entry, Heading, Record, Type, BASE_FILE};
 use crate::request::{refusal, Place, Refusal};
 use crate::table::{List, Store, Table};
 use crate::walk::Directory;
@@ -53,6 +55,26 @@ pub fn strands_entries(table: &Table, entry_number: usize, heading: u16) -> bool
         .any(|(number, entry)| number != entry_number && entry.heading == heading);
     let has_entries = table.entries_in(List::Directory(heading)).next().is_some();
     !named_by_another && table.is_of_type(heading, Type::Directory) && has_entries
+}
+
+/// "Each function corrects every heading whose counts its entry store made untrue (the file named, the file displaced, the
+/// holder), one store each, by record number, after that entry store and before any clearing; counts still true get no
+/// store." Adds these stores to those up to the entry's; the list is the one that the entry stands in, and a base list has no
+/// count.
+pub fn recount(table: &Table, stores: &mut Vec<Store>, files: &[u16], list: List) {
+    let mut after = table.clone();
+    after.make(stores);
+    let mut headings = BTreeSet::from_iter(files.iter().copied());
+    if let List::Directory(holder) = list {
+        headings.insert(holder);
+    }
+    for number in headings {
+        let untrue = |heading: &Heading| after.heading(number) != Some(heading);
+        stores.extend(after.counted(number).filter(untrue).map(|heading| Store {
+            number: number.into(),
+            record: Record::Heading(heading),
+        }));
+    }
 }
 
 /// "After an entry is displaced or cleared, if its file is now named by no entry: its heading cleared, then its

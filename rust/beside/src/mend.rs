@@ -1,49 +1,68 @@
-//! Mending, "with kind and type read from bytes 0 and 1 alone", and the mark of document 02 from byte 5.
+//! Mending, "with kind and type read from bytes 0 and 1 alone", and of document 02 the mark from byte 5 and the counts from
+//! bytes 12-15.
 
-use std::collections::HashSet;
+use std::collections::HashMap;
 
 use crate::records::{two_bytes, RECORD_BYTES};
 
 const HEADING: u8 = 1;
 const ENTRY: u8 = 2;
 const TEXT: u8 = 3;
+const DIRECTORY: u8 = 0;
 const SIMPLE: u8 = 1;
 const MARKED: u8 = 1;
+/// Where an entry says which directory holds it, and which heading it names.
+const HOLDER_OF_ENTRY: usize = 2;
+const NAMED_BY_ENTRY: usize = 4;
 
-/// The numbers of the records that mending clears, in order: "clear every heading that no entry names; then
-/// every text record whose heading is not a simple-file heading; each by record number." "Mending a marked file
-/// clears its text", in the second step too. The second step sees the table after the first.
-pub fn records_to_clear(table: &[u8]) -> Vec<usize> {
+/// One store of mending: the number of a record and its bytes after.
+pub type Mended = (usize, [u8; RECORD_BYTES]);
+
+/// The stores that mending makes, in order: "clear every heading that no entry names; then every text record whose
+/// heading is not a simple-file heading; each by record number." "Mending a marked file clears its text", in the second step
+/// too. "At its end mending corrects untrue counts, one store a heading, by record number." Each step sees the table after the
+/// one before.
+pub fn stores(table: &[u8]) -> Vec<Mended> {
     let mut after = table.to_vec();
-    let headings = unnamed_headings(&after);
-    clear(&mut after, &headings);
-    let texts = stray_texts(&after);
-    [headings, texts].concat()
+    let mut stores = Vec::new();
+    for step in [unnamed_headings, stray_texts, untrue_counts] {
+        let made = step(&after);
+        make(&mut after, &made);
+        stores.extend(made);
+    }
+    stores
 }
 
-/// Make these records zero.
-pub fn clear(table: &mut [u8], numbers: &[usize]) {
-    for number in numbers {
+/// Make these stores.
+pub fn make(table: &mut [u8], stores: &[Mended]) {
+    for (number, record) in stores {
         let at = number * RECORD_BYTES;
-        table[at..at + RECORD_BYTES].fill(0);
+        table[at..at + RECORD_BYTES].copy_from_slice(record);
     }
 }
 
+/// For each number that the two bytes from this one on say in an entry, how many entries say it.
+fn said_by_entries(table: &[u8], at: usize) -> HashMap<usize, u16> {
+    let mut said = HashMap::new();
+    for record in table.chunks_exact(RECORD_BYTES) {
+        if record[0] == ENTRY {
+            let number = two_bytes(record[at], record[at + 1]);
+            *said.entry(number.into()).or_default() += 1;
+        }
+    }
+    said
+}
+
 /// "every heading that no entry names"
-fn unnamed_headings(table: &[u8]) -> Vec<usize> {
-    let entries = table
-        .chunks_exact(RECORD_BYTES)
-        .filter(|record| record[0] == ENTRY);
-    let named: HashSet<usize> = entries
-        .map(|record| two_bytes(record[4], record[5]).into())
-        .collect();
+fn unnamed_headings(table: &[u8]) -> Vec<Mended> {
+    let named = said_by_entries(table, NAMED_BY_ENTRY);
     let is_unnamed =
-        |(number, record): &(usize, &[u8])| record[0] == HEADING && !named.contains(number);
-    numbers(table, is_unnamed)
+        |(number, record): &(usize, &[u8])| record[0] == HEADING && !named.contains_key(number);
+    cleared(table, is_unnamed)
 }
 
 /// "every text record whose heading is not a simple-file heading", or is marked. A number past the end is no heading.
-fn stray_texts(table: &[u8]) -> Vec<usize> {
+fn stray_texts(table: &[u8]) -> Vec<Mended> {
     let keeps_text = |number: usize| {
         let record = table.chunks_exact(RECORD_BYTES).nth(number);
         record.is_some_and(|record| {
@@ -53,11 +72,37 @@ fn stray_texts(table: &[u8]) -> Vec<usize> {
     let is_stray = |(_, record): &(usize, &[u8])| {
         record[0] == TEXT && !keeps_text(two_bytes(record[2], record[3]).into())
     };
-    numbers(table, is_stray)
+    cleared(table, is_stray)
 }
 
-/// The numbers of the records that a test picks out.
-fn numbers(table: &[u8], test: impl Fn(&(usize, &[u8])) -> bool) -> Vec<usize> {
+/// "untrue counts, one store a heading": how many entries name it, and for a directory how many it holds. The bytes 14-15 of
+/// any other heading are left.
+fn untrue_counts(table: &[u8]) -> Vec<Mended> {
+    let named = said_by_entries(table, NAMED_BY_ENTRY);
+    let holding = said_by_entries(table, HOLDER_OF_ENTRY);
+    let count = |counts: &HashMap<usize, u16>, number| {
+        let count: u16 = counts.get(&number).copied().unwrap_or(0);
+        count.to_le_bytes()
+    };
+    let corrected = |(number, record): (usize, &[u8])| {
+        let mut after: [u8; RECORD_BYTES] = record.try_into().ok()?;
+        if after[0] == HEADING {
+            after[12..14].copy_from_slice(&count(&named, number));
+        }
+        if after[..2] == [HEADING, DIRECTORY] {
+            after[14..16].copy_from_slice(&count(&holding, number));
+        }
+        (after != record).then_some((number, after))
+    };
     let records = table.chunks_exact(RECORD_BYTES).enumerate();
-    records.filter(test).map(|(number, _)| number).collect()
+    records.filter_map(corrected).collect()
+}
+
+/// The records that a test picks out, cleared, by record number.
+fn cleared(table: &[u8], test: impl Fn(&(usize, &[u8])) -> bool) -> Vec<Mended> {
+    let records = table.chunks_exact(RECORD_BYTES).enumerate();
+    let picked = records.filter(test);
+    picked
+        .map(|(number, _)| (number, [0; RECORD_BYTES]))
+        .collect()
 }

@@ -52,6 +52,10 @@ pub struct Heading {
     /// "marked (byte 5 is 1)".
     pub marked: bool,
     pub length: u16,
+    /// "how many entries name it (bytes 12-13)".
+    pub named: u16,
+    /// "for a directory, how many it holds (bytes 14-15)"; 0 for a simple file, which has no such field.
+    pub holding: u16,
 }
 
 /// "2 entry".
@@ -118,12 +122,13 @@ fn code(byte: u8) -> Option<u8> {
 
 impl Heading {
     fn read(bytes: &[u8; RECORD_BYTES]) -> Option<Heading> {
+        let file_type = match bytes[1] {
+            0 => Type::Directory,
+            1 => Type::Simple,
+            _ => return None,
+        };
         Some(Heading {
-            file_type: match bytes[1] {
-                0 => Type::Directory,
-                1 => Type::Simple,
-                _ => return None,
-            },
+            file_type,
             level: match bytes[2] {
                 0 => Level::U,
                 1 => Level::P,
@@ -143,6 +148,11 @@ impl Heading {
                 _ => return None,
             },
             length: two_bytes(bytes[10], bytes[11]),
+            named: two_bytes(bytes[12], bytes[13]),
+            holding: match file_type {
+                Type::Directory => two_bytes(bytes[14], bytes[15]),
+                Type::Simple => 0,
+            },
         })
     }
 
@@ -166,6 +176,8 @@ impl Heading {
         };
         bytes[5] = self.marked.into();
         bytes[10..12].copy_from_slice(&self.length.to_le_bytes());
+        bytes[12..14].copy_from_slice(&self.named.to_le_bytes());
+        bytes[14..16].copy_from_slice(&self.holding.to_le_bytes());
         bytes
     }
 }

@@ -30,6 +30,7 @@ pub fn is_sound(table: &Table) -> bool {
         && marked_files_are_empty(table)
         && every_text_has_its_place(table)
         && every_simple_file_is_whole(table)
+        && counts_are_true(table)
 }
 
 /// "each entry's directory is a directory heading or 65,535".
@@ -142,5 +143,21 @@ fn every_simple_file_is_whole(table: &Table) -> bool {
         let has = |position| texts.contains(&(number, position));
         heading.file_type == Type::Directory
             || (length <= LONGEST_TEXT && (0..blocks(length)).all(has))
+    })
+}
+
+/// "A heading now stores how many entries name it .. and, for a directory, how many it holds .. Soundness says that both
+/// are true."
+fn counts_are_true(table: &Table) -> bool {
+    let (mut named, mut holding) = (HashMap::new(), HashMap::new());
+    for (_, entry) in table.entries() {
+        *named.entry(entry.heading).or_default() += 1;
+        if let List::Directory(directory) = list_of(entry) {
+            *holding.entry(directory).or_default() += 1;
+        }
+    }
+    let count = |counts: &HashMap<u16, u16>, number| counts.get(&number).copied().unwrap_or(0);
+    table.headings().all(|(number, heading)| {
+        heading.named == count(&named, number) && heading.holding == count(&holding, number)
     })
 }

@@ -134,6 +134,22 @@ impl Table {
         self.entries().any(|(_, entry)| entry.heading == heading)
     }
 
+    /// The heading of this number with true counts: "how many entries name it and, for a directory, how many it holds".
+    pub fn counted(&self, number: u16) -> Option<Heading> {
+        let heading = self.heading(number)?.clone();
+        let names = |(_, entry): &(usize, &Entry)| entry.heading == number;
+        let named = self.entries().filter(names).count() as u16;
+        let holding = match heading.file_type {
+            Type::Directory => self.entries_in(List::Directory(number)).count() as u16,
+            Type::Simple => 0,
+        };
+        Some(Heading {
+            named,
+            holding,
+            ..heading
+        })
+    }
+
     /// The text records of a file, by position.
     pub fn texts_of(&self, heading: u16) -> Vec<(usize, &Text)> {
         let mut texts: Vec<(usize, &Text)> = self

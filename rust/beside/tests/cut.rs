@@ -17,6 +17,8 @@ struct Met {
     cut_to_after: usize,
     mends_with_stores: usize,
     mends_cut: usize,
+    mends_of_counts: usize,
+    mends_of_counts_alone: usize,
     displaced: usize,
     displaced_and_cleared: usize,
     displaced_own_source: usize,
@@ -294,6 +296,17 @@ fn cut_once(
     (seen.table, done + usize::from(after))
 }
 
+/// How many headings of a table have other counts once it is mended, and nothing else is other in them.
+fn recounted(table: &[u8], mended: &[u8]) -> usize {
+    let pairs = table.chunks(32).zip(mended.chunks(32));
+    let other = pairs.filter(|(one, other)| one != other && other[0] == 1);
+    let counts = other.inspect(|(one, other)| {
+        assert_eq!(one[..12], other[..12]);
+        assert_eq!(one[16..], other[16..]);
+    });
+    counts.count()
+}
+
 /// Mend a table, uncut and cut at every stop number and run again; the mended table.
 fn mend_everywhere(table: &[u8], met: &mut Met) -> Vec<u8> {
     let mut mended = table.to_vec();
@@ -301,6 +314,9 @@ fn mend_everywhere(table: &[u8], met: &mut Met) -> Vec<u8> {
     assert_eq!(seen, answer([0, 0, 0, 0, 0, 0, seen.stores]));
     assert!(sound(&mended));
     met.mends_with_stores += usize::from(seen.stores > 0);
+    let counts = recounted(table, &mended);
+    met.mends_of_counts += usize::from(counts > 0);
+    met.mends_of_counts_alone += usize::from(counts > 0 && counts == seen.stores as usize);
     for stop in 0..=seen.stores {
         let mut cut = table.to_vec();
         let number = if stop < seen.stores { 22 } else { 0 };
@@ -449,6 +465,7 @@ fn run(seed: u64) {
     assert!(met.granted > 1_000 && met.cuts > 3_000);
     assert!(met.cut_to_before > 1_000 && met.cut_to_after > 500);
     assert!(met.mends_with_stores > 1_000 && met.mends_cut > 2_000);
+    assert!(met.mends_of_counts > 1_000 && met.mends_of_counts_alone > 500);
     assert!(met.displaced > 200 && met.displaced_and_cleared > 100);
     assert!(met.displaced_own_source > 5 && met.cleared > 100);
     assert!(met.long_texts > 50 && met.read_back > 20);
@@ -533,4 +550,5 @@ fn every_table_of_five_records_that_these_requests_reach() {
     assert!(met.loops > 1_000 && met.unreached_loops > 1_000);
     assert!(met.displaced_and_cleared > 1_000 && met.dels_refused_midway > 1_000);
     assert!(met.rewrites > 1_000 && met.rewrites_of_marked > 500);
+    assert!(met.mends_of_counts > 10_000 && met.mends_of_counts_alone > 5_000);
 }

@@ -38,7 +38,8 @@ fn p_text_of_0_24_and_25_bytes_takes_0_1_and_2_records() {
         let mut bench = Bench::grown(16, &["CRD .R"]);
         let text = vec![b'T'; length];
         let seen = bench.grant("WRS M .R:A", &text);
-        let stores = records as u32 + 2;
+        // Heading, text and entry; then the counts of `.R` and of the new file.
+        let stores = records as u32 + 4;
         assert_eq!(seen.answer, answer([0, 0, 0, 1, 0, 0, stores]));
         assert_eq!(count(&bench.table, 3), records, "{length} bytes");
         assert_eq!(bench.reply("RDS .R:A"), text);
@@ -51,9 +52,10 @@ fn p_text_of_24000_bytes_takes_1000_records_and_24001_gets_10() {
     let text: Vec<u8> = (0..24_001u32).map(|at| (at % 251) as u8).collect();
     bench.refuse("WRS M .R:A", &text, 10, 0);
     let seen = bench.grant("WRS M .R:A", &text[..24_000]);
-    assert_eq!(seen.answer, answer([0, 0, 0, 1, 0, 0, 1_002]));
+    assert_eq!(seen.answer, answer([0, 0, 0, 1, 0, 0, 1_004]));
     assert_eq!(count(&bench.table, 3), 1_000);
-    assert_eq!(record(&bench.table, 2), heading(1, 0, 0, 1, 24_000));
+    let headed = named(heading(1, 0, 0, 1, 24_000), 1);
+    assert_eq!(record(&bench.table, 2), headed);
     assert_eq!(bench.reply("RDS .R:A"), &text[..24_000]);
 }
 
@@ -112,9 +114,11 @@ fn p_three_words_are_declarations_and_two_are_not() {
 fn p_crd_r_stores_these_two_records() {
     let mut bench = Bench::new(2);
     let seen = bench.grant("CRD .R", b"");
-    assert_eq!(seen.answer, answer([0, 0, 0, 1, 0, 0, 2]));
+    // Heading, entry, and the heading again: "after `CRD .R` record 0 has 1 in byte 12".
+    assert_eq!(seen.answer, answer([0, 0, 0, 1, 0, 0, 3]));
     let mut expected = [0; 64];
     expected[..5].copy_from_slice(&[1, 0, 0, 0, 1]);
+    expected[12] = 1;
     expected[32..44].copy_from_slice(&[2, 0, 255, 255, 0, 0, 1, 0, 0, 2, 46, 82]);
     assert_eq!(bench.table, expected);
 }
@@ -144,7 +148,8 @@ fn p_then_crd_r_a_gets_19() {
 fn p_then_del_r_gives_zeros() {
     let mut bench = Bench::grown(2, &["CRD .R"]);
     let seen = bench.grant("DEL .R", b"");
-    assert_eq!(seen.answer, answer([0, 0, 0, 1, 0, 0, 2]));
+    // "`DEL .R` takes 3 stores": the entry, the count, the heading.
+    assert_eq!(seen.answer, answer([0, 0, 0, 1, 0, 0, 3]));
     assert!(zeros(&bench.table));
 }
 
@@ -152,8 +157,8 @@ fn p_then_del_r_gives_zeros() {
 fn del_of_the_same_name_twice_does_one() {
     let bench = Bench::grown(16, &["CRD .R", "WRS M .R:A"]);
     let seen = bench.ask("DEL .R:A .R:A", b"");
-    // The entry, the heading and two text records.
-    assert_eq!(seen.answer, answer([11, 2, 2, 1, 0, 0, 4]));
+    // The entry, the counts of `.R` and of the file, the heading and two text records.
+    assert_eq!(seen.answer, answer([11, 2, 2, 1, 0, 0, 6]));
     assert_eq!(seen.table, Bench::grown(16, &["CRD .R"]).table);
     assert!(seen.untouched());
 }
@@ -162,14 +167,15 @@ fn del_of_the_same_name_twice_does_one() {
 fn a_copy_displaces_its_own_source() {
     let mut bench = Bench::grown(16, &["CRD .R", "WRS L.P4 .R:A"]);
     let seen = bench.grant("CPY .R:A .R:A", b"");
-    // Heading, two texts and the entry; then the old heading and its two texts.
-    assert_eq!(seen.answer, answer([0, 0, 0, 1, 1, 0, 7]));
+    // Heading, two texts and the entry; the counts of the old file and of the new one; then the old heading and its two
+    // texts.
+    assert_eq!(seen.answer, answer([0, 0, 0, 1, 1, 0, 9]));
     let mut expected = vec![0; 16 * 32];
     let records = [
-        (0, directory()),
+        (0, counts(directory(), 1, 1)),
         (1, base(0, ".R")),
         (5, entry(0, 0, 6, 0, "A")),
-        (6, heading(1, 1, 0, 2, 30)),
+        (6, named(heading(1, 1, 0, 2, 30), 1)),
         (7, text(6, 0, &TEXT[..24])),
         (8, text(6, 1, &TEXT[24..])),
     ];

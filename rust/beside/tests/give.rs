@@ -34,6 +34,22 @@ fn floor() -> Floor {
     ])
 }
 
+/// The heading of a sheet of five bytes that so many entries name: SHEET in record 2, KEYS in record 9.
+fn sheet(entries: u16) -> [u8; 32] {
+    named(simple(5), entries)
+}
+
+/// The heading of a directory that one entry names and that holds so many.
+fn holds(entries: u16) -> [u8; 32] {
+    counts(directory(), 1, entries)
+}
+
+/// The table with true counts.
+fn recounted(table: &[u8]) -> Vec<u8> {
+    let (records, _) = table.as_chunks::<32>();
+    counted(records).concat()
+}
+
 /// A name of two letters for each number below 676.
 fn letters(number: usize) -> String {
     let letter = |at: usize| char::from(b'A' + at as u8);
@@ -41,21 +57,22 @@ fn letters(number: usize) -> String {
 }
 
 impl Floor {
-    /// These records, and eight that are free.
+    /// These records with true counts, and eight that are free.
     fn of(records: &[[u8; 32]]) -> Floor {
-        let mut table = records.concat();
+        let mut table = counted(records).concat();
         table.resize(table.len() + 8 * 32, 0);
         let floor = Floor { table };
         assert!(sound(&floor.table));
         floor
     }
 
-    /// The same with some records others; it stays sound.
+    /// The same with some records others and the counts that are true then; it stays sound.
     fn with(&self, records: &[(usize, [u8; 32])]) -> Floor {
         let mut floor = self.clone();
         for (number, record) in records {
             floor.table[number * 32..][..32].copy_from_slice(record);
         }
+        floor.table = recounted(&floor.table);
         assert!(sound(&floor.table));
         floor
     }
@@ -71,17 +88,22 @@ impl Floor {
         }
     }
 
-    /// The request must be granted, displace nothing, and store exactly these records; the table is kept.
+    /// The request must be granted, displace nothing, and store exactly these records, in this order; the table is kept.
     fn store(&mut self, user: u32, line: &str, records: &[(usize, [u8; 32])]) {
+        let mut after = self.table.clone();
+        for (stop, (number, record)) in (0..).zip(records) {
+            let cut = self.ask(user, line, stop);
+            assert_eq!(cut.answer, answer([22, 0, 0, 0, 0, 0, stop]), "{line}");
+            assert!(cut.table == after, "{line}, {stop}: another table");
+            after[number * 32..][..32].copy_from_slice(record);
+        }
         let seen = self.ask(user, line, 65_535);
         let stores = records.len() as u32;
         assert_eq!(seen.answer, answer([0, 0, 0, 1, 0, 0, stores]), "{line}");
         assert!(seen.untouched(), "{line}: reply changed");
-        for (number, record) in records {
-            self.table[number * 32..][..32].copy_from_slice(record);
-        }
-        assert!(seen.table == self.table, "{line}: another table");
-        assert!(sound(&self.table), "{line}: not sound after");
+        assert!(seen.table == after, "{line}: another table");
+        assert!(sound(&after), "{line}: not sound after");
+        self.table = after;
     }
 
     /// The request must be granted; the table is kept.
@@ -119,7 +141,9 @@ impl Floor {
 fn a_sheet_is_handed_to_the_night_shift() {
     let mut floor = floor();
     let given = entry(1, 5, 2, 0, "SHEET");
-    floor.store(DAY, "DUP .R:SHEET .000777:SHEET .1", &[(NEXT, given)]);
+    // the entry; then the counts of the sheet, which two entries name, and of `.G`, which holds it
+    let stores = [(NEXT, given), (2, sheet(2)), (5, holds(1))];
+    floor.store(DAY, "DUP .R:SHEET .000777:SHEET .1", &stores);
     floor.reply(NIGHT, "LST .G", b"FM.U1    SHEET\r\n");
     floor.reply(NIGHT, "RDS .G:SHEET", b"5.0 V");
     // without the pen: the code cannot be raised, and no entry of his has less
@@ -127,7 +151,11 @@ fn a_sheet_is_handed_to_the_night_shift() {
     floor.store(
         NIGHT,
         "DUP .G:SHEET .T:SHEET",
-        &[(13, entry(1, 7, 2, 0, "SHEET"))],
+        &[
+            (13, entry(1, 7, 2, 0, "SHEET")),
+            (2, sheet(3)),
+            (7, holds(2)),
+        ],
     );
     floor.refuse(NIGHT, "DPR .T:SHEET .7", 14, 1);
 }
@@ -136,14 +164,14 @@ fn a_sheet_is_handed_to_the_night_shift() {
 fn a_give_may_have_another_link_name() {
     let mut floor = floor();
     let given = entry(0, 5, 2, 0, "LONGNAME10");
-    floor.store(DAY, "DUP .R:SHEET .000777:LONGNAME10", &[(NEXT, given)]);
-    floor.store(
-        DAY,
-        "DUP .R:SHEET .000777:-",
-        &[(13, entry(0, 5, 2, 0, "-"))],
-    );
+    let stores = [(NEXT, given), (2, sheet(2)), (5, holds(1))];
+    floor.store(DAY, "DUP .R:SHEET .000777:LONGNAME10", &stores);
+    let dash = entry(0, 5, 2, 0, "-");
+    let stores = [(13, dash), (2, sheet(3)), (5, holds(2))];
+    floor.store(DAY, "DUP .R:SHEET .000777:-", &stores);
     let point = entry(0, 5, 2, 0, ".000778");
-    floor.store(DAY, "DUP .R:SHEET .000777:.000778", &[(14, point)]);
+    let stores = [(14, point), (2, sheet(4)), (5, holds(3))];
+    floor.store(DAY, "DUP .R:SHEET .000777:.000778", &stores);
 }
 
 #[test]
@@ -153,17 +181,17 @@ fn a_give_takes_one_record_and_the_lowest_free_one() {
     floor.grant(DAY, "WRS M .R:B");
     floor.grant(DAY, "DEL .R:A");
     // A was 12 to 15, B is 16 to 19: all other records are taken
-    floor.store(DAY, "DUP .R:B .000777:B", &[(12, entry(0, 5, 16, 0, "B"))]);
+    let given = entry(0, 5, 16, 0, "B");
+    let stores = [(12, given), (5, holds(1)), (16, named(simple(30), 2))];
+    floor.store(DAY, "DUP .R:B .000777:B", &stores);
 }
 
 #[test]
 fn blanks_beside_the_colon_do_not_count() {
     let mut floor = floor();
-    floor.store(
-        DAY,
-        "DUP .R : SHEET .000777 : S  .4",
-        &[(NEXT, entry(4, 5, 2, 0, "S"))],
-    );
+    let given = entry(4, 5, 2, 0, "S");
+    let stores = [(NEXT, given), (2, sheet(2)), (5, holds(1))];
+    floor.store(DAY, "DUP .R : SHEET .000777 : S  .4", &stores);
     floor.reply(DAY, "RDS .000777 :  KEYS", b"KEYS!");
 }
 
@@ -225,7 +253,13 @@ fn every_six_digits_are_a_user() {
     for (at, (user, digits)) in users.iter().enumerate() {
         let (give, next) = (4 + 4 * at as u16, 28 + at);
         let line = format!("DUP .R:A .{digits}:{}", letters(at));
-        floor.store(5, &line, &[(next, entry(0, give, 2, 0, &letters(at)))]);
+        // A and the gives before this one name the sheet too
+        let stores = [
+            (next, entry(0, give, 2, 0, &letters(at))),
+            (2, named(simple(0), 2 + at as u16)),
+            (give.into(), holds(1)),
+        ];
+        floor.store(5, &line, &stores);
         let listed = format!("FM.U0    {}\r\n", letters(at));
         floor.reply(*user, "LST .G", listed.as_bytes());
         floor.reply(5, &format!("LST .{digits}"), b"");
@@ -239,18 +273,23 @@ fn every_six_digits_are_a_user() {
 fn dup_takes_a_file() {
     let mut floor = floor();
     let taken = entry(0, 0, 9, 0, "K");
-    floor.store(DAY, "DUP .000777:KEYS .R:K", &[(NEXT, taken)]);
+    let stores = [(NEXT, taken), (0, holds(2)), (9, sheet(2))];
+    floor.store(DAY, "DUP .000777:KEYS .R:K", &stores);
     floor.reply(DAY, "RDS .R:K", b"KEYS!");
+    // a base list has no count
     let base = entry(4, BASE, 9, DAY, ".KEYS");
-    floor.store(DAY, "DUP .000777:KEYS .KEYS .4", &[(13, base)]);
+    let stores = [(13, base), (9, sheet(3))];
+    floor.store(DAY, "DUP .000777:KEYS .KEYS .4", &stores);
 }
 
 #[test]
 fn a_take_displaces_at_the_takers_own_name_as_ever() {
     let mut floor = floor();
     let seen = floor.grant(DAY, "DUP .000777:KEYS .R:SHEET");
-    assert_eq!(seen.answer, answer([0, 0, 0, 1, 1, 0, 3]));
+    // the entry; the counts of the sheet displaced and of the one taken; then heading and text
+    assert_eq!(seen.answer, answer([0, 0, 0, 1, 1, 0, 5]));
     assert_eq!(record(&floor.table, 4), entry(0, 0, 9, 0, "SHEET"));
+    assert_eq!(record(&floor.table, 9), sheet(2));
     assert_eq!(record(&floor.table, 2), FREE);
     assert_eq!(record(&floor.table, 3), FREE);
 }
@@ -262,12 +301,14 @@ fn cpy_takes_a_copy() {
         (12, heading(1, 1, 4, 2, 5)),
         (13, text(12, 0, b"KEYS!")),
         (14, entry(4, 0, 12, 0, "K")),
+        (0, holds(2)),
+        (12, named(heading(1, 1, 4, 2, 5), 1)),
     ];
     floor.store(DAY, "CPY .000777:KEYS .R:K L.P4", &records);
     // lifetime, level and length are the source's
     let floor = floor.with(&[(9, heading(1, 2, 0, 2, 5))]);
     let seen = floor.ask(DAY, "CPY .000777:KEYS .R:L", 65_535);
-    assert_eq!(record(&seen.table, 15), heading(1, 2, 0, 2, 5));
+    assert_eq!(record(&seen.table, 15), named(heading(1, 2, 0, 2, 5), 1));
 }
 
 #[test]
@@ -295,7 +336,8 @@ fn a_take_goes_down_as_any_chain() {
     floor.refuse(DAY, "RDS .000777:D:F", 11, 1);
     floor.refuse(DAY, "RDS .000777:KEYS:E", 12, 1);
     let taken = entry(0, 0, 12, 0, "D");
-    floor.store(DAY, "DUP .000777:D .R:D", &[(18, taken)]);
+    let stores = [(18, taken), (0, holds(2)), (12, counts(directory(), 2, 1))];
+    floor.store(DAY, "DUP .000777:D .R:D", &stores);
     floor.reply(DAY, "RDS .R:D:E", TEXT);
 }
 
@@ -350,7 +392,8 @@ fn after_a_colon_it_is_a_link_as_any() {
     let renamed = entry(0, 0, 2, 0, "SHEET");
     floor.store(DAY, "CHN .R:.000777 SHEET", &[(4, renamed)]);
     let again = entry(0, 0, 2, 0, ".000777");
-    floor.store(DAY, "DUP .R:SHEET .R:.000777", &[(NEXT, again)]);
+    let stores = [(NEXT, again), (0, holds(2)), (2, sheet(2))];
+    floor.store(DAY, "DUP .R:SHEET .R:.000777", &stores);
 }
 
 #[test]
@@ -383,10 +426,12 @@ fn a_take_directory_is_not_handed_over() {
     floor.refuse(NIGHT, "DUP .000777 .T:T", 8, 1);
     let mut floor = floor;
     let looped = entry(0, 7, 7, 0, "T");
-    floor.store(NIGHT, "DUP .T .T:T", &[(NEXT, looped)]);
+    let stores = [(NEXT, looped), (7, counts(directory(), 2, 2))];
+    floor.store(NIGHT, "DUP .T .T:T", &stores);
     // and then it is a directory in the take directory, as any other
     let taken = entry(0, 0, 7, 0, "T");
-    floor.store(DAY, "DUP .000777:T .R:T", &[(13, taken)]);
+    let stores = [(13, taken), (0, holds(2)), (7, counts(directory(), 3, 2))];
+    floor.store(DAY, "DUP .000777:T .R:T", &stores);
 }
 
 #[test]
@@ -443,7 +488,8 @@ fn it_counts_as_one_of_sixteen_names() {
     floor.refuse(DAY, &format!("RDS {}:KEYS", chain(15)), 7, 1);
     let taken = entry(0, 0, 9, 0, "K");
     let line = format!("DUP {}:KEYS .R:K", chain(14));
-    floor.store(DAY, &line, &[(13, taken)]);
+    let stores = [(13, taken), (0, holds(2)), (9, sheet(2))];
+    floor.store(DAY, &line, &stores);
     floor.refuse(DAY, &format!("DUP {}:KEYS .R:K", chain(15)), 7, 1);
     floor.refuse(DAY, &format!("CPY {}:KEYS .R:K", chain(15)), 7, 1);
     // a chain of one's own has its supplied `.W` counted
@@ -460,7 +506,8 @@ fn it_counts_as_one_of_sixteen_names() {
 fn a_link_that_is_taken_stays() {
     let mut floor = floor();
     let given = entry(0, 5, 2, 0, "SHEET");
-    floor.store(DAY, "DUP .R:SHEET .000777:SHEET", &[(NEXT, given)]);
+    let stores = [(NEXT, given), (2, sheet(2)), (5, holds(1))];
+    floor.store(DAY, "DUP .R:SHEET .000777:SHEET", &stores);
     // by an entry of the same file, with the same code or another
     floor.refuse(DAY, "DUP .R:SHEET .000777:SHEET", 16, 2);
     floor.refuse(DAY, "DUP .R:SHEET .000777:SHEET .7", 16, 2);
@@ -470,7 +517,7 @@ fn a_link_that_is_taken_stays() {
     floor.refuse(3, "DUP .000777:KEYS .000777:SHEET", 16, 2);
     // in one's own `.G` by its own name DUP displaces, as ever
     let seen = floor.grant(NIGHT, "DUP .T:KEYS .G:SHEET");
-    assert_eq!(seen.answer, answer([0, 0, 0, 1, 1, 0, 1]));
+    assert_eq!(seen.answer, answer([0, 0, 0, 1, 1, 0, 3]));
     assert_eq!(record(&floor.table, NEXT), entry(0, 5, 9, 0, "SHEET"));
 }
 
@@ -498,10 +545,13 @@ fn the_code_is_the_old_entrys_joined_with_the_declared_one() {
             ]);
             let given = entry(own | declared, 5, 2, 0, "S");
             let line = format!("DUP .R:SHEET .000777:S .{declared}");
-            floor.store(DAY, &line, &[(12, given)]);
+            let sheet_given = named(heading(1, 0, 6, 1, 5), 2);
+            let stores = [(12, given), (2, sheet_given), (5, holds(1))];
+            floor.store(DAY, &line, &stores);
             let taken = entry(own | declared, 0, 9, 0, "K");
             let line = format!("DUP .000777:KEYS .R:K .{declared}");
-            floor.store(DAY, &line, &[(13, taken)]);
+            let stores = [(13, taken), (0, holds(2)), (9, sheet(2))];
+            floor.store(DAY, &line, &stores);
         }
     }
 }
@@ -511,7 +561,9 @@ fn without_a_digit_the_code_is_the_old_entrys() {
     for declaration in ["", " -", " .", " .0"] {
         let mut floor = floor().with(&[(4, entry(5, 0, 2, 0, "SHEET"))]);
         let line = format!("DUP .R:SHEET .000777:S{declaration}");
-        floor.store(DAY, &line, &[(12, entry(5, 5, 2, 0, "S"))]);
+        let given = entry(5, 5, 2, 0, "S");
+        let stores = [(12, given), (2, sheet(2)), (5, holds(1))];
+        floor.store(DAY, &line, &stores);
     }
 }
 
@@ -525,9 +577,11 @@ fn codes_of_earlier_entries_do_not_add_up() {
         (8, entry(1, BASE, 7, NIGHT, ".T")),
     ]);
     let given = entry(0, 5, 2, 0, "S");
-    floor.store(DAY, "DUP .R:SHEET .000777:S", &[(12, given)]);
+    let stores = [(12, given), (2, sheet(2)), (5, holds(1))];
+    floor.store(DAY, "DUP .R:SHEET .000777:S", &stores);
     let taken = entry(0, BASE, 9, DAY, ".KEYS");
-    floor.store(DAY, "DUP .000777:KEYS .KEYS", &[(13, taken)]);
+    let stores = [(13, taken), (9, sheet(2))];
+    floor.store(DAY, "DUP .000777:KEYS .KEYS", &stores);
     floor.reply(DAY, "RDS .000777:KEYS", b"KEYS!");
 }
 
@@ -536,7 +590,8 @@ fn what_the_giver_may_not_read_or_write_may_be_given() {
     let mut floor = floor().with(&[(4, entry(3, 0, 2, 0, "SHEET"))]);
     floor.refuse(DAY, "RDS .R:SHEET", 13, 1);
     let given = entry(3, 5, 2, 0, "S");
-    floor.store(DAY, "DUP .R:SHEET .000777:S", &[(12, given)]);
+    let stores = [(12, given), (2, sheet(2)), (5, holds(1))];
+    floor.store(DAY, "DUP .R:SHEET .000777:S", &stores);
     floor.refuse(NIGHT, "RDS .G:S", 13, 1);
     floor.refuse(NIGHT, "DPR .G:S .7", 14, 1);
 }
@@ -553,7 +608,7 @@ fn a_take_is_read_by_the_joined_code_of_the_entry_last_followed() {
         inhibited.refuse(DAY, "CPY .000777:KEYS .R:K", 13, 1);
         // DUP asks nothing of the file named
         let seen = inhibited.ask(DAY, "DUP .000777:KEYS .R:K", 65_535);
-        assert_eq!(seen.answer, answer([0, 0, 0, 1, 0, 0, 1]));
+        assert_eq!(seen.answer, answer([0, 0, 0, 1, 0, 0, 3]));
     }
 }
 
@@ -660,7 +715,8 @@ fn the_code_of_a_shelf_is_that_users_entrys() {
     floor.refuse(DAY, "DUP .R:SHEET .000777:S", 14, 2);
     let mut floor = floor;
     let given = entry(0, 5, 2, 0, "S");
-    floor.store(DAY, "DUP .R:SHEET .000002:S", &[(14, given)]);
+    let stores = [(14, given), (2, sheet(2)), (5, counts(directory(), 2, 1))];
+    floor.store(DAY, "DUP .R:SHEET .000002:S", &stores);
     floor.reply(NIGHT, "RDS .G:S", b"5.0 V");
 }
 
@@ -685,9 +741,12 @@ fn number_14_where_the_give_directory_is_write_inhibited() {
         (7, heading(0, 0, 1, 1, 0)),
     ]);
     let given = entry(0, 5, 2, 0, "S");
-    floor.store(DAY, "DUP .R:SHEET .000777:S", &[(12, given)]);
+    let capped = named(heading(1, 0, 1, 1, 5), 2);
+    let stores = [(12, given), (2, capped), (5, holds(1))];
+    floor.store(DAY, "DUP .R:SHEET .000777:S", &stores);
     let keys = entry(0, 5, 9, 0, "K");
-    floor.store(DAY, "DUP .000777:KEYS .000777:K", &[(13, keys)]);
+    let stores = [(13, keys), (5, holds(2)), (9, sheet(2))];
+    floor.store(DAY, "DUP .000777:KEYS .000777:K", &stores);
 }
 
 /// The night shift's `.G` with so many entries, then this many free records.
@@ -698,6 +757,7 @@ fn crowded(entries: usize, free: usize) -> Floor {
         table.extend(entry(0, 5, 9, 0, &letters(number)));
     }
     table.resize(table.len() + free * 32, 0);
+    let table = recounted(&table);
     assert!(sound(&table));
     Floor { table }
 }
@@ -707,7 +767,8 @@ fn number_17_where_the_give_directory_is_full() {
     crowded(112, 1).refuse(DAY, "DUP .R:SHEET .000777:SHEET", 17, 2);
     let mut floor = crowded(111, 2);
     let given = entry(0, 5, 2, 0, "SHEET");
-    floor.store(DAY, "DUP .R:SHEET .000777:SHEET", &[(NEXT + 111, given)]);
+    let stores = [(NEXT + 111, given), (2, sheet(2)), (5, holds(112))];
+    floor.store(DAY, "DUP .R:SHEET .000777:SHEET", &stores);
     floor.refuse(DAY, "DUP .R:SHEET .000777:MORE", 17, 2);
     // full and taken: 16; full and no room: 17; write-inhibited and full: 14
     floor.refuse(DAY, "DUP .R:SHEET .000777:SHEET", 16, 2);
@@ -727,10 +788,13 @@ fn number_17_where_the_takers_own_directory_is_full() {
         table.extend(entry(0, 0, 2, 0, &letters(number)));
     }
     table.resize(table.len() + 32, 0);
+    let table = recounted(&table);
     let mut floor = Floor { table };
     floor.refuse(DAY, "DUP .000777:KEYS .R:K", 17, 2);
+    // SHEET, 111 entries beside it and the one given name the sheet
     let given = entry(0, 5, 2, 0, "S");
-    floor.store(DAY, "DUP .R:SHEET .000777:S", &[(NEXT + 111, given)]);
+    let stores = [(NEXT + 111, given), (2, sheet(113)), (5, holds(1))];
+    floor.store(DAY, "DUP .R:SHEET .000777:S", &stores);
 }
 
 #[test]
@@ -763,15 +827,24 @@ fn the_old_name_is_walked_first_and_whole() {
 }
 
 #[test]
-fn a_give_that_is_stopped_has_done_nothing() {
+fn a_give_that_is_stopped_is_mended_to_before_or_after() {
     let floor = floor();
     let line = "DUP .R:SHEET .000777:S .1";
-    let stopped = floor.ask(DAY, line, 0);
-    assert_eq!(stopped.answer, answer([22, 0, 0, 0, 0, 0, 0]));
-    assert!(stopped.table == floor.table);
-    let made = floor.ask(DAY, line, 1);
-    assert_eq!(made.answer, answer([0, 0, 0, 1, 0, 0, 1]));
+    let made = floor.ask(DAY, line, 3);
+    assert_eq!(made.answer, answer([0, 0, 0, 1, 0, 0, 3]));
     assert_eq!(record(&made.table, NEXT), entry(1, 5, 2, 0, "S"));
+    // the entry is given once it is there; the two counts are then mended, or the second alone
+    for (stop, after, mended) in [
+        (0, &floor.table, 0),
+        (1, &made.table, 2),
+        (2, &made.table, 1),
+    ] {
+        let mut stopped = floor.ask(DAY, line, stop);
+        assert_eq!(stopped.answer, answer([22, 0, 0, 0, 0, 0, stop]));
+        let expected = answer([0, 0, 0, 0, 0, 0, mended]);
+        assert_eq!(mend(&mut stopped.table, 65_535), expected);
+        assert!(stopped.table == *after, "stopped at {stop}");
+    }
     // a refusal stays what it is
     let taken = floor.with(&[(12, entry(0, 5, 2, 0, "S"))]);
     let refused = taken.ask(DAY, line, 0);
@@ -783,9 +856,9 @@ fn a_cut_copy_of_a_take_is_mended_to_before_or_after() {
     let floor = floor();
     let line = "CPY .000777:KEYS .R:SHEET";
     let after = floor.ask(DAY, line, 65_535);
-    // heading, text, entry; then what was displaced: heading, text
-    assert_eq!(after.answer, answer([0, 0, 0, 1, 1, 0, 5]));
-    for stop in 0..5 {
+    // heading, text, entry; the counts of both files; then what was displaced: heading, text
+    assert_eq!(after.answer, answer([0, 0, 0, 1, 1, 0, 7]));
+    for stop in 0..7 {
         let mut cut = floor.ask(DAY, line, stop);
         assert_eq!(cut.answer.number, 22);
         assert_eq!(mend(&mut cut.table, 65_535).number, 0);
@@ -813,10 +886,12 @@ fn a_reply_buffer_that_is_too_short() {
 fn ones_own_number_is_allowed_both_ways() {
     let mut floor = floor();
     let given = entry(0, 5, 9, 0, "K");
-    floor.store(NIGHT, "DUP .T:KEYS .000777:K", &[(12, given)]);
+    let stores = [(12, given), (5, holds(1)), (9, sheet(2))];
+    floor.store(NIGHT, "DUP .T:KEYS .000777:K", &stores);
     floor.refuse(NIGHT, "DUP .T:KEYS .000777:K", 16, 2);
     let taken = entry(1, 5, 9, 0, "L");
-    floor.store(NIGHT, "DUP .000777:KEYS .000777:L .1", &[(13, taken)]);
+    let stores = [(13, taken), (5, holds(2)), (9, sheet(3))];
+    floor.store(NIGHT, "DUP .000777:KEYS .000777:L .1", &stores);
     floor.reply(NIGHT, "LST .G", b"FM.U0    K\r\nFM.U1    L\r\n");
 }
 
@@ -824,7 +899,8 @@ fn ones_own_number_is_allowed_both_ways() {
 fn a_directory_may_be_given_and_is_shared() {
     let mut floor = floor();
     let given = entry(0, 5, 0, 0, "R");
-    floor.store(DAY, "DUP .R .000777:R", &[(12, given)]);
+    let stores = [(12, given), (0, counts(directory(), 2, 1)), (5, holds(1))];
+    floor.store(DAY, "DUP .R .000777:R", &stores);
     floor.reply(NIGHT, "RDS .G:R:SHEET", b"5.0 V");
     // he may write and delete in it
     floor.grant(NIGHT, "WRS M .G:R:NEW");
@@ -845,7 +921,8 @@ fn the_write_bit_on_a_directorys_entry_is_not_on_what_is_in_it() {
     floor.grant(DAY, "CRD .R:D");
     floor.grant(DAY, "DUP .R .000777:R .1");
     // "codes of earlier entries do not add up": the sheet's own entry and heading have no code
-    floor.store(NIGHT, "DPR .G:R:SHEET .2", &[(2, heading(1, 0, 2, 1, 5))]);
+    let inhibited = named(heading(1, 0, 2, 1, 5), 1);
+    floor.store(NIGHT, "DPR .G:R:SHEET .2", &[(2, inhibited)]);
     floor.refuse(DAY, "RDS .R:SHEET", 13, 1);
     floor.grant(NIGHT, "WRS M .G:R:D:NEW");
 }
@@ -855,7 +932,7 @@ fn what_is_given_outlives_the_givers_entry() {
     let mut floor = floor();
     floor.grant(DAY, "DUP .R .000777:R");
     // the directory still has an entry, so no 18; its records stay
-    floor.store(DAY, "DEL .R", &[(1, FREE)]);
+    floor.store(DAY, "DEL .R", &[(1, FREE), (0, holds(1))]);
     floor.reply(NIGHT, "RDS .G:R:SHEET", b"5.0 V");
     floor.refuse(NIGHT, "DEL .G:R", 18, 1);
     floor.grant(NIGHT, "DEL .G:R:SHEET .G:R");
@@ -866,17 +943,24 @@ fn what_is_given_outlives_the_givers_entry() {
 fn the_give_directory_itself_may_be_given() {
     let mut floor = floor();
     let looped = entry(0, 5, 5, 0, "G");
-    floor.store(NIGHT, "DUP .G .000777:G", &[(12, looped)]);
+    let stores = [(12, looped), (5, counts(directory(), 2, 1))];
+    floor.store(NIGHT, "DUP .G .000777:G", &stores);
     floor.reply(NIGHT, "LST .G:G:G", b"DM.U0    G\r\n");
     // a give reaches its directory through `.G` alone, whatever is in it
     let given = entry(0, 5, 2, 0, "SHEET");
-    floor.store(DAY, "DUP .R:SHEET .000777:SHEET", &[(13, given)]);
+    let stores = [(13, given), (2, sheet(2)), (5, counts(directory(), 2, 2))];
+    floor.store(DAY, "DUP .R:SHEET .000777:SHEET", &stores);
     floor.refuse(DAY, "DUP .R:SHEET .000777:G:S", 8, 2);
     floor.refuse(DAY, "DUP .R:SHEET .000777:G", 16, 2);
     // and one's own `.G` to somebody else
     floor.grant(DAY, "CRD .G");
     let other = entry(4, 5, 14, 0, "DAYS");
-    floor.store(DAY, "DUP .G .000777:DAYS .4", &[(16, other)]);
+    let stores = [
+        (16, other),
+        (5, counts(directory(), 2, 3)),
+        (14, named(directory(), 2)),
+    ];
+    floor.store(DAY, "DUP .G .000777:DAYS .4", &stores);
 }
 
 #[test]
@@ -891,7 +975,8 @@ fn what_is_taken_from_one_may_be_given_to_another() {
         entry(0, BASE, 5, 3, ".G"),
     ]);
     let given = entry(5, 5, 2, 0, "B");
-    floor.store(DAY, "DUP .000002:A .000003:B .1", &[(7, given)]);
+    let stores = [(7, given), (2, named(simple(1), 2)), (5, holds(1))];
+    floor.store(DAY, "DUP .000002:A .000003:B .1", &stores);
     floor.reply(3, "LST .G", b"FM.U5    B\r\n");
     floor.reply(3, "RDS .G:B", b"A");
     // nobody has given user 2 anything, and there is nothing to take from user 3
@@ -903,19 +988,29 @@ fn what_is_taken_from_one_may_be_given_to_another() {
 fn who_takes_has_an_entry_of_his_own() {
     let mut floor = floor();
     let taken = entry(0, 0, 9, 0, "K");
-    floor.store(DAY, "DUP .000777:KEYS .R:K", &[(12, taken)]);
+    let stores = [(12, taken), (0, holds(2)), (9, sheet(2))];
+    floor.store(DAY, "DUP .000777:KEYS .R:K", &stores);
     // it outlives the one it was taken by
-    floor.store(NIGHT, "DEL .T:KEYS", &[(11, FREE)]);
+    let stores = [(11, FREE), (7, holds(0)), (9, sheet(1))];
+    floor.store(NIGHT, "DEL .T:KEYS", &stores);
     floor.reply(DAY, "RDS .R:K", b"KEYS!");
     floor.refuse(DAY, "RDS .000777:KEYS", 11, 1);
     // and the code of the file itself may be raised by it, for everyone
     floor.store(
         NIGHT,
         "CRD .T:D",
-        &[(11, directory()), (13, entry(0, 7, 11, 0, "D"))],
+        &[
+            (11, directory()),
+            (13, entry(0, 7, 11, 0, "D")),
+            (7, holds(1)),
+            (11, holds(0)),
+        ],
     );
-    floor.store(DAY, "DUP .000777:D .R:D", &[(14, entry(0, 0, 11, 0, "D"))]);
-    floor.store(DAY, "DPR .R:D .2", &[(11, heading(0, 0, 2, 1, 0))]);
+    let taken = entry(0, 0, 11, 0, "D");
+    let stores = [(14, taken), (0, holds(3)), (11, named(directory(), 2))];
+    floor.store(DAY, "DUP .000777:D .R:D", &stores);
+    let inhibited = named(heading(0, 0, 2, 1, 0), 2);
+    floor.store(DAY, "DPR .R:D .2", &[(11, inhibited)]);
     floor.refuse(NIGHT, "LST .T:D", 13, 1);
 }
 
@@ -924,7 +1019,9 @@ fn the_write_bit_in_the_heading_keeps_the_pen_too() {
     let mut floor = floor();
     floor.grant(DAY, "DPR .R:SHEET .1");
     let given = entry(0, 5, 2, 0, "SHEET");
-    floor.store(DAY, "DUP .R:SHEET .000777:SHEET", &[(12, given)]);
+    let capped = named(heading(1, 0, 1, 1, 5), 2);
+    let stores = [(12, given), (2, capped), (5, holds(1))];
+    floor.store(DAY, "DUP .R:SHEET .000777:SHEET", &stores);
     floor.refuse(NIGHT, "DPR .G:SHEET .7", 14, 1);
     // a copy is a file of the receiver's own, without the bit
     floor.grant(NIGHT, "CPY .G:SHEET .G:MINE");

@@ -155,7 +155,8 @@ fn listed(table: &[u8]) -> Vec<String> {
 #[test]
 fn a_job_of_two_sheets_stores_what_two_requests_store() {
     let job = Job::new(16, &[("A", b"ONE"), ("BOARD7", &[b'T'; 25])]);
-    let lit = job.green(3 + 4);
+    // heading, text and entry of each; then its count and that of `.R`
+    let lit = job.green(5 + 6);
     let mut bench = Bench::of(job.table.clone());
     bench.grant("WRS M .R:A", b"ONE");
     bench.grant("WRS M .R:BOARD7", &[b'T'; 25]);
@@ -196,7 +197,7 @@ fn a_name_is_the_bytes_before_the_zeros() {
     };
     // ten characters without a zero, a dash, a leading point
     for name in ["ABCDEFGHIJ", "-", ".", ".1", ".A", "!", "_", "[]", "A-B"] {
-        let lit = job(name.as_bytes()).green(2);
+        let lit = job(name.as_bytes()).green(4);
         assert_eq!(listed(&lit.table), [name]);
     }
     // no byte, a zero inside, a zero first, bytes that no link name has
@@ -224,7 +225,7 @@ fn the_length_is_two_bytes_low_byte_first() {
     let text = vec![b'L'; 258];
     let job = Job::new(32, &[("A", &text)]);
     assert_eq!(job.sheets[10..12], [2, 1]);
-    let lit = job.green(2 + 11);
+    let lit = job.green(4 + 11);
     assert_eq!(lit.back, text);
 }
 
@@ -234,7 +235,7 @@ fn the_length_is_two_bytes_low_byte_first() {
 fn each_sheet_has_its_own_part_of_the_texts() {
     let mut job = Job::new(32, &[("A", b"12"), ("B", b""), ("C", b"345")]);
     job.texts = b"12345 AND MORE".to_vec(); // longer than the sum is fine
-    let lit = job.green(3 + 2 + 3);
+    let lit = job.green(5 + 4 + 5);
     let bench = Bench::of(lit.table);
     assert_eq!(bench.reply("RDS .R:A"), b"12");
     assert_eq!(bench.reply("RDS .R:B"), b"");
@@ -256,7 +257,7 @@ fn the_chain_stands_in_the_line_as_it_is() {
         (".R", ".R:A"),
     ];
     for (chain, name) in chains {
-        let lit = Job::on(&bench, &[("A", b"1")]).chain(chain).green(3);
+        let lit = Job::on(&bench, &[("A", b"1")]).chain(chain).green(5);
         assert_eq!(Bench::of(lit.table).reply(&format!("RDS {name}")), b"1");
     }
 }
@@ -294,7 +295,7 @@ fn a_bad_chain_is_red_at_sheet_1() {
         blanks.unfiled(1, if fits { 6 } else { 4 }, 0);
         let padded = [&b".R"[..], &vec![b' '; length - 2]].concat();
         match fits {
-            true => drop(job.clone().chain(padded).green(6)),
+            true => drop(job.clone().chain(padded).green(5 + 5)),
             false => drop(job.clone().chain(padded).unfiled(1, 4, 0)),
         }
         job.clone()
@@ -308,7 +309,7 @@ fn a_longer_link_makes_a_longer_line() {
     // the first sheet's line has 256 bytes, the second's 257: red at 2, with the first filed
     let chain = [&b".R"[..], &[b' '; 245]].concat();
     let job = Job::new(16, &[("AB", b"1"), ("ABC", b"2")]).chain(chain);
-    let lit = job.unfiled(2, 4, 3);
+    let lit = job.unfiled(2, 4, 5);
     assert_eq!(listed(&lit.table), ["AB"]);
 }
 
@@ -317,7 +318,7 @@ fn sixteen_names_fit_a_chain_and_the_link_is_one_of_them() {
     let mut bench = Bench::grown(16, &["CRD .R"]);
     bench.grant("DUP .R .R:D", b"");
     let deep = |links: usize| format!(".R{}", ":D".repeat(links));
-    Job::on(&bench, &[("A", b"")]).chain(deep(14)).green(2);
+    Job::on(&bench, &[("A", b"")]).chain(deep(14)).green(4);
     Job::on(&bench, &[("A", b"")])
         .chain(deep(15))
         .unfiled(1, 7, 0);
@@ -362,12 +363,12 @@ fn what_is_refused_of_table_user_and_directory_is_red_at_sheet_1() {
 #[test]
 fn a_text_of_24001_bytes_and_of_65535_is_not_malformed_and_gets_10() {
     let job = Job::new(2_048, &[("A", b"1"), ("B", &[b'B'; 24_000])]);
-    let lit = job.green(3 + 1_002);
+    let lit = job.green(5 + 1_004);
     assert_eq!(lit.back, [b'B'; 24_000]);
     for length in [24_001, 65_535] {
         let text = vec![b'B'; length];
         let job = Job::new(2_048, &[("A", b"1"), ("B", &text)]);
-        let lit = job.unfiled(2, 10, 3);
+        let lit = job.unfiled(2, 10, 5);
         assert_eq!(listed(&lit.table), ["A"]);
     }
 }
@@ -376,8 +377,8 @@ fn a_text_of_24001_bytes_and_of_65535_is_not_malformed_and_gets_10() {
 fn a_sheet_displaces_a_file_of_its_name() {
     let bench = Bench::grown(32, &["CRD .R", "WRS L.P4 .R:A"]);
     let job = Job::on(&bench, &[("A", b"NEW"), ("B", b"")]);
-    // heading, text, entry; then the old heading and its two texts cleared
-    let lit = job.green(3 + 3 + 2);
+    // heading, text, entry; the counts of the old file and of the new one; then the old heading and its two texts cleared
+    let lit = job.green(3 + 2 + 3 + 4);
     let listing = Bench::of(lit.table).reply("LST .R");
     assert_eq!(listing, b"FM.U0    A\r\nFM.U0    B\r\n");
 }
@@ -389,9 +390,9 @@ fn a_full_directory_is_red_at_the_sheet_that_has_no_room() {
         bench.grant(&format!("DUP .R .R:N{number}"), b"");
     }
     let job = Job::on(&bench, &[("N7X", b""), ("ONEMORE", b"")]);
-    job.unfiled(2, 17, 2);
+    job.unfiled(2, 17, 4);
     let fewer = Job::on(&Bench::grown(5, &["CRD .R"]), &[("A", b"1"), ("B", b"2")]);
-    fewer.unfiled(2, 19, 3);
+    fewer.unfiled(2, 19, 5);
 }
 
 // "one stop number for the job,"
@@ -399,17 +400,17 @@ fn a_full_directory_is_red_at_the_sheet_that_has_no_room() {
 #[test]
 fn each_filing_gets_what_the_ones_before_left() {
     let job = Job::new(32, &[("A", b"1"), ("B", &[b'2'; 25]), ("C", b"")]);
-    let whole = job.green(3 + 4 + 2);
-    for stop in 0..9 {
+    let whole = job.green(5 + 6 + 4);
+    for stop in 0..15 {
         let sheet = match stop {
-            0..=2 => 1,
-            3..=6 => 2,
+            0..=4 => 1,
+            5..=10 => 2,
             _ => 3,
         };
         job.stop(stop).unfiled(sheet, 22, stop);
     }
-    for stop in [9, 10, u32::MAX] {
-        let lit = job.stop(stop).green(9); // exactly enough is no 22
+    for stop in [15, 16, u32::MAX] {
+        let lit = job.stop(stop).green(15); // exactly enough is no 22
         assert!(lit.table == whole.table && lit.back == whole.back);
     }
 }
@@ -418,11 +419,11 @@ fn each_filing_gets_what_the_ones_before_left() {
 fn a_refusal_other_than_22_stays_what_it_is_when_nothing_is_left() {
     let text = vec![b'B'; 24_001];
     let job = Job::new(16, &[("A", b"1"), ("B", &text)]);
-    job.stop(3).unfiled(2, 10, 3);
-    job.stop(2).unfiled(1, 22, 2);
+    job.stop(5).unfiled(2, 10, 5);
+    job.stop(4).unfiled(1, 22, 4);
     Job::new(5, &[("A", b"1"), ("B", b"2")])
-        .stop(3)
-        .unfiled(2, 19, 3);
+        .stop(5)
+        .unfiled(2, 19, 5);
     Job::new(16, &[("A", b"1")])
         .chain(".NONE")
         .stop(0)
@@ -435,9 +436,9 @@ fn a_refusal_other_than_22_stays_what_it_is_when_nothing_is_left() {
 fn the_sheets_after_the_one_that_failed_are_not_filed() {
     let bench = Bench::grown(64, &["CRD .R", "CRD .R:B", "CRD .R:B:D"]);
     let job = Job::on(&bench, &[("A", b"1"), ("B", b"2"), ("C", b"3")]);
-    let lit = job.unfiled(2, 18, 3);
+    let lit = job.unfiled(2, 18, 5);
     assert_eq!(listed(&lit.table), ["A", "B"]);
-    assert!(lit.table == job.first(1).green(3).table);
+    assert!(lit.table == job.first(1).green(5).table);
 }
 
 // "and if none, reads each back whole into a third lent buffer,"
@@ -446,7 +447,7 @@ fn the_sheets_after_the_one_that_failed_are_not_filed() {
 fn each_text_stands_over_the_front_of_what_the_last_one_left() {
     let mut job = Job::new(32, &[("A", b"ABCDEF"), ("B", b"xyz"), ("C", b"1")]);
     job.room = 8;
-    let lit = job.green(9);
+    let lit = job.green(15);
     assert_eq!(lit.back, *b"1yzDEF\xEE\xEE");
 }
 
@@ -454,7 +455,7 @@ fn each_text_stands_over_the_front_of_what_the_last_one_left() {
 fn a_buffer_that_is_just_long_enough_and_one_byte_shorter() {
     let mut job = Job::new(32, &[("A", b"12"), ("B", b"12345"), ("C", b"1234567")]);
     assert_eq!(job.room, 7);
-    job.green(9);
+    job.green(15);
     for (room, sheet) in [(6, 3), (5, 3), (4, 2), (2, 2), (1, 1), (0, 1)] {
         job.room = room;
         job.refused(sheet, 4);
@@ -469,15 +470,15 @@ fn a_link_of_the_chain_that_a_sheet_displaces_is_red_in_reading() {
     bench.grant("DUP .R .R:A", b"");
     let job = Job::on(&bench, &[("A", b"1")]).chain(".R:A");
     let lit = job.light();
-    assert_eq!(lit.numbers, [RED, 1, READING, 12, 3]);
+    assert_eq!(lit.numbers, [RED, 1, READING, 12, 5]);
     assert_eq!(lit.back, [UNTOUCHED]);
     assert_eq!(Bench::of(lit.table).reply("RDS .R:A"), b"1");
     // the one that displaces is the last; the first fails all the same
     let job = Job::on(&bench, &[("B", b"2"), ("A", b"1")]).chain(".R:A");
-    assert_eq!(job.light().numbers, [RED, 1, READING, 12, 6]);
+    assert_eq!(job.light().numbers, [RED, 1, READING, 12, 10]);
     // and if it is not the last, the next is not filed
     let job = Job::on(&bench, &[("A", b"1"), ("B", b"2")]).chain(".R:A");
-    job.unfiled(2, 12, 3);
+    job.unfiled(2, 12, 5);
 }
 
 // "A job without sheets is green and stores nothing."
@@ -506,7 +507,7 @@ fn a_job_without_sheets_is_green_on_any_table() {
 fn no_texts_and_no_buffer_are_fine_for_empty_sheets() {
     let job = Job::new(16, &[("A", b""), ("B", b"")]);
     assert_eq!((job.texts.len(), job.room), (0, 0));
-    job.green(4);
+    job.green(8);
 }
 
 // "Green exactly when every sheet was filed and read back with reply 0 and each text read back equals the text sent;
@@ -516,7 +517,7 @@ fn no_texts_and_no_buffer_are_fine_for_empty_sheets() {
 fn every_text_comes_back_byte_for_byte() {
     let every: Vec<u8> = (0..=255).collect();
     let job = Job::new(64, &[("A", &every), ("B", &[0; 24]), ("C", &[0; 25])]);
-    let lit = job.green(2 + 11 + 3 + 4);
+    let lit = job.green(4 + 11 + 5 + 6);
     let bench = Bench::of(lit.table);
     assert_eq!(bench.reply("RDS .R:A"), every);
     assert_eq!(bench.reply("RDS .R:C"), [0; 25]);
@@ -535,8 +536,8 @@ fn of_two_sheets_with_one_name_the_later_is_refused() {
     refused(&["A", "B", "B", "A"], 3);
     refused(&["ABCDEFGHIJ", "ABCDEFGHIJ"], 2);
     // names that only begin alike are two names
-    Job::new(32, &[("A", b""), ("AB", b""), ("ABC", b"")]).green(6);
-    Job::new(32, &[("ABCDEFGHI", b""), ("ABCDEFGHIJ", b"")]).green(4);
+    Job::new(32, &[("A", b""), ("AB", b""), ("ABC", b"")]).green(12);
+    Job::new(32, &[("ABCDEFGHI", b""), ("ABCDEFGHIJ", b"")]).green(8);
     // texts of other lengths do not make another name
     Job::new(32, &[("A", b"1"), ("A", b"12")]).refused(2, 2);
 }
@@ -563,16 +564,33 @@ fn every_cut_is_mended_to_the_first_sheets() {
         assert!(filed == sheet as usize - 1 || filed == sheet as usize);
         seen[filed] = true;
     }
-    assert_eq!(seen, [true, true, true, true, false]);
+    // after all four, too: the last is filed once its entry is, and its counts are mended
+    assert_eq!(seen, [true; 5]);
 }
 
 #[test]
 fn red_with_22_at_sheet_n_may_be_mended_to_n_sheets() {
     let bench = Bench::grown(32, &["CRD .R", "WRS M .R:B"]);
     let job = Job::on(&bench, &[("A", b"1"), ("B", b"2"), ("C", b"3")]);
-    // sheet 2: heading, text, entry, and the displaced file's heading and two texts
-    for (stop, filed) in [(5, 1), (6, 2), (7, 2), (8, 2), (9, 2)] {
-        let sheet = if stop < 9 { 2 } else { 3 };
+    // sheet 1: heading, text, entry, two counts; sheet 2: the same, and the displaced file's heading and two texts
+    for (stop, filed) in [
+        (2, 0),
+        (3, 1),
+        (4, 1),
+        (5, 1),
+        (7, 1),
+        (8, 2),
+        (9, 2),
+        (10, 2),
+        (11, 2),
+        (12, 2),
+        (13, 2),
+    ] {
+        let sheet = match stop {
+            0..=4 => 1,
+            5..=12 => 2,
+            _ => 3,
+        };
         let lit = job.stop(stop).unfiled(sheet, 22, stop);
         assert!(
             mended(&lit.table) == job.first(filed).light().table,
@@ -609,7 +627,7 @@ fn the_lamps_refusals_come_in_their_order_each_over_all_sheets() {
     job.texts = b"12345".to_vec();
     job.refused(1, 4);
     job.room = 1;
-    job.green(15);
+    job.green(25);
 }
 
 #[test]
@@ -621,7 +639,7 @@ fn the_first_text_that_is_not_wholly_there_is_refused() {
         job.refused(sheet, 3);
     }
     job.texts = b"12345".to_vec();
-    job.green(3 + 2 + 3 + 2);
+    job.green(5 + 4 + 5 + 4);
     // the longest length there is, and no bytes
     job.sheets[10..12].copy_from_slice(&[255, 255]);
     job.refused(1, 3);

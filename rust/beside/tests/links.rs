@@ -408,11 +408,11 @@ fn what_is_done_and_a_mend_have_no_link() {
     let mut bench = filled();
     assert_eq!(
         bench.grant("WRS M .R:D:X", b"").answer.numbers(),
-        [0, 0, 0, 1, 0, 0, 2]
+        [0, 0, 0, 1, 0, 0, 4]
     );
     assert_eq!(
         bench.grant("DEL .R:D:X B", b"").answer.numbers(),
-        [0, 0, 0, 2, 0, 0, 6]
+        [0, 0, 0, 2, 0, 0, 4 + 6]
     );
     // a heading that no entry names
     let cut = bench.stop(1).ask("CRD .R:D:X", b"");
@@ -428,29 +428,29 @@ fn what_is_done_and_a_mend_have_no_link() {
 #[test]
 fn a_later_name_of_a_del_has_its_own_link() {
     let bench = filled();
-    // A and B take four stores each
+    // A and B take six stores each
     for (line, numbers) in [
-        ("DEL .R:A .R:A", [11, 2, 2, 1, 0, 0, 4]),
-        ("DEL .R:A .R:D:X", [11, 2, 3, 1, 0, 0, 4]),
-        ("DEL .R:A B E:X:Y", [11, 3, 3, 2, 0, 0, 8]),
-        ("DEL .R:A B B", [11, 3, 2, 2, 0, 0, 8]),
-        ("DEL .R:A .R:D:F:X", [12, 2, 3, 1, 0, 0, 4]),
-        ("DEL .R:A .R:D", [18, 2, 2, 1, 0, 0, 4]),
-        ("DEL .R:A .R", [18, 2, 1, 1, 0, 0, 4]),
+        ("DEL .R:A .R:A", [11, 2, 2, 1, 0, 0, 6]),
+        ("DEL .R:A .R:D:X", [11, 2, 3, 1, 0, 0, 6]),
+        ("DEL .R:A B E:X:Y", [11, 3, 3, 2, 0, 0, 12]),
+        ("DEL .R:A B B", [11, 3, 2, 2, 0, 0, 12]),
+        ("DEL .R:A .R:D:F:X", [12, 2, 3, 1, 0, 0, 6]),
+        ("DEL .R:A .R:D", [18, 2, 2, 1, 0, 0, 6]),
+        ("DEL .R:A .R", [18, 2, 1, 1, 0, 0, 6]),
     ] {
         assert_eq!(bench.ask(line, b"").answer.numbers(), numbers, "{line}");
     }
     let mut bench = bench;
     bench.grant("DPR .R:D .1", b"");
     let seen = bench.ask("DEL .R:A .R:D:F", b"");
-    assert_eq!(seen.answer.numbers(), [14, 2, 3, 1, 0, 0, 4]);
+    assert_eq!(seen.answer.numbers(), [14, 2, 3, 1, 0, 0, 6]);
     let mut bench = filled();
     bench.grant("DPR .R:D .2", b"");
     let seen = bench.ask("DEL .R:A .R:D:F", b"");
-    assert_eq!(seen.answer.numbers(), [13, 2, 2, 1, 0, 0, 4]);
+    assert_eq!(seen.answer.numbers(), [13, 2, 2, 1, 0, 0, 6]);
     // the way is gone with the name before
     let seen = filled().ask("DEL E .R:D:F .R:D .R:D:F", b"");
-    assert_eq!(seen.answer.numbers(), [11, 4, 2, 3, 0, 0, 8]);
+    assert_eq!(seen.answer.numbers(), [11, 4, 2, 3, 0, 0, 4 + 6 + 4]);
 }
 
 // g: `.nnnnnn` "counts as that one name, link 1"

@@ -17,7 +17,7 @@ fn mends(records: &[[u8; 32]], stop: u32, number: u32, stores: u32, after: &[[u8
 fn a_sound_table_is_left_as_it_is() {
     mends(&[], UNCUT, 0, 0, &[]);
     mends(&[FREE; 5], 0, 0, 0, &[FREE; 5]);
-    let looped = [directory(), entry(0, 0, 0, 0, "A")];
+    let looped = [counts(directory(), 1, 1), entry(0, 0, 0, 0, "A")];
     mends(&looped, 0, 0, 0, &looped);
     let lines = ["CRD .R", "WRS M .R:A", "DUP .R .R:B", "CPY .R:A .G"];
     let mut table = Bench::grown(20, &lines).table;
@@ -66,7 +66,7 @@ fn all_headings_go_before_all_texts_each_by_record_number() {
 
 #[test]
 fn text_of_a_directory_of_an_entry_or_of_nothing_is_cleared() {
-    let file = [directory(), base(0, ".R")];
+    let file = [named(directory(), 1), base(0, ".R")];
     for heading in [0, 1, 2, 3, 2_048, 65_535] {
         let records = [file[0], file[1], text(heading, 0, b"T")];
         mends(&records, UNCUT, 0, 1, &[file[0], file[1], FREE]);
@@ -82,7 +82,7 @@ fn kind_type_and_mark_are_read_from_bytes_0_1_and_5_alone() {
     text[0] = 3;
     mends(&[heading, text], UNCUT, 0, 2, &[FREE; 2]);
     // Text of an unsound simple file that is named is kept: the result is not sound.
-    let mut odd = simple(4);
+    let mut odd = named(simple(4), 1);
     odd[31] = 1;
     let records = [odd, base(0, ".R"), common::text(0, 0, b"TEXT"), directory()];
     mends(&records, UNCUT, 2, 0, &records);
@@ -92,12 +92,12 @@ fn kind_type_and_mark_are_read_from_bytes_0_1_and_5_alone() {
     // An unsound entry names all the same.
     let mut odd = base(0, ".R");
     odd[31] = 1;
-    let records = [directory(), odd];
+    let records = [named(directory(), 1), odd];
     mends(&records, UNCUT, 2, 0, &records);
 }
 
 fn super_type() -> [u8; 32] {
-    let mut heading = simple(4);
+    let mut heading = named(simple(4), 1);
     heading[1] = 2;
     heading
 }
@@ -128,7 +128,10 @@ fn what_cannot_be_mended_gets_2_before_22_and_is_left_as_found() {
         }],
     ];
     for records in cases {
+        // with true counts, and with those that are to be corrected too
+        let counted = counted(&records);
         for stop in [0, 1, 2, UNCUT, u32::MAX] {
+            mends(&counted, stop, 2, 0, &counted);
             mends(&records, stop, 2, 0, &records);
         }
     }
@@ -142,7 +145,8 @@ fn the_second_step_sees_the_table_after_the_first() {
 
 #[test]
 fn an_entry_in_a_loop_keeps_its_heading() {
-    let records = [directory(), entry(0, 0, 0, 0, "A"), directory()];
+    let looped = counts(directory(), 1, 1);
+    let records = [looped, entry(0, 0, 0, 0, "A"), directory()];
     mends(&records, UNCUT, 0, 1, &[records[0], records[1], FREE]);
 }
 
@@ -168,18 +172,20 @@ fn grown(dice: &mut Dice) -> Vec<u8> {
     bench.table
 }
 
-/// Some damage: debris of headings and texts, records cleared, bytes changed.
+/// Some damage: debris of headings and texts, records cleared, headings marked or with other counts, bytes changed.
 fn damage(dice: &mut Dice, table: &mut [u8]) {
     for _ in 0..=dice.below(4) {
         let at = dice.below(table.len() / 32) * 32;
         let number = dice.below(30) as u16;
         let record = &mut table[at..at + 32];
-        match dice.below(6) {
+        match dice.below(9) {
             0 if record[0] == 0 => record.copy_from_slice(&simple(number)),
             1 if record[0] == 0 => record.copy_from_slice(&directory()),
             0..=2 if record[0] == 0 => record.copy_from_slice(&text(number, number % 3, b"T")),
             3 => record.fill(0),
-            4 if record[0] == 1 => mark(record),
+            4 | 5 if record[0] == 1 => mark(record),
+            6 | 7 if record[0] == 1 => record[12 + dice.below(4)] = dice.below(4) as u8,
+            4..=7 => {}
             _ => record[dice.below(32)] = dice.below(256) as u8,
         }
     }
@@ -191,17 +197,26 @@ fn mark(heading: &mut [u8]) {
     heading[10..12].fill(0);
 }
 
-/// Each record is as before, or was a heading or a text and is cleared.
-fn only_cleared(before: &[u8], after: &[u8]) -> usize {
-    let mut cleared = 0;
+/// Each record is as before, or was a heading or a text and is cleared, or is a heading with other counts: how many of the
+/// second kind there are, and of the third.
+fn only_mended(before: &[u8], after: &[u8]) -> [usize; 2] {
+    let mut mended = [0; 2];
     for (before, after) in before.chunks(32).zip(after.chunks(32)) {
-        if before != after {
+        if before == after {
+            continue;
+        }
+        if after == FREE {
             assert!(before[0] == 1 || before[0] == 3);
-            assert_eq!(after, FREE);
-            cleared += 1;
+            mended[0] += 1;
+        } else {
+            let counts = if before[1] == 0 { 12..16 } else { 12..14 };
+            assert_eq!((before[0], after[0]), (1, 1));
+            assert_eq!(before[..counts.start], after[..counts.start]);
+            assert_eq!(before[counts.end..], after[counts.end..]);
+            mended[1] += 1;
         }
     }
-    cleared
+    mended
 }
 
 #[test]
@@ -210,6 +225,7 @@ fn tables_damaged_at_random() {
     println!("seed {seed}");
     let mut dice = Dice(seed);
     let (mut mended, mut untouched, mut lost, mut marked) = (0, 0, 0, 0);
+    let (mut recounted, mut both) = (0, 0);
     for _ in 0..20_000 {
         let mut table = grown(&mut dice);
         damage(&mut dice, &mut table);
@@ -222,7 +238,10 @@ fn tables_damaged_at_random() {
             }
             [0, 0, 0, 0, 0, 0, stores] => {
                 assert!(sound(&table));
-                assert_eq!(only_cleared(&before, &table), stores as usize);
+                let [cleared, counts] = only_mended(&before, &table);
+                assert_eq!(cleared + counts, stores as usize);
+                recounted += usize::from(counts > 0);
+                both += usize::from(cleared > 0 && counts > 0);
                 assert_eq!(stores == 0, sound(&before));
                 let is_marked = |record: &[u8]| record[0] == 1 && record[5] == 1;
                 marked += usize::from(stores > 0 && table.chunks(32).any(is_marked));
@@ -237,7 +256,9 @@ fn tables_damaged_at_random() {
         }
     }
     println!("mended {mended}, with a marked file {marked}, sound as it was {untouched}, not to be mended {lost}");
+    println!("counts corrected {recounted}, after clearing {both}");
     assert!(mended > 2_000 && marked > 100 && untouched > 500 && lost > 5_000);
+    assert!(recounted > 1_000 && both > 300);
 }
 
 /// "a mend cut anywhere and run again ends as an uncut one."
@@ -245,7 +266,10 @@ fn cut_everywhere(before: &[u8], after: &[u8], stores: u32) {
     for stop in 0..stores {
         let mut table = before.to_vec();
         assert_eq!(mend(&mut table, stop), answer([22, 0, 0, 0, 0, 0, stop]));
-        assert_eq!(only_cleared(before, &table), stop as usize);
+        // first what is cleared, then what is counted
+        let [cleared, counts] = only_mended(before, &table);
+        assert_eq!(cleared + counts, stop as usize);
+        assert!(counts == 0 || cleared == only_mended(before, after)[0]);
         let left = stores - stop;
         assert_eq!(mend(&mut table, left), answer([0, 0, 0, 0, 0, 0, left]));
         assert_eq!(table, after);

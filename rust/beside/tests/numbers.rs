@@ -18,17 +18,20 @@ fn letters(number: usize) -> String {
 fn number_00_done_crd() {
     let mut bench = filled();
     let seen = bench.grant("CRD .R:E .S6", b"");
-    assert_eq!(seen.answer, answer([0, 0, 0, 1, 0, 0, 2]));
-    assert_eq!(record(&bench.table, 12), heading(0, 3, 6, 1, 0));
+    // Heading and entry; then the counts of `.R`, which holds A, D and E, and of E.
+    assert_eq!(seen.answer, answer([0, 0, 0, 1, 0, 0, 4]));
+    assert_eq!(record(&bench.table, 12), named(heading(0, 3, 6, 1, 0), 1));
     assert_eq!(record(&bench.table, 13), entry(6, 0, 12, 0, "E"));
+    assert_eq!(record(&bench.table, 0), counts(directory(), 1, 3));
 }
 
 #[test]
 fn number_00_done_wrs() {
     let mut bench = Bench::grown(16, &["CRD .W"]);
     let seen = bench.grant("WRS L.A3 NOTE", TEXT);
-    assert_eq!(seen.answer, answer([0, 0, 0, 1, 0, 0, 4]));
-    assert_eq!(record(&bench.table, 2), heading(1, 2, 3, 2, 30));
+    assert_eq!(seen.answer, answer([0, 0, 0, 1, 0, 0, 6]));
+    assert_eq!(record(&bench.table, 0), counts(directory(), 1, 1));
+    assert_eq!(record(&bench.table, 2), named(heading(1, 2, 3, 2, 30), 1));
     assert_eq!(record(&bench.table, 3), text(2, 0, &TEXT[..24]));
     assert_eq!(record(&bench.table, 4), text(2, 1, &TEXT[24..]));
     assert_eq!(record(&bench.table, 5), entry(3, 0, 2, 0, "NOTE"));
@@ -39,8 +42,9 @@ fn number_00_done_wrs_displaced() {
     let mut bench = filled();
     // A is heading 2, texts 3 and 4, entry 5; the free records begin at 12.
     let seen = bench.grant("WRS M .R:A", b"NEW");
-    assert_eq!(seen.answer, answer([0, 0, 0, 1, 1, 0, 6]));
-    assert_eq!(record(&bench.table, 12), simple(3));
+    // Three stores of the new file, the counts of the old file and of the new one, and three clearings.
+    assert_eq!(seen.answer, answer([0, 0, 0, 1, 1, 0, 8]));
+    assert_eq!(record(&bench.table, 12), named(simple(3), 1));
     assert_eq!(record(&bench.table, 13), text(12, 0, b"NEW"));
     assert_eq!(record(&bench.table, 5), entry(0, 0, 12, 0, "A"));
     for freed in 2..5 {
@@ -63,11 +67,11 @@ fn number_00_done_cpy() {
     let mut bench = Bench::grown(16, &["CRD .R", "WRS L.P5 .R:A"]);
     // "CPY may have M or L, else takes the source's. Level: given, else ... the source's. Code: given, else 0."
     let seen = bench.grant("CPY .R:A .R:B", b"");
-    assert_eq!(seen.answer, answer([0, 0, 0, 1, 0, 0, 4]));
-    assert_eq!(record(&bench.table, 6), heading(1, 1, 0, 2, 30));
+    assert_eq!(seen.answer, answer([0, 0, 0, 1, 0, 0, 6]));
+    assert_eq!(record(&bench.table, 6), named(heading(1, 1, 0, 2, 30), 1));
     assert_eq!(record(&bench.table, 9), entry(0, 0, 6, 0, "B"));
     bench.grant("CPY .R:A .R:C M.S1", b"");
-    assert_eq!(record(&bench.table, 10), heading(1, 3, 1, 1, 30));
+    assert_eq!(record(&bench.table, 10), named(heading(1, 3, 1, 1, 30), 1));
     assert_eq!(record(&bench.table, 13), entry(1, 0, 10, 0, "C"));
 }
 
@@ -77,8 +81,11 @@ fn number_00_done_dup() {
     bench.grant("DPR .R:A .6", b"");
     // The code is the old entry's (2) joined with the declared one (1); the heading's (6) is not in it.
     let seen = bench.grant("DUP .R:A .R:B .1", b"");
-    assert_eq!(seen.answer, answer([0, 0, 0, 1, 0, 0, 1]));
+    // The entry, and the counts of `.R` and of the file, which two entries name now.
+    assert_eq!(seen.answer, answer([0, 0, 0, 1, 0, 0, 3]));
     assert_eq!(record(&bench.table, 6), entry(3, 0, 2, 0, "B"));
+    assert_eq!(record(&bench.table, 0), counts(directory(), 1, 2));
+    assert_eq!(record(&bench.table, 2), named(heading(1, 0, 6, 1, 30), 2));
 }
 
 #[test]
@@ -96,7 +103,9 @@ fn number_00_done_chn() {
 fn number_00_done_del() {
     let mut bench = filled();
     let seen = bench.grant("DEL .R:D:F .R:D .R:A .R", b"");
-    assert_eq!(seen.answer, answer([0, 0, 0, 4, 0, 0, 12]));
+    // F: entry, counts of D and F, heading, two texts; D: entry, counts of `.R` and D, heading; A as F; `.R`: entry, its
+    // count, heading.
+    assert_eq!(seen.answer, answer([0, 0, 0, 4, 0, 0, 6 + 4 + 6 + 3]));
     assert!(bench.table.iter().all(|byte| *byte == 0));
 }
 
@@ -105,7 +114,7 @@ fn number_00_done_dpr() {
     let mut bench = filled();
     let seen = bench.grant("DPR .R:A .4", b"");
     assert_eq!(seen.answer, answer([0, 0, 0, 1, 0, 0, 1]));
-    assert_eq!(record(&bench.table, 2), heading(1, 0, 4, 1, 30));
+    assert_eq!(record(&bench.table, 2), named(heading(1, 0, 4, 1, 30), 1));
     assert_eq!(record(&bench.table, 5), entry(0, 0, 2, 0, "A"));
 }
 
@@ -259,7 +268,7 @@ fn number_08_illegal_base_name() {
     }
     for name in ["...", ".RR", ".R.", ".ABCDEFGHI", ".G", ".T", ".W"] {
         let seen = bench.ask(format!("CRD {name}"), b"");
-        assert_eq!(seen.answer, answer([0, 0, 0, 1, 0, 0, 2]), "{name}");
+        assert_eq!(seen.answer, answer([0, 0, 0, 1, 0, 0, 3]), "{name}");
     }
 }
 
@@ -339,9 +348,9 @@ fn number_10_wrs_text_above_24000() {
     bench.refuse("WRS M .R:A", &text, 10, 0);
     // The text is WRS's alone, and whatever it is at other functions.
     let seen = bench.ask("CRD .R:A", &text);
-    assert_eq!(seen.answer, answer([0, 0, 0, 1, 0, 0, 2]));
+    assert_eq!(seen.answer, answer([0, 0, 0, 1, 0, 0, 4]));
     let seen = bench.ask("WRS M .R:A", &text[..24_000]);
-    assert_eq!(seen.answer, answer([0, 0, 0, 1, 0, 0, 1_002]));
+    assert_eq!(seen.answer, answer([0, 0, 0, 1, 0, 0, 1_004]));
 }
 
 #[test]
@@ -425,7 +434,7 @@ fn number_14_write_inhibited_directory() {
     bench.refuse("CHN .R:E:F G", b"", 14, 1);
     bench.refuse("DEL .R:E:F", b"", 14, 1);
     let seen = bench.ask("DEL .R:A .R:E:F", b"");
-    assert_eq!(seen.answer, answer([14, 2, 3, 1, 0, 0, 4]));
+    assert_eq!(seen.answer, answer([14, 2, 3, 1, 0, 0, 6]));
     // By the heading.
     let mut bench = filled();
     bench.grant("DPR .R:D .1", b"");
@@ -477,8 +486,9 @@ fn number_17_directory_full() {
     bench.refuse("CPY .G .R:NEW", b"", 17, 2);
     bench.refuse("DUP .G .R:NEW", b"", 17, 2);
     // Displacing, renaming and deleting go on.
+    // Heading and entry; the counts of the file that AB named and of the new one, while `.R` holds as many as before.
     let seen = bench.ask("CRD .R:AB", b"");
-    assert_eq!(seen.answer, answer([0, 0, 0, 1, 1, 0, 2]));
+    assert_eq!(seen.answer, answer([0, 0, 0, 1, 1, 0, 4]));
     bench.grant("CHN .R:AA NEW", b"");
     bench.grant("DEL .R:NEW", b"");
     bench.grant("CRD .R:NEW", b"");
@@ -514,20 +524,20 @@ fn number_18_directory_with_entries_would_lose_its_last() {
     bench.refuse("DUP .R:A .R:D", b"", 18, 2);
     bench.refuse("DUP .R .R:D", b"", 18, 2);
     let seen = bench.ask("DEL .R:A .R:D", b"");
-    assert_eq!(seen.answer, answer([18, 2, 2, 1, 0, 0, 4]));
+    assert_eq!(seen.answer, answer([18, 2, 2, 1, 0, 0, 6]));
     // The same file loses nothing.
     let seen = bench.ask("DUP .R:D .R:D .4", b"");
     assert_eq!(seen.answer, answer([0, 0, 0, 1, 1, 0, 1]));
-    // With another entry it is not the last.
+    // With another entry it is not the last: the counts of `.R` and D, and of A and D.
     bench.grant("DUP .R:D .G", b"");
     let seen = bench.ask("DEL .R:D", b"");
-    assert_eq!(seen.answer, answer([0, 0, 0, 1, 0, 0, 1]));
+    assert_eq!(seen.answer, answer([0, 0, 0, 1, 0, 0, 3]));
     let seen = bench.ask("DUP .R:A .R:D", b"");
-    assert_eq!(seen.answer, answer([0, 0, 0, 1, 1, 0, 1]));
+    assert_eq!(seen.answer, answer([0, 0, 0, 1, 1, 0, 3]));
     // Without entries a directory goes.
     bench.grant("DEL .R:D:F .G", b"");
     let seen = bench.ask("CRD .R:D", b"");
-    assert_eq!(seen.answer, answer([0, 0, 0, 1, 1, 0, 3]));
+    assert_eq!(seen.answer, answer([0, 0, 0, 1, 1, 0, 5]));
 }
 
 #[test]
@@ -551,13 +561,14 @@ fn number_19_fewer_free_records_than_needed() {
         );
         assert!(sound(&seen.table));
     };
-    granted(10, "WRS M .R:B", 4);
-    granted(10, "CPY .R:A .R:B", 4);
-    granted(9, "WRS M .R:A", 7);
-    granted(9, "CPY .R:A .R:A", 7);
-    granted(8, "CRD .R:B", 2);
-    granted(7, "CRD .R:A", 5);
-    granted(7, "DUP .R:A .R:B", 1);
+    // Counts need no record: two stores more wherever a name is another file's than before.
+    granted(10, "WRS M .R:B", 6);
+    granted(10, "CPY .R:A .R:B", 6);
+    granted(9, "WRS M .R:A", 9);
+    granted(9, "CPY .R:A .R:A", 9);
+    granted(8, "CRD .R:B", 4);
+    granted(7, "CRD .R:A", 7);
+    granted(7, "DUP .R:A .R:B", 3);
     granted(6, "DUP .R:A .R:A", 1);
 }
 
@@ -605,10 +616,12 @@ fn number_21_new_code_lacks_a_bit() {
 fn number_22_stop_number_reached() {
     let bench = filled();
     // The displaced file is heading 2 with texts 3 and 4; the free records begin at 12.
-    let stores: [(usize, [u8; 32]); 6] = [
+    let stores: [(usize, [u8; 32]); 8] = [
         (12, simple(3)),
         (13, text(12, 0, b"NEW")),
         (5, entry(0, 0, 12, 0, "A")),
+        (2, simple(30)),
+        (12, named(simple(3), 1)),
         (2, FREE),
         (3, FREE),
         (4, FREE),
@@ -621,21 +634,21 @@ fn number_22_stop_number_reached() {
         assert!(seen.untouched());
         expected[number * 32..number * 32 + 32].copy_from_slice(record);
     }
-    let seen = bench.stop(6).ask("WRS M .R:A", b"NEW");
-    assert_eq!(seen.answer, answer([0, 0, 0, 1, 1, 0, 6]));
+    let seen = bench.stop(8).ask("WRS M .R:A", b"NEW");
+    assert_eq!(seen.answer, answer([0, 0, 0, 1, 1, 0, 8]));
     assert_eq!(seen.table, expected);
 }
 
 #[test]
 fn number_22_in_a_del() {
     let bench = filled();
-    // A's four stores, then D:F's four, then D's two.
-    for stop in 0..10 {
+    // A's six stores, then D:F's six, then D's four.
+    for stop in 0..16 {
         let seen = bench.stop(stop).ask("DEL .R:A .R:D:F .R:D", b"");
-        assert_eq!(seen.answer, answer([22, 0, 0, stop / 4, 0, 0, stop]));
+        assert_eq!(seen.answer, answer([22, 0, 0, stop / 6, 0, 0, stop]));
     }
-    let seen = bench.stop(10).ask("DEL .R:A .R:D:F .R:D", b"");
-    assert_eq!(seen.answer, answer([0, 0, 0, 3, 0, 0, 10]));
+    let seen = bench.stop(16).ask("DEL .R:A .R:D:F .R:D", b"");
+    assert_eq!(seen.answer, answer([0, 0, 0, 3, 0, 0, 16]));
 }
 
 #[test]

@@ -57,9 +57,9 @@ fn a_short_script() {
         DEL .R:AUDIT .R:AUDIT\n\
         CPY .R:BOARD7 .R:BOARD7\n\
         NO SUCH LINE\n";
-    let expected = b"0 0 0 1 0 0 2\n\
+    let expected = b"0 0 0 1 0 0 3\n\
+        0 0 0 1 0 0 6\n\
         0 0 0 1 0 0 4\n\
-        0 0 0 1 0 0 2\n\
         0 0 0 1 1 0 1\n\
         0 0 0 1 0 33 0\n\
         FL.P1    AUDIT\r\nFM.U0    BOARD7\r\n\
@@ -69,8 +69,8 @@ fn a_short_script() {
         0 0 0 1 0 13 0\n\
         DM.U0    .R\r\n\
         7 1 2 0 0 0 0\n\
-        11 2 2 1 0 0 4\n\
-        0 0 0 1 1 0 3\n\
+        11 2 2 1 0 0 6\n\
+        0 0 0 1 1 0 5\n\
         5 0 0 0 0 0 0\n";
     prints(input, expected);
 }
@@ -82,15 +82,15 @@ fn empty_input() {
 
 #[test]
 fn no_newline_at_the_end() {
-    prints(b"CRD .R", b"0 0 0 1 0 0 2\n");
+    prints(b"CRD .R", b"0 0 0 1 0 0 3\n");
     prints(
         b"CRD .R\nLST .",
-        b"0 0 0 1 0 0 2\n0 0 0 1 0 13 0\nDM.U0    .R\r\n",
+        b"0 0 0 1 0 0 3\n0 0 0 1 0 13 0\nDM.U0    .R\r\n",
     );
-    prints(b"WRS M .R", b"0 0 0 1 0 0 2\n");
-    prints(b"WRS M .R\n", b"0 0 0 1 0 0 2\n");
-    prints(b"WRS M .R\n\n", b"0 0 0 1 0 0 2\n");
-    prints(b"WRS M .R\nTEXT", b"0 0 0 1 0 0 3\n");
+    prints(b"WRS M .R", b"0 0 0 1 0 0 3\n");
+    prints(b"WRS M .R\n", b"0 0 0 1 0 0 3\n");
+    prints(b"WRS M .R\n\n", b"0 0 0 1 0 0 3\n");
+    prints(b"WRS M .R\nTEXT", b"0 0 0 1 0 0 4\n");
 }
 
 #[test]
@@ -107,7 +107,7 @@ fn nul_bytes_and_other_bytes() {
     );
     let text: Vec<u8> = (0..=255).filter(|byte| *byte != 10).collect();
     let input = [b"WRS M .R\n", text.as_slice(), b"\nRDS .R\n"].concat();
-    let expected = [b"0 0 0 1 0 0 13\n0 0 0 1 0 255 0\n", text.as_slice()].concat();
+    let expected = [b"0 0 0 1 0 0 14\n0 0 0 1 0 255 0\n", text.as_slice()].concat();
     prints(&input, &expected);
 }
 
@@ -116,19 +116,19 @@ fn a_line_of_100000_bytes() {
     let long = vec![b'A'; 100_000];
     prints(
         &[&long[..], b"\nCRD .R\n"].concat(),
-        b"4 0 0 0 0 0 0\n0 0 0 1 0 0 2\n",
+        b"4 0 0 0 0 0 0\n0 0 0 1 0 0 3\n",
     );
     // As a text it is too long, and as a WRS line it takes the next line with it.
     let input = [b"WRS M .R\n", &long[..], b"\nCRD .R\n"].concat();
-    prints(&input, b"10 0 0 0 0 0 0\n0 0 0 1 0 0 2\n");
+    prints(&input, b"10 0 0 0 0 0 0\n0 0 0 1 0 0 3\n");
     let input = [b"WRS M ", &long[..], b"\nCRD .R\nCRD .G\n"].concat();
-    prints(&input, b"4 0 0 0 0 0 0\n0 0 0 1 0 0 2\n");
+    prints(&input, b"4 0 0 0 0 0 0\n0 0 0 1 0 0 3\n");
 }
 
 #[test]
 fn a_refused_wrs_takes_the_next_line_too() {
     let input = b"WRS\nCRD .R\nWRS M .1\nCRD .R\nWRS m\nCRD .R\nWRS :A\nCRD .R\n";
-    let expected = b"6 0 0 0 0 0 0\n8 2 1 0 0 0 0\n4 0 0 0 0 0 0\n5 0 0 0 0 0 0\n0 0 0 1 0 0 2\n";
+    let expected = b"6 0 0 0 0 0 0\n8 2 1 0 0 0 0\n4 0 0 0 0 0 0\n5 0 0 0 0 0 0\n0 0 0 1 0 0 3\n";
     prints(input, expected);
 }
 
@@ -154,9 +154,9 @@ fn a_rewrite_takes_the_next_line_as_its_text_refused_or_not() {
         \n\
         RDS .R:LIMITS\n\
         WRS* M .R:LIMITS";
-    let expected = b"0 0 0 1 0 0 2\n\
+    let expected = b"0 0 0 1 0 0 3\n\
+        0 0 0 1 0 0 5\n\
         0 0 0 1 0 0 3\n\
-        0 0 0 1 0 0 1\n\
         0 0 0 1 0 0 5\n\
         0 0 0 1 0 30 0\n\
         4.9 V to 5.1 V, from week 3 on\
@@ -185,7 +185,7 @@ fn the_longest_text_goes_in_and_comes_out() {
     ]
     .concat();
     let expected = [
-        b"0 0 0 1 0 0 1002\n0 0 0 1 0 24000 0\n",
+        b"0 0 0 1 0 0 1003\n0 0 0 1 0 24000 0\n",
         &text[..],
         b"19 0 0 0 0 0 0\n",
     ]
@@ -197,14 +197,14 @@ fn the_longest_text_goes_in_and_comes_out() {
 fn the_table_has_1024_records() {
     // .R takes two records and so does each directory after it: 511 more fit.
     let mut input = String::from("CRD .R\n");
-    let mut expected = String::from("0 0 0 1 0 0 2\n");
+    let mut expected = String::from("0 0 0 1 0 0 3\n");
     for at in 0..600 {
         input += &match at % 101 {
             0 => format!("CRD .R:D{}\n", at / 101),
             rest => format!("CRD .R:D{}:N{rest}\n", at / 101),
         };
         expected += if at < 511 {
-            "0 0 0 1 0 0 2\n"
+            "0 0 0 1 0 0 4\n"
         } else {
             "19 0 0 0 0 0 0\n"
         };

@@ -21,12 +21,17 @@ fn of(records: &[[u8; 32]]) -> Bench {
     Bench::of(records.concat())
 }
 
+/// The heading of a sheet of so many bytes that two entries name.
+fn sheet(length: u16) -> [u8; 32] {
+    named(simple(length), 2)
+}
+
 /// A directory `.R` with a sheet A of thirty bytes, its text from record 3 on; B is another entry of it. Two records are free.
 fn filed() -> Vec<[u8; 32]> {
     vec![
-        directory(),
+        counts(directory(), 1, 2),
         base(0, ".R"),
-        simple(30),
+        sheet(30),
         text(2, 0, &TEXT[..24]),
         text(2, 1, &TEXT[24..]),
         entry(0, 0, 2, 0, "A"),
@@ -39,7 +44,7 @@ fn filed() -> Vec<[u8; 32]> {
 /// The same with the sheet marked and empty.
 fn emptied() -> Vec<[u8; 32]> {
     let mut records = filed();
-    records[2] = marked(simple(0));
+    records[2] = marked(sheet(0));
     records[3..5].fill(FREE);
     records
 }
@@ -159,11 +164,11 @@ fn the_heading_keeps_its_level_and_codes() {
     for level in 0..4 {
         for code in [0, 2, 4, 6] {
             let mut records = filed();
-            records[2] = heading(1, level, code, 1, 30);
+            records[2] = named(heading(1, level, code, 1, 30), 2);
             records[5] = entry(4, 0, 2, 0, "A");
             let mut bench = of(&records);
             bench.grant("WRS* M .R:A", b"NEW");
-            records[2] = heading(1, level, code, 1, 3);
+            records[2] = named(heading(1, level, code, 1, 3), 2);
             records[3] = text(2, 0, b"NEW");
             records[4] = FREE;
             assert_eq!(bench.table, records.concat());
@@ -252,11 +257,11 @@ fn nothing_is_asked_of_the_directory_nor_read_of_the_file() {
 #[test]
 fn a_shorter_text_store_by_store() {
     let expected = [
-        (2, marked(simple(0))),
+        (2, marked(sheet(0))),
         (3, FREE),
         (4, FREE),
         (3, text(2, 0, b"5.0 V")),
-        (2, simple(5)),
+        (2, sheet(5)),
     ];
     stores(&filed(), "WRS* M .R:A", b"5.0 V", &expected);
     // by another entry of the same file
@@ -267,14 +272,14 @@ fn a_shorter_text_store_by_store() {
 fn a_longer_text_store_by_store() {
     let long = bytes(73);
     let expected = [
-        (2, marked(simple(0))),
+        (2, marked(sheet(0))),
         (3, FREE),
         (4, FREE),
         (3, text(2, 0, &long[..24])),
         (4, text(2, 1, &long[24..48])),
         (7, text(2, 2, &long[48..72])),
         (8, text(2, 3, &long[72..])),
-        (2, simple(73)),
+        (2, sheet(73)),
     ];
     stores(&filed(), "WRS* M .R:A", &long, &expected);
 }
@@ -283,32 +288,32 @@ fn a_longer_text_store_by_store() {
 fn old_text_is_cleared_by_position_and_new_text_goes_to_the_lowest_records() {
     // the second block stands before the first one, and a free record before both
     let records = [
-        directory(),
+        counts(directory(), 1, 1),
         base(0, ".R"),
         FREE,
         text(5, 1, &TEXT[24..]),
         text(5, 0, &TEXT[..24]),
-        simple(30),
+        named(simple(30), 1),
         entry(0, 0, 5, 0, "A"),
     ];
     let new = bytes(49);
     let expected = [
-        (5, marked(simple(0))),
+        (5, marked(named(simple(0), 1))),
         (4, FREE),
         (3, FREE),
         (2, text(5, 0, &new[..24])),
         (3, text(5, 1, &new[24..48])),
         (4, text(5, 2, &new[48..])),
-        (5, simple(49)),
+        (5, named(simple(49), 1)),
     ];
     stores(&records, "WRS* M .R:A", &new, &expected);
     // a text of one block leaves the higher records free
     let expected = [
-        (5, marked(simple(0))),
+        (5, marked(named(simple(0), 1))),
         (4, FREE),
         (3, FREE),
         (2, text(5, 0, b"NEW")),
-        (5, simple(3)),
+        (5, named(simple(3), 1)),
     ];
     stores(&records, "WRS* M .R:A", b"NEW", &expected);
 }
@@ -316,12 +321,12 @@ fn old_text_is_cleared_by_position_and_new_text_goes_to_the_lowest_records() {
 #[test]
 fn the_same_text_takes_all_stores() {
     let expected = [
-        (2, marked(simple(0))),
+        (2, marked(sheet(0))),
         (3, FREE),
         (4, FREE),
         (3, text(2, 0, &TEXT[..24])),
         (4, text(2, 1, &TEXT[24..])),
-        (2, simple(30)),
+        (2, sheet(30)),
     ];
     stores(&filed(), "WRS* M .R:A", TEXT, &expected);
 }
@@ -329,29 +334,25 @@ fn the_same_text_takes_all_stores() {
 #[test]
 fn no_bytes_onto_none_is_two_stores() {
     let mut records = filed();
-    records[2] = simple(0);
+    records[2] = sheet(0);
     records[3..5].fill(FREE);
-    let both = [(2, marked(simple(0))), (2, simple(0))];
+    let both = [(2, marked(sheet(0))), (2, sheet(0))];
     stores(&records, "WRS* M .R:A", b"", &both);
     // and a text of one byte onto none, and none onto one of thirty
-    let expected = [
-        (2, marked(simple(0))),
-        (3, text(2, 0, b"X")),
-        (2, simple(1)),
-    ];
+    let expected = [(2, marked(sheet(0))), (3, text(2, 0, b"X")), (2, sheet(1))];
     stores(&records, "WRS* M .R:A", b"X", &expected);
-    let expected = [(2, marked(simple(0))), (3, FREE), (4, FREE), (2, simple(0))];
+    let expected = [(2, marked(sheet(0))), (3, FREE), (4, FREE), (2, sheet(0))];
     stores(&filed(), "WRS* M .R:A", b"", &expected);
 }
 
 #[test]
 fn a_base_file_is_rewritten() {
-    let records = [simple(3), base(0, ".ABC"), text(0, 0, b"OLD")];
+    let records = [named(simple(3), 1), base(0, ".ABC"), text(0, 0, b"OLD")];
     let expected = [
-        (0, marked(simple(0))),
+        (0, marked(named(simple(0), 1))),
         (2, FREE),
         (2, text(0, 0, b"NEWER")),
-        (0, simple(5)),
+        (0, named(simple(5), 1)),
     ];
     stores(&records, "WRS* M .ABC", b"NEWER", &expected);
 }
@@ -419,7 +420,7 @@ fn every_cut_between_mends_to_the_file_marked_and_empty() {
         cut_everywhere(&emptied(), "WRS* M .R:B", &bytes(length), &emptied(), 0);
     }
     let mut none = filed();
-    none[2] = simple(0);
+    none[2] = sheet(0);
     none[3..5].fill(FREE);
     cut_everywhere(&none, "WRS* M .R:A", &bytes(50), &emptied(), 0);
 }
@@ -427,14 +428,15 @@ fn every_cut_between_mends_to_the_file_marked_and_empty() {
 #[test]
 fn another_file_is_left_by_a_cut() {
     let mut records = filed();
-    records[7] = simple(0);
+    records[0] = counts(directory(), 1, 3);
+    records[7] = named(simple(0), 1);
     records[8] = entry(0, 0, 7, 0, "C");
     let mut empty = records.clone();
-    empty[2] = marked(simple(0));
+    empty[2] = marked(sheet(0));
     empty[3..5].fill(FREE);
     cut_everywhere(&records, "WRS* M .R:A", b"NEW", &empty, 2);
     // one that is marked too
-    records[7] = marked(simple(0));
+    records[7] = marked(named(simple(0), 1));
     empty[7] = records[7];
     cut_everywhere(&records, "WRS* M .R:A", b"NEW", &empty, 2);
 }
@@ -488,7 +490,7 @@ fn the_mark_is_byte_5_alone() {
         heading(2, 0, 0, 1, 0),
     ] {
         let mut records = filed();
-        records[2] = marked(heading);
+        records[2] = marked(named(heading, 2));
         is_beyond_mending(&records);
     }
 }
@@ -499,7 +501,7 @@ fn the_mark_is_byte_5_alone() {
 fn a_marked_file_is_sound_if_it_is_simple_medium_and_empty() {
     let with = |heading| {
         let mut records = emptied();
-        records[2] = heading;
+        records[2] = named(heading, 2);
         records
     };
     for level in 0..4 {
@@ -527,13 +529,13 @@ fn a_marked_file_is_sound_if_it_is_simple_medium_and_empty() {
     }
     // with its text there, and with the length of that too
     let mut records = filed();
-    records[2] = marked(simple(30));
+    records[2] = marked(sheet(30));
     of(&records).refuse_at("LST .", 2, 0, 0);
-    records[2] = marked(simple(0));
+    records[2] = marked(sheet(0));
     of(&records).refuse_at("LST .", 2, 0, 0);
     // a mark on `.R` itself
     let mut records = filed();
-    records[0] = marked(directory());
+    records[0] = marked(records[0]);
     of(&records).refuse_at("LST .", 2, 0, 0);
 }
 
@@ -600,35 +602,37 @@ fn number_23_in_its_place_among_the_others() {
     crowded.refuse_at("CPY .R:A .R:NEW", 17, 2, 2);
     crowded.refuse_at("CPY .R:A .R:N1", 23, 1, 2);
     let mut emptied = emptied();
-    emptied[3] = simple(0);
+    emptied[0] = counts(directory(), 1, 3);
+    emptied[3] = named(simple(0), 1);
     emptied[4] = entry(0, 0, 3, 0, "C");
     full(&emptied).refuse_at("CPY .R:A .R:D", 19, 0, 0);
     full(&emptied).refuse_at("CPY .R:A .R:C", 19, 0, 0);
     full(&emptied).refuse_at("RDS .R:A", 23, 1, 2);
     let mut secret = self::emptied();
-    secret[2] = marked(heading(1, 3, 0, 1, 0));
+    secret[2] = marked(named(heading(1, 3, 0, 1, 0), 2));
     of(&secret).refuse_at("CPY .R:A .R:C .U", 23, 1, 2);
-    secret[2] = heading(1, 3, 0, 1, 0);
+    secret[2] = named(heading(1, 3, 0, 1, 0), 2);
     of(&secret).refuse_at("CPY .R:A .R:C .U", 25, 3, 0);
 }
 
 #[test]
 fn a_second_rewrite_repairs_it() {
     let expected = [
-        (2, marked(simple(0))),
+        (2, marked(sheet(0))),
         (3, text(2, 0, &TEXT[..24])),
         (4, text(2, 1, &TEXT[24..])),
-        (2, simple(30)),
+        (2, sheet(30)),
     ];
     stores(&emptied(), "WRS* M .R:A", TEXT, &expected);
-    let both = [(2, marked(simple(0))), (2, simple(0))];
+    let both = [(2, marked(sheet(0))), (2, sheet(0))];
     stores(&emptied(), "WRS* M .R:A", b"", &both);
     let mut bench = of(&emptied());
     bench.grant("WRS* M .R:B", TEXT);
     assert_eq!(bench.reply("RDS .R:A"), TEXT);
     bench.table.resize(16 * 32, 0);
     let seen = bench.grant("CPY .R:A .ABC", b"");
-    assert_eq!(seen.answer, answer([0, 0, 0, 1, 0, 0, 4]));
+    // heading, two texts and entry; then the copy's count alone, since a base list has none
+    assert_eq!(seen.answer, answer([0, 0, 0, 1, 0, 0, 5]));
 }
 
 #[test]
@@ -637,14 +641,14 @@ fn dpr_keeps_the_mark() {
     let seen = bench.grant("DPR .R:A .6", b"");
     assert_eq!(seen.answer, answer([0, 0, 0, 1, 0, 0, 1]));
     let mut after = emptied();
-    after[2] = marked(heading(1, 0, 6, 1, 0));
+    after[2] = marked(named(heading(1, 0, 6, 1, 0), 2));
     assert_eq!(bench.table, after.concat());
     bench.refuse_at("DPR .R:A .4", 21, 2, 0);
     // and rewriting it keeps the code
     bench.grant("WRS* M .R:A", b"NEW");
-    assert_eq!(record(&bench.table, 2), heading(1, 0, 6, 1, 3));
+    assert_eq!(record(&bench.table, 2), named(heading(1, 0, 6, 1, 3), 2));
     bench.grant("DPR .R:A .7", b"");
-    assert_eq!(record(&bench.table, 2), heading(1, 0, 7, 1, 3));
+    assert_eq!(record(&bench.table, 2), named(heading(1, 0, 7, 1, 3), 2));
 }
 
 #[test]
@@ -657,8 +661,10 @@ fn otherwise_it_is_a_file_as_any() {
     bench.refuse_at("RDS .R:A:X", 12, 1, 2);
     // DUP, CHN
     let seen = bench.grant("DUP .R:A .R:C .4", b"");
-    assert_eq!(seen.answer, answer([0, 0, 0, 1, 0, 0, 1]));
+    assert_eq!(seen.answer, answer([0, 0, 0, 1, 0, 0, 3]));
     let mut after = emptied();
+    after[0] = counts(directory(), 1, 3);
+    after[2] = marked(named(simple(0), 3));
     after[3] = entry(4, 0, 2, 0, "C");
     assert_eq!(bench.table, after.concat());
     let seen = bench.grant("CHN .R:C D", b"");
@@ -666,9 +672,11 @@ fn otherwise_it_is_a_file_as_any() {
     after[3] = entry(4, 0, 2, 0, "D");
     assert_eq!(bench.table, after.concat());
     // DEL: its heading goes with its last entry
+    // each name: the entry and the counts of `.R` and of the file; the last one: the heading
     let seen = bench.grant("DEL .R:D .R:B .R:A", b"");
-    assert_eq!(seen.answer, answer([0, 0, 0, 3, 0, 0, 4]));
-    assert_eq!(bench.table, with_free(&[directory(), base(0, ".R")], 9));
+    assert_eq!(seen.answer, answer([0, 0, 0, 3, 0, 0, 3 + 3 + 4]));
+    let left = [named(directory(), 1), base(0, ".R")];
+    assert_eq!(bench.table, with_free(&left, 9));
 }
 
 /// These records, and free ones, so many in all.
@@ -683,22 +691,23 @@ fn a_marked_file_is_displaced_as_any() {
     let mut bench = of(&emptied());
     bench.grant("DEL .R:B", b"");
     let seen = bench.grant("WRS M .R:A", b"NEW");
-    // heading, text, entry; then the marked heading cleared
-    assert_eq!(seen.answer, answer([0, 0, 0, 1, 1, 0, 4]));
+    // heading, text, entry; the counts of the marked file and of the new one; then the marked heading cleared
+    assert_eq!(seen.answer, answer([0, 0, 0, 1, 1, 0, 6]));
     let expected = [
-        directory(),
+        counts(directory(), 1, 1),
         base(0, ".R"),
         FREE,
-        simple(3),
+        named(simple(3), 1),
         text(3, 0, b"NEW"),
         entry(0, 0, 3, 0, "A"),
     ];
     assert_eq!(bench.table, with_free(&expected, 9));
     // by a DUP and a CPY too
     let mut records = emptied();
-    records[6] = simple(0);
+    records[2] = marked(named(simple(0), 1));
+    records[6] = named(simple(0), 1);
     records[7] = entry(0, 0, 6, 0, "C");
-    for (line, stores) in [("DUP .R:C .R:A", 2), ("CPY .R:C .R:A", 3), ("CRD .R:A", 3)] {
+    for (line, stores) in [("DUP .R:C .R:A", 4), ("CPY .R:C .R:A", 5), ("CRD .R:A", 5)] {
         let seen = of(&records).ask(line, b"");
         assert_eq!(seen.answer, answer([0, 0, 0, 1, 1, 0, stores]), "{line}");
         assert_eq!(record(&seen.table, 2), FREE, "{line}");
@@ -727,7 +736,12 @@ fn number_19_by_free_records_and_the_old_texts() {
     bench.refuse("WRS* M .R:A", &bytes(97), 19, 0);
     // an empty file, marked or not, has no records of its own
     for mark in [simple(0), marked(simple(0))] {
-        let records = [directory(), base(0, ".R"), mark, entry(0, 0, 2, 0, "A")];
+        let records = [
+            counts(directory(), 1, 1),
+            base(0, ".R"),
+            named(mark, 1),
+            entry(0, 0, 2, 0, "A"),
+        ];
         full(&records).refuse("WRS* M .R:A", b"X", 19, 0);
         assert_eq!(full(&records).ask("WRS* M .R:A", b"").answer.stores, 2);
     }
@@ -851,6 +865,6 @@ fn wrs_makes_a_new_file_as_before() {
     bench.grant("DEL .R:B", b"");
     bench.table.resize(16 * 32, 0);
     let seen = bench.grant("WRS M .R:A", b"NEW");
-    assert_eq!(seen.answer, answer([0, 0, 0, 1, 1, 0, 6]));
+    assert_eq!(seen.answer, answer([0, 0, 0, 1, 1, 0, 8]));
     assert_eq!(record(&bench.table, 2), FREE);
 }

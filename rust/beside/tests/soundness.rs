@@ -5,7 +5,7 @@ use common::*;
 
 type Records = Vec<[u8; 32]>;
 
-/// A sound table: the directory .R with the simple file A of 30 bytes, and a free record.
+/// A table that is sound with its counts: the directory .R with the simple file A of 30 bytes, and a free record.
 fn good() -> Records {
     vec![
         directory(),
@@ -18,14 +18,15 @@ fn good() -> Records {
     ]
 }
 
+/// Sound with the counts that its entries make true: these have tests of their own, in `counts`.
 fn is_sound(records: &[[u8; 32]]) -> bool {
-    sound(&records.concat())
+    sound(&counted(records).concat())
 }
 
-/// Not sound, and every request gets 2 and changes nothing.
+/// Not sound though its counts are true, and every request gets 2 and changes nothing.
 fn is_broken(records: &[[u8; 32]], why: &str) {
     assert!(!is_sound(records), "{why}");
-    let bench = Bench::of(records.concat());
+    let bench = Bench::of(counted(records).concat());
     bench.refuse("LST .", b"", 2, 0);
     bench.refuse("DEL .R:A", b"", 2, 0);
 }
@@ -58,7 +59,7 @@ fn the_good_table_is_sound() {
     assert!(is_sound(&[]));
     assert!(is_sound(&[FREE; 2_048]));
     assert!(!is_sound(&[FREE; 2_049]));
-    assert!(!sound(&good().concat()[1..]));
+    assert!(!sound(&counted(&good()).concat()[1..]));
 }
 
 #[test]
@@ -98,8 +99,13 @@ fn a_headings_fields_are_in_range() {
 
 #[test]
 fn bytes_not_named_are_zero() {
-    for at in (6..10).chain(12..32) {
+    for at in (6..10).chain(16..32) {
         broken_byte(0, at, 1);
+        broken_byte(2, at, 255);
+    }
+    // A simple file holds nothing, and has no count of it.
+    for at in 14..16 {
+        broken_byte(2, at, 1);
         broken_byte(2, at, 255);
     }
     for at in 20..32 {
@@ -346,5 +352,6 @@ fn directories_may_form_loops_and_no_base_file_need_reach_them() {
         FREE,
     ];
     assert!(is_sound(&two));
-    assert_eq!(Bench::of(two.concat()).reply("LST ."), b"");
+    let bench = Bench::of(counted(&two).concat());
+    assert_eq!(bench.reply("LST ."), b"");
 }

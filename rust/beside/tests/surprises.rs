@@ -8,7 +8,8 @@ fn a_chain_may_run_through_the_entry_that_it_displaces() {
     let mut bench = Bench::grown(16, &["CRD .R", "DUP .R .R:A"]);
     // A is an entry of .R that names .R; A:A is that entry again.
     let seen = bench.grant("WRS M .R:A:A", b"WRITTEN");
-    assert_eq!(seen.answer, answer([0, 0, 0, 1, 1, 0, 3]));
+    // Heading, text and entry; the counts of `.R`, which A named, and of the new file.
+    assert_eq!(seen.answer, answer([0, 0, 0, 1, 1, 0, 5]));
     // The same chain does not read it: A is no directory any more.
     bench.refuse("RDS .R:A:A", b"", 12, 1);
     assert_eq!(bench.reply("RDS .R:A"), b"WRITTEN");
@@ -18,9 +19,9 @@ fn a_chain_may_run_through_the_entry_that_it_displaces() {
 fn a_directory_with_entries_can_be_cut_off_and_keeps_its_room() {
     let mut bench = Bench::grown(3, &["CRD .R", "DUP .R .R:A"]);
     let seen = bench.grant("DEL .R", b"");
-    assert_eq!(seen.answer, answer([0, 0, 0, 1, 0, 0, 1]));
+    assert_eq!(seen.answer, answer([0, 0, 0, 1, 0, 0, 2]));
     // The heading and the entry A, which names it, are still there, and no base file reaches them.
-    let expected = [directory(), FREE, entry(0, 0, 0, 0, "A")].concat();
+    let expected = [counts(directory(), 1, 1), FREE, entry(0, 0, 0, 0, "A")].concat();
     assert_eq!(bench.table, expected);
     assert_eq!(bench.reply("LST ."), b"");
     bench.refuse("RDS .R:A", b"", 11, 1);
@@ -34,7 +35,7 @@ fn a_directory_with_entries_can_be_cut_off_and_keeps_its_room() {
 fn a_directory_with_entries_can_be_displaced_when_a_loop_names_it() {
     let mut bench = Bench::grown(16, &["CRD .R", "CRD .R:D", "DUP .R:D .R:D:UP"]);
     let seen = bench.grant("WRS M .R:D", b"");
-    assert_eq!(seen.answer, answer([0, 0, 0, 1, 1, 0, 2]));
+    assert_eq!(seen.answer, answer([0, 0, 0, 1, 1, 0, 4]));
     assert_eq!(bench.reply("RDS .R:D"), b"");
     // .R, the file D and their entries; the lost directory and its entry UP.
     assert_eq!(count(&bench.table, 1), 3);
@@ -160,7 +161,7 @@ fn backwards() -> Bench {
         text(3, 2, b"5678"),
         entry(0, 65_535, 3, 1, ".R"),
         text(3, 1, b"<TWENTY-FOUR MORE BYTES>"),
-        heading(1, 2, 4, 2, 52),
+        named(heading(1, 2, 4, 2, 52), 1),
         FREE,
         text(3, 0, b"[TWENTY-FOUR BYTES HERE]"),
     ];
@@ -175,7 +176,7 @@ fn text_is_read_by_position_wherever_it_stands() {
     bench.table.resize(12 * 32, 0);
     bench.grant("CPY .R .G", b"");
     assert_eq!(bench.reply("RDS .G"), content);
-    assert_eq!(record(&bench.table, 4), heading(1, 2, 0, 2, 52));
+    assert_eq!(record(&bench.table, 4), named(heading(1, 2, 0, 2, 52), 1));
     for (number, position) in [(6, 0), (7, 1), (8, 2)] {
         let block = content.chunks(24).nth(position).unwrap();
         assert_eq!(
@@ -190,14 +191,22 @@ fn text_is_read_by_position_wherever_it_stands() {
 fn text_is_cleared_by_position_wherever_it_stands() {
     let bench = backwards();
     let mut expected = bench.table.clone();
-    for (made, number) in [1, 3, 5, 2, 0].into_iter().enumerate() {
+    let stores = [
+        (1, FREE),
+        (3, heading(1, 2, 4, 2, 52)),
+        (3, FREE),
+        (5, FREE),
+        (2, FREE),
+        (0, FREE),
+    ];
+    for (made, (number, record)) in stores.into_iter().enumerate() {
         let seen = bench.stop(made as u32).ask("DEL .R", b"");
         assert_eq!(seen.answer, answer([22, 0, 0, 0, 0, 0, made as u32]));
         assert_eq!(seen.table, expected);
-        expected[number * 32..number * 32 + 32].fill(0);
+        expected[number * 32..number * 32 + 32].copy_from_slice(&record);
     }
-    let seen = bench.stop(5).ask("DEL .R", b"");
-    assert_eq!(seen.answer, answer([0, 0, 0, 1, 0, 0, 5]));
+    let seen = bench.stop(6).ask("DEL .R", b"");
+    assert_eq!(seen.answer, answer([0, 0, 0, 1, 0, 0, 6]));
     assert_eq!(seen.table, [FREE; 6].concat());
 }
 
@@ -233,7 +242,7 @@ fn slip_freeing_the_displaced_file_first() {
     // One free record is enough for an empty file; it is the free one that is taken, not a freed one.
     bench.table.resize(7 * 32, 0);
     bench.grant("WRS M .R:A", b"");
-    assert_eq!(record(&bench.table, 6), simple(0));
+    assert_eq!(record(&bench.table, 6), named(simple(0), 1));
     assert_eq!(count(&bench.table, 0), 3);
 }
 
@@ -251,5 +260,5 @@ fn slip_showing_the_headings_code_in_a_listing() {
 fn slip_refusing_del_because_the_file_is_write_inhibited() {
     let mut bench = Bench::grown(16, &["CRD .R", "WRS M.7 .R:A", "CRD .R:D .7"]);
     let seen = bench.grant("DEL .R:A .R:D", b"");
-    assert_eq!(seen.answer, answer([0, 0, 0, 2, 0, 0, 6]));
+    assert_eq!(seen.answer, answer([0, 0, 0, 2, 0, 0, 6 + 4]));
 }

@@ -4,7 +4,7 @@
 //! With `gives`, two users give and take.
 
 use beside::{COUNTS, NUMBERS};
-use random::{lines, rewrites, shelves, Random};
+use random::{counts, lines, rewrites, shelves, Random};
 use std::fmt::Write;
 
 const HEAD: &str = "-- Random cases: the second program's outcomes, held against the definitions.
@@ -62,6 +62,7 @@ impl Story {
         let line = match shift {
             Some(user) => shelves::line(random, &self.table, &SHIFTS, user),
             None if random.once_in(3) => rewrites::about(random, &self.table, 1),
+            None if random.once_in(4) => counts::about(random, &self.table, 1),
             None => lines::line(random),
         };
         let length = random.pick(&[0, 1, 5, 24, 25, 30, 48]);
@@ -70,7 +71,7 @@ impl Story {
         let anyone = || random.pick(&[1, 1, 1, 1, 1, 1, 1, 2, 0, 1_000_000]);
         let user = shift.unwrap_or_else(anyone);
         let stop = if random.once_in(3) {
-            random.below(6) as u32
+            random.below(8) as u32
         } else {
             65_535
         };
@@ -88,7 +89,7 @@ impl Story {
             self.asks(lent.join(" "), user, stop, answer, left.join(" "));
         }
         if damaged || answer.number == 22 {
-            self.mend(&after, random.pick(&[0, 1, 2, 3, 99]));
+            self.mend(&after, random.pick(&[0, 1, 2, 3, 99, 99]));
         }
         if !damaged {
             let mended = beside::mend(&mut after, 65_535);
@@ -107,14 +108,20 @@ impl Story {
     }
 }
 
-/// Change a byte, or the marks of the headings.
+/// Change a byte, or the marks of the headings, or one byte of a heading's counts, or take all counts away.
 fn spoil(random: &mut Random, table: &mut [u8]) {
-    if random.once_in(3) {
-        let records = table.chunks_exact_mut(32);
-        return records.for_each(|record| rewrites::mark(random, record));
+    match random.below(6) {
+        0 | 1 => {
+            let records = table.chunks_exact_mut(32);
+            records.for_each(|record| rewrites::mark(random, record));
+        }
+        2 => counts::miscount(random, table),
+        3 => counts::uncount(table),
+        _ => {
+            let at = random.below(table.len());
+            table[at] = random.pick(&[0, 1, 2, 3, 255, 46, 65]);
+        }
     }
-    let at = random.below(table.len());
-    table[at] = random.pick(&[0, 1, 2, 3, 255, 46, 65]);
 }
 
 /// A table of few records, begun with up to five of the same requests; now and then a sheet in it is marked, as a rewrite that is cut leaves it.

@@ -1,5 +1,6 @@
 //! A case: one call, made by the proved library and by the second program, and compared byte for byte.
 
+use crate::counted::{self, Counted};
 use crate::handed::{self, Handed};
 use crate::links::{self, Links};
 use crate::met::Met;
@@ -144,6 +145,8 @@ pub struct Comparison {
     pub treed: Treed,
     /// What a WRS* and a marked file met.
     pub rewritten: Rewritten,
+    /// What the counts in headings met.
+    pub counted: Counted,
     /// The requests of the stories.
     pub requests: u64,
     /// The calls made by both: these requests again and again, and mending.
@@ -170,11 +173,13 @@ impl Comparison {
             self.parted.count(case, proved.answer);
             self.treed.count(case, &proved);
             self.rewritten.count(case, &proved);
+            self.counted.count(case, &proved);
             let broken = [
                 handed::broken,
                 links::broken,
                 treed::broken,
                 rewritten::broken,
+                counted::broken,
             ];
             return match broken.iter().find_map(|broken| broken(case, &proved)) {
                 None => Ok(proved),

@@ -177,7 +177,7 @@ mod tests {
     /// The most stores that a request can need.
     #[test]
     fn the_longest_request_is_cut_at_every_store() {
-        cut_at_every_store(&long_file(2048, "L"), b"WRS M .R:A", 2003);
+        cut_at_every_store(&long_file(2048, "L"), b"WRS M .R:A", 2005);
     }
 
     /// In a table without a free record.

@@ -80,7 +80,10 @@ pub fn broken(case: &Case, outcome: &Outcome) -> Option<&'static str> {
     let gives = handed(line).contains(&(2, GIVE));
     let renames = function(&beside::words(line)) == Some(b"CHN");
     match number {
-        0 if gives && (displaced, stores) != (0, 1) => Some("a give that is not one entry"),
+        // the entry, the count of the file and that of `.G`, or one store of both where `.G` itself is given
+        0 if gives && (displaced != 0 || ![2, 3].contains(&stores)) => {
+            Some("a give that is not one entry and its counts")
+        }
         18 if gives && place == 2 => Some("a give with 18"),
         16 if !gives && !renames => Some("16 by neither CHN nor a give"),
         _ => None,
@@ -138,9 +141,11 @@ mod tests {
             broken(&Case::request(&[], asked(line)), &outcome).is_none()
         };
         let give = b"DUP .R:A .000777:A";
-        assert!(kept(give, [0, 0, 0, 1, 0, 0, 1]));
-        assert!(!kept(give, [0, 0, 0, 1, 1, 0, 1]));
-        assert!(!kept(give, [0, 0, 0, 1, 0, 0, 2]));
+        assert!(kept(give, [0, 0, 0, 1, 0, 0, 3]));
+        assert!(kept(give, [0, 0, 0, 1, 0, 0, 2]));
+        assert!(!kept(give, [0, 0, 0, 1, 1, 0, 3]));
+        assert!(!kept(give, [0, 0, 0, 1, 0, 0, 1]));
+        assert!(!kept(give, [0, 0, 0, 1, 0, 0, 4]));
         assert!(!kept(give, [18, 2, 2, 0, 0, 0, 0]));
         assert!(kept(give, [16, 2, 2, 0, 0, 0, 0]));
         assert!(kept(b"DUP .R:A .R:B", [0, 0, 0, 1, 1, 0, 1]));

@@ -171,14 +171,15 @@ mod tests {
             stop: filebox::NO_STOP,
         };
         let uncut = job.compared(&mut lights).expect("both do the same");
-        assert_eq!(uncut.answer, [RED, 113, FILING, 17, 224]);
+        // heading and entry of each of 112 sheets, and the counts of both headings
+        assert_eq!(uncut.answer, [RED, 113, FILING, 17, 448]);
         let stations = stations(&job);
         assert_eq!(stations.len(), 113);
-        for stop in 0..224 {
+        for stop in 0..448 {
             let cut = cut_once(&mut lights, &job.stopped(stop), &stations);
             cut.expect("mended to the first sheets");
         }
-        assert_eq!(lights.cuts, 224);
+        assert_eq!(lights.cuts, 448);
     }
 
     #[test]

@@ -3,7 +3,7 @@
 //! table is cut at its stop numbers and mended, every sheet read whole is read in pieces, every tree a level less, and every table is
 //! mended. At the first difference it prints a case to paste into a test and ends with status 1; also when a reply number was met
 //! fewer than a hundred times, with a link of a chain or without, where it has the one or the other, or a branch of RDS's parts, of
-//! LST* or of WRS*.
+//! LST*, of WRS* or of the counts in headings.
 //!
 //! `compare jobs [COUNT [SEED]]`: the same with the lamp, COUNT jobs, each cut at its stop numbers and mended; ends with
 //! status 1 also when a light was met fewer than a hundred times.
@@ -13,6 +13,7 @@
 //! link.
 
 mod case;
+mod counted;
 mod cut;
 mod handed;
 mod job;
@@ -94,11 +95,17 @@ fn requests(count: u64, seed: u64) -> ExitCode {
     show(&comparison, seed, start);
     let (met, links) = (&comparison.met, &comparison.links);
     let (parted, treed) = (&comparison.parted, &comparison.treed);
-    let rewritten = &comparison.rewritten;
+    let (rewritten, counted) = (&comparison.rewritten, &comparison.counted);
     let linked = links.missed(&links::IN_REQUESTS);
-    let branches = [parted.missed(), treed.missed(), rewritten.missed()].concat();
+    let branches = [
+        parted.missed(),
+        treed.missed(),
+        rewritten.missed(),
+        counted.missed(),
+    ]
+    .concat();
     let missed = [met.missed(), linked, branches].concat();
-    let shown = format!("{met}{links}\n{parted}\n{treed}\n{rewritten}");
+    let shown = format!("{met}{links}\n{parted}\n{treed}\n{rewritten}\n{counted}");
     verdict(ended, shown, &missed)
 }
 

@@ -1,6 +1,6 @@
 //! A story: one table, the requests of several users on it, and what befalls it on the way.
 
-use random::{requests, rewrites, shelves, trees, Random};
+use random::{counts, requests, rewrites, shelves, trees, Random};
 
 use crate::case::{must_not_be, Asked, Case, Comparison, Difference};
 use crate::cut::cut_everywhere;
@@ -23,6 +23,7 @@ pub struct Story<'a> {
     long_chains: bool,
     trees: bool,
     rewrites: bool,
+    counts: bool,
     cast: Cast,
 }
 
@@ -45,6 +46,7 @@ impl<'a> Story<'a> {
             long_chains: start.long_chains,
             trees: start.trees,
             rewrites: start.rewrites,
+            counts: start.counts,
             cast: Cast::Anything(others),
         }
     }
@@ -96,6 +98,9 @@ impl<'a> Story<'a> {
             }
             Cast::Anything(_) if self.rewrites && !random.once_in(5) => {
                 rewrites::about(random, &self.table, user)
+            }
+            Cast::Anything(_) if self.counts && !random.once_in(5) => {
+                counts::about(random, &self.table, user)
             }
             Cast::Anything(_) => requests::line(random, &self.table, user),
             Cast::Shelves(users) => shelves::line(random, &self.table, users, user),

@@ -1,6 +1,7 @@
 //! Tables to begin with, and what befalls a table.
 
 use filebox::NO_STOP;
+use random::counts::{miscount, uncount};
 use random::damage::{damage, litter};
 use random::{requests, rewrites, Random};
 
@@ -114,6 +115,7 @@ pub fn sheets(free: usize) -> Vec<u8> {
         "WRS M.6 .R:SHUT",
         "CRD .R:D",
         "WRS M .R:D:B",
+        "DUP .R:A .R:D:A",
         "DPR .R:D .1",
         "CRD .R:Q",
         "DUP .R:A .R:Q:A",
@@ -138,6 +140,17 @@ pub fn sheets(free: usize) -> Vec<u8> {
     table
 }
 
+/// A sheet that so many entries name, a hundred at most in each of three directories. Few records are free.
+pub fn shared(entries: usize) -> Vec<u8> {
+    let mut table = vec![0; (entries + 16) * 32];
+    let lines = ["CRD .R", "CRD .G", "CRD .W", "WRS M .R:A"].map(String::from);
+    grow(&mut table, lines, b"5.0 V");
+    let shelf = |number: usize| [".R", ".G", ".W"][number / 100];
+    let more = (1..entries).map(|number| format!("DUP .R:A {}:N{number}", shelf(number)));
+    grow(&mut table, more, b"");
+    table
+}
+
 /// A table to begin with.
 pub struct Start {
     pub table: Vec<u8>,
@@ -151,6 +164,8 @@ pub struct Start {
     pub trees: bool,
     /// Are its requests mostly WRS*, and about what these leave?
     pub rewrites: bool,
+    /// Do its requests mostly move the counts in headings?
+    pub counts: bool,
 }
 
 /// The tables that take long to grow.
@@ -160,6 +175,7 @@ pub struct Starts {
     nest: Vec<u8>,
     knot: Vec<u8>,
     sheets: [Vec<u8>; 5],
+    shared: [Vec<u8>; 3],
 }
 
 impl Starts {
@@ -175,13 +191,14 @@ impl Starts {
             nest: nest(),
             knot: knot(),
             sheets: [0, 1, 2, 5, 12].map(sheets),
+            shared: [254, 255, 256].map(shared),
         }
     }
 
     /// One of these, or records that are all free.
     pub fn start(&self, random: &mut Random) -> Start {
         let free = |records: usize| vec![0; records * 32];
-        let kind = random.below(98);
+        let kind = random.below(115);
         let (table, requests) = match kind {
             0 => (self.long[random.below(3)].clone(), 6),
             1..=32 => (self.crowded[random.below(4)].clone(), 12),
@@ -189,16 +206,20 @@ impl Starts {
             47 => (free(200 + random.below(1_849)), 20),
             48..=63 => (free(13 + random.below(50)), 160),
             64..=71 => (self.nest.clone(), 60),
-            72..=81 => (self.knot.clone(), 40),
-            _ => (self.sheets[random.below(5)].clone(), 40),
+            72..=83 => (self.knot.clone(), 40),
+            84..=101 => (self.sheets[random.below(5)].clone(), 40),
+            102..=109 => (self.shared[random.below(3)].clone(), 12),
+            110..=112 => (self.knot.clone(), 60),
+            _ => (free(6 + random.below(24)), 80),
         };
         Start {
             table,
             requests,
             long_texts: kind == 0,
             long_chains: (64..=71).contains(&kind),
-            trees: (72..=81).contains(&kind),
-            rewrites: kind > 81,
+            trees: (72..=83).contains(&kind),
+            rewrites: (84..=101).contains(&kind),
+            counts: kind > 101,
         }
     }
 }
@@ -248,6 +269,7 @@ pub fn shelves(random: &mut Random, users: [u32; 3]) -> Start {
         long_chains: false,
         trees: false,
         rewrites: false,
+        counts: false,
     }
 }
 
@@ -280,7 +302,7 @@ fn cut(random: &mut Random, table: &[u8], user: u32) -> Vec<u8> {
         true => rewrites::line(random, table, user),
         false => requests::granted(random, table, user).into_bytes(),
     };
-    let (text, stop) = (random.bytes(60), 1 + random.below(4) as u32);
+    let (text, stop) = (random.bytes(60), 1 + random.below(6) as u32);
     // cut or not, and perhaps refused
     let _ = beside::request(&mut cut, &line, &text, &mut [], user, stop);
     cut
@@ -295,10 +317,10 @@ fn marked(random: &mut Random, table: &mut [u8]) {
     }
 }
 
-/// A table that is likely not sound: damaged, marked, littered, cut, of an odd length, too long, or rubbish.
+/// A table that is likely not sound: damaged, marked, counted wrongly or not at all, littered, cut, of an odd length, too long, or rubbish.
 pub fn spoiled(random: &mut Random, table: &[u8], user: u32) -> Vec<u8> {
     let mut spoiled = table.to_vec();
-    match random.below(18) {
+    match random.below(22) {
         0 => spoiled.truncate(random.below(table.len() + 1)),
         1 => spoiled.resize(table.len() + 1 + random.below(40), 0),
         2 => spoiled.resize(random.pick(&[65_537, 65_567, 65_568, 70_000]), 0),
@@ -309,6 +331,13 @@ pub fn spoiled(random: &mut Random, table: &[u8], user: u32) -> Vec<u8> {
         5..=7 => spoiled = cut(random, table, user),
         8..=10 => litter(random, &mut spoiled),
         16 | 17 => marked(random, &mut spoiled),
+        18..=20 => (0..=random.below(2)).for_each(|_| miscount(random, &mut spoiled)),
+        21 => {
+            uncount(&mut spoiled);
+            if random.once_in(3) {
+                litter(random, &mut spoiled);
+            }
+        }
         _ => (0..=random.below(3)).for_each(|_| damage(random, &mut spoiled)),
     }
     spoiled
@@ -326,6 +355,7 @@ mod tests {
             &starts.crowded[..],
             &starts.long,
             &starts.sheets,
+            &starts.shared,
             &[starts.nest, starts.knot],
         ];
         for table in all.concat().iter() {

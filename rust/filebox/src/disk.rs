@@ -3,7 +3,8 @@
 //! A host lends a request a copy of the table. If it is granted, the records that differ are written by their phases: every
 //! [`Phase::First`], a flush, the one [`Phase::Entry`], a flush, every [`Phase::Last`], a flush. Within a phase any order will do,
 //! and whatever part of it is on the disk when the power fails, mending gives the table before or the table after, byte for
-//! byte: the table after once the entry is there. A DEL of several names is written name by name.
+//! byte: the table after once the entry is there. A DEL of several names is written name by name. Counts need no flush: a heading in which they
+//! alone are others is of the last phase, and may be written at any time.
 //!
 //! A `WRS*` is written by stop numbers, since old and new text may share a record: what differs between the table before and the one
 //! at stop number 1 (the heading, marked), a flush, what differs from there to the table at one store fewer than it takes (all text), a
@@ -19,6 +20,12 @@
 //! after.file(1, "M", ".R", b"5.0 V").unwrap();
 //! let phases = [0, 1, 2, 3].map(|record| phase(before.as_ref(), after.as_ref(), record));
 //! assert_eq!(phases, [Phase::First, Phase::First, Phase::Entry, Phase::Same]);
+//!
+//! // another entry of the file: the entry, and then its heading, for the count
+//! let before = after.clone();
+//! after.ask(1, "DUP .R .G").unwrap();
+//! let phases = [0, 1, 2, 3].map(|record| phase(before.as_ref(), after.as_ref(), record));
+//! assert_eq!(phases, [Phase::Last, Phase::Same, Phase::Same, Phase::Entry]);
 //! ```
 
 /// When a record is written.
@@ -26,11 +33,11 @@
 pub enum Phase {
     /// It is the same before and after: never.
     Same,
-    /// It is free before and no entry after: a new file's heading and text.
+    /// It is free before and no entry after: a new file's heading, with the count that it has after, and text.
     First,
     /// It is an entry before or after, or, for DPR, the heading: the write that counts. There is at most one.
     Entry,
-    /// It is free after: what was displaced or deleted.
+    /// It is free after: what was displaced or deleted; or a heading in which the counts alone are others.
     Last,
 }
 

@@ -260,7 +260,7 @@ impl<B: AsMut<[u8]>> Table<B> {
     /// let limits = Sheet { name: "LIMITS", text: b"5.0 V" };
     /// let board = Sheet { name: "BOARD7", text: b"4.9 V" };
     /// let green = table.light(1, ".R", &[limits, board]).unwrap();
-    /// assert_eq!(green.stores, 6);
+    /// assert_eq!(green.stores, 10);
     /// assert_eq!(table.sheet(1, ".R:BOARD7").unwrap(), b"4.9 V");
     ///
     /// let twice = table.light(1, ".R", &[limits, board, limits]).unwrap_err();

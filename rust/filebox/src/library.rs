@@ -52,7 +52,8 @@ extern "C" {
 ///
 /// let mut table = [0; 64];
 /// let answer = request(&mut table, b"CRD .R", b"", &mut [], 1, NO_STOP);
-/// assert_eq!((answer.number, answer.names, answer.stores), (Number::Done, 1, 2));
+/// assert_eq!((answer.number, answer.names, answer.stores), (Number::Done, 1, 3));
+/// assert_eq!(&table[..16], &[1, 0, 0, 0, 1, 0, 0, 0, 0, 0, 0, 0, 1, 0, 0, 0]);
 /// assert_eq!(&table[32..44], &[2, 0, 255, 255, 0, 0, 1, 0, 0, 2, b'.', b'R']);
 /// ```
 #[must_use = "the answer may be a refusal"]
@@ -84,8 +85,9 @@ pub fn request(
     Answer::from(seven)
 }
 
-/// Mend a table: clear the headings that no entry names, then the text of no simple file or of a marked one. Exactly the first `stop` stores
-/// are made; a mend that was cut is run again.
+/// Mend a table: clear the headings that no entry names, then the text of no simple file or of a marked one, and correct the counts in the headings
+/// that are left. Exactly the first `stop` stores are made; a mend that was cut is run again. A table of document 01, without counts, is brought up to
+/// date by one mend.
 ///
 /// ```
 /// use filebox::{mend, request, Number, NO_STOP};
@@ -96,6 +98,11 @@ pub fn request(
 /// assert_eq!(mend(&mut table, 0).number, Number::Stopped);
 /// assert_eq!(mend(&mut table, NO_STOP).stores, 1);
 /// assert_eq!(table, [0; 64]);
+/// // cut after the entry: the directory is there, and its count is corrected
+/// let cut = request(&mut table, b"CRD .R", b"", &mut [], 1, 2);
+/// assert_eq!((cut.number, table[12]), (Number::Stopped, 0));
+/// assert_eq!(mend(&mut table, NO_STOP).stores, 1);
+/// assert_eq!(table[12], 1);
 /// ```
 #[must_use = "the answer may be a refusal"]
 pub fn mend(table: &mut [u8], stop: u32) -> Answer {
@@ -112,13 +119,13 @@ pub fn mend(table: &mut [u8], stop: u32) -> Answer {
 /// use filebox::{light, request, NO_STOP};
 ///
 /// let mut table = [0; 5 * 32];
-/// assert_eq!(request(&mut table, b"CRD .R", b"", &mut [], 1, NO_STOP).stores, 2);
+/// assert_eq!(request(&mut table, b"CRD .R", b"", &mut [], 1, NO_STOP).stores, 3);
 /// let mut sheet = [0; 32];
 /// sheet[..6].copy_from_slice(b"LIMITS");
 /// sheet[10] = 5;
 /// let mut back = [0; 5];
 /// let green = light(&mut table, &sheet, b"5.0 V", &mut back, b".R", 1, NO_STOP);
-/// assert_eq!(green.numbers(), [0, 0, 0, 0, 3]);
+/// assert_eq!(green.numbers(), [0, 0, 0, 0, 5]);
 /// assert_eq!(&back, b"5.0 V");
 /// ```
 pub fn light(

@@ -10,7 +10,8 @@ pub const RECORD_BYTES: usize = 32;
 pub const MOST_RECORDS: usize = 2_048;
 /// The longest text of a file, in bytes.
 pub const LONGEST_TEXT: usize = 24_000;
-/// A stop number that no call reaches: no request and no mend makes more than 2,048 stores. `FILEBOX_NO_STOP` of the C header.
+/// A stop number that no call reaches: a request makes at most 2,064 stores (a DEL of eight names that clears every record, and two counts for
+/// each name), a mend at most 2,048. `FILEBOX_NO_STOP` of the C header.
 pub const NO_STOP: u32 = 65_535;
 
 /// The bytes of the longest listing: 112 lines of a name of ten characters.

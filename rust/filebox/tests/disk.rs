@@ -22,13 +22,16 @@ fn phases(table: &mut Table, line: &str, text: &[u8]) -> String {
 fn each_request_has_its_phases() {
     let mut table = Table::free(7);
     assert_eq!(phases(&mut table, "CRD .R", b""), "FE-----");
-    assert_eq!(phases(&mut table, "WRS M .R:A", b"1"), "--FFE--");
+    // the heading of `.R` for its count; the new one has its count from the start
+    assert_eq!(phases(&mut table, "WRS M .R:A", b"1"), "L-FFE--");
     assert_eq!(phases(&mut table, "WRS M .R:A", b"2"), "--LLEFF");
-    assert_eq!(phases(&mut table, "DUP .R:A .R:B", b""), "--E----");
+    assert_eq!(phases(&mut table, "DUP .R:A .R:B", b""), "L-E--L-");
     assert_eq!(phases(&mut table, "CHN .R:B C", b""), "--E----");
     assert_eq!(phases(&mut table, "DPR .R:A .2", b""), "-----E-");
-    assert_eq!(phases(&mut table, "DEL .R:C", b""), "--E----");
-    assert_eq!(phases(&mut table, "DEL .R:A", b""), "----ELL");
+    assert_eq!(phases(&mut table, "DEL .R:C", b""), "L-E--L-");
+    assert_eq!(phases(&mut table, "DEL .R:A", b""), "L---ELL");
+    assert_eq!(phases(&mut table, "DUP .R .R:LOOP", b""), "L-E----");
+    assert_eq!(phases(&mut table, "DUP .R .R:LOOP .4", b""), "--E----");
 }
 
 #[test]
@@ -37,6 +40,24 @@ fn a_request_that_changes_nothing_has_nothing_to_write() {
     assert_eq!(phases(&mut table, "WRS M .R", b""), "FE-");
     assert_eq!(phases(&mut table, "DUP .R .R", b""), "---");
     assert_eq!(phases(&mut table, "RDS .R", b""), "---");
+}
+
+/// "a heading that differs only in counts": in any other byte it is a change of the heading itself.
+#[test]
+fn a_heading_of_other_counts_alone_is_written_last() {
+    let mut heading = [0; 32];
+    heading[..5].copy_from_slice(&[1, 0, 0, 0, 1]);
+    for at in 1..32 {
+        let mut other = heading;
+        other[at] ^= 1;
+        let expected = match at {
+            12..=15 => Phase::Last,
+            _ => Phase::Entry,
+        };
+        assert_eq!(phase(&heading, &other, 0), expected, "{at}");
+        other[13] = 9;
+        assert_eq!(phase(&heading, &other, 0), expected, "{at}");
+    }
 }
 
 #[test]

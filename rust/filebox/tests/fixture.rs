@@ -35,7 +35,7 @@ fn the_longest_sheet_comes_back() -> Result<(), Refused> {
     let mut table = Table::free(MOST_RECORDS);
     table.ask(999_999, "CRD .W")?;
     let filed = table.file(999_999, "L", "KEYS", &text)?;
-    assert_eq!(filed.stores, 1_002);
+    assert_eq!(filed.stores, 1_004);
     assert_eq!(table.sheet(999_999, "KEYS")?, text);
     let refused = table.sheet(1, "KEYS").unwrap_err();
     assert_eq!(refused.answer().number, Number::NameNotThere);

@@ -27,7 +27,7 @@ fn green_says_that_every_sheet_is_filed() -> Result<(), NotGreen> {
         sheet(".1", b"POINT"),
     ];
     let green = table.light(1, ".R", &job)?;
-    assert_eq!(green.numbers(), [0, 0, 0, 0, 3 + 2 + 5 + 3 + 3]);
+    assert_eq!(green.numbers(), [0, 0, 0, 0, 5 + 4 + 7 + 5 + 5]);
     for Sheet { name, text } in job {
         assert_eq!(table.sheet(1, &format!(".R:{name}")).unwrap(), text);
     }
@@ -50,7 +50,7 @@ fn the_longest_sheet_is_green_and_one_byte_more_is_red() {
     let text: Vec<u8> = (0..=LONGEST_TEXT).map(|at| (at % 251) as u8).collect();
     let mut table = table(MOST_RECORDS);
     let green = table.light(1, ".R", &[sheet("A", &text[..LONGEST_TEXT])]);
-    assert_eq!(green.unwrap().stores, 1_002);
+    assert_eq!(green.unwrap().stores, 1_004);
     for long in [&text[..], &[0; 65_535]] {
         let red = table.light(1, ".R", &[sheet("A", long)]).unwrap_err();
         let said = "red: sheet 1 was not filed: 10 WRS text above 24,000 bytes";
@@ -136,7 +136,7 @@ fn short_texts_and_a_short_buffer_are_said() {
         "refused: sheet 1: read-back buffer shorter than the longest text"
     );
     let mut back = [7; 6];
-    assert_eq!(asked(b"FIVES", &mut back).unwrap().stores, 3);
+    assert_eq!(asked(b"FIVES", &mut back).unwrap().stores, 5);
     assert_eq!(&back, b"FIVES\x07");
 }
 
@@ -150,7 +150,7 @@ fn what_failed_is_said_and_what_was_filed_stays() {
         sheet: 2,
         phase: Phase::Filing,
         number: Number::FewerFreeRecords,
-        stores: 3,
+        stores: 5,
     };
     assert_eq!(red, NotGreen::Red(expected));
     let said = "red: sheet 2 was not filed: 19 fewer free records than the request needs";
@@ -191,13 +191,18 @@ fn a_job_that_was_cut_is_mended_to_the_first_sheets() {
         record
     };
     let records = [record(b'A'), record(b'B')].concat();
-    for stop in 0..6 {
+    // each sheet: heading, text, entry, and the counts of `.R` and of the sheet
+    for stop in 0..10 {
         let mut cut = table.clone();
         let red = light(cut.as_mut(), &records, b"AABB", &mut [0; 2], b".R", 1, stop);
-        assert_eq!(red.numbers(), [1, 1 + stop / 3, 1, 22, stop]);
+        assert_eq!(red.numbers(), [1, 1 + stop / 5, 1, 22, stop]);
         assert_eq!(mend(cut.as_mut(), NO_STOP).number, Number::Done);
         let listed = cut.list(1, ".R").unwrap();
-        let filed: &[u8] = if stop < 3 { b"" } else { b"FM.U0    A\r\n" };
+        let filed: &[u8] = match stop {
+            0..=2 => b"",
+            3..=7 => b"FM.U0    A\r\n",
+            _ => b"FM.U0    A\r\nFM.U0    B\r\n",
+        };
         assert_eq!(listed, filed, "{stop}");
     }
 }

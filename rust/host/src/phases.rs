@@ -22,7 +22,7 @@ pub fn write(disk: &mut impl Disk, before: &[u8], step: &Step) -> io::Result<()>
     }
 }
 
-/// First the records that were free, then the entry, then the records that are freed.
+/// First the records that were free, then the entry, then the records that are freed and the headings whose counts alone are others.
 fn write_whole(disk: &mut impl Disk, before: &[u8], after: &[u8]) -> io::Result<()> {
     let records = after.chunks(RECORD_BYTES).enumerate();
     let differing: Vec<(Phase, usize, &[u8])> = records
@@ -36,7 +36,7 @@ fn write_whole(disk: &mut impl Disk, before: &[u8], after: &[u8]) -> io::Result<
     Ok(())
 }
 
-/// Write what differs, which may land in any order: one flush. What mending changed, or one phase of a rewrite.
+/// Write what differs, which may land in any order: one flush. What mending cleared or counted anew, or one phase of a rewrite.
 pub fn write_differing(disk: &mut impl Disk, before: &[u8], after: &[u8]) -> io::Result<()> {
     let old = before.chunks(RECORD_BYTES);
     let new = after.chunks(RECORD_BYTES);

@@ -56,8 +56,10 @@ pub fn mending(path: &Path, kept: &Kept<TableFile>, mended: Answer) -> String {
     let path = path.display();
     match mended.stores {
         0 => format!("{path}: {records} records, nothing to mend"),
-        1 => format!("{path}: {records} records, mended: 1 record of a request that was cut is cleared"),
-        stores => format!("{path}: {records} records, mended: {stores} records of a request that was cut are cleared"),
+        1 => format!("{path}: {records} records, mended: 1 record, cleared or counted anew"),
+        stores => {
+            format!("{path}: {records} records, mended: {stores} records, cleared or counted anew")
+        }
     }
 }
 

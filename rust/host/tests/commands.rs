@@ -12,11 +12,11 @@ fn ask_does_one_request() {
     let ran = run(&["ask", &path, "1", "CRD .R"]);
     assert_eq!(
         (ran.status, ran.out().as_str(), ran.err.as_str()),
-        (0, "0 0 0 1 0 0 2\n", "")
+        (0, "0 0 0 1 0 0 3\n", "")
     );
     assert_eq!(
         run(&["ask", &path, "1", "WRS M .R:A", &sheet]).out(),
-        "0 0 0 1 0 0 3\n"
+        "0 0 0 1 0 0 5\n"
     );
     assert_eq!(
         run(&["ask", &path, "1", "RDS .R:A"]).out(),
@@ -24,7 +24,7 @@ fn ask_does_one_request() {
     );
     assert_eq!(
         run(&["ask", &path, "1", "WRS M .R:B"]).out(),
-        "0 0 0 1 0 0 2\n"
+        "0 0 0 1 0 0 4\n"
     );
     let refused = run(&["ask", &path, "2", "RDS .R:A"]);
     assert_eq!(
@@ -122,7 +122,7 @@ fn the_lamp_is_green() {
     let ran = run(&["job", &path, "1", ".R", &sheets[0], &sheets[1]]);
     assert_eq!(
         (ran.status, ran.out().as_str()),
-        (0, "green: sheets filed and read back: 2, stores: 6\n")
+        (0, "green: sheets filed and read back: 2, stores: 10\n")
     );
     let expected = [
         ("CRD .R", &b""[..]),
@@ -187,7 +187,7 @@ fn mend_mends_and_says_what() {
     let ran = run(&["mend", &path]);
     assert_eq!(
         ran.out(),
-        format!("{path}: 16 records, mended: 1 record of a request that was cut is cleared\n")
+        format!("{path}: 16 records, mended: 1 record, cleared or counted anew\n")
     );
     assert_eq!(held(&path), before);
     assert_eq!(
@@ -208,6 +208,46 @@ fn ask_and_job_mend_first_and_say_so() {
         assert_eq!(ran.status, 0);
         assert!(ran.err.contains("mended: 2 records"), "{ran:?}");
     }
+}
+
+#[test]
+fn a_request_cut_before_its_counts_is_done_and_counted_anew() {
+    let folder = Folder::new();
+    let mut cut = table(16, &[("CRD .R", b"")]);
+    let answer = filebox::request(&mut cut, b"WRS M .R:A", b"x", &mut [], 1, 3);
+    assert_eq!(answer.stores, 3);
+    let path = folder.file("cut", &cut);
+    // nothing would be cleared
+    let drawn = run(&["show", &path]).out();
+    assert!(drawn.contains("\n   0 DeFte...........\n"), "{drawn}");
+    assert!(drawn.contains("mending would clear 0"), "{drawn}");
+    let ran = run(&["mend", &path]);
+    assert_eq!(
+        ran.out(),
+        format!("{path}: 16 records, mended: 2 records, cleared or counted anew\n")
+    );
+    let expected = [("CRD .R", &b""[..]), ("WRS M .R:A", b"x")];
+    assert_eq!(held(&path), table(16, &expected));
+}
+
+#[test]
+fn a_table_without_counts_is_brought_up_to_date() {
+    let folder = Folder::new();
+    let requests: [(&str, &[u8]); 3] = [
+        ("CRD .R", b""),
+        ("WRS M .R:A", b"5.0 V"),
+        ("DUP .R .R:UP", b""),
+    ];
+    let counted = table(16, &requests);
+    let mut old = counted.clone();
+    for heading in old.chunks_mut(32).filter(|record| record[0] == 1) {
+        heading[12..16].fill(0);
+    }
+    let path = folder.file("old", &old);
+    let ran = run(&["ask", &path, "1", "RDS .R:A"]);
+    assert_eq!(ran.out(), "0 0 0 1 0 5 0\n5.0 V");
+    assert!(ran.err.contains("mended: 2 records"), "{ran:?}");
+    assert_eq!(held(&path), counted);
 }
 
 #[test]
@@ -298,7 +338,7 @@ fn help_says_every_command_and_its_examples_work() {
     let path = folder.at("line1.table");
     assert_eq!(run(&["serve", &path]).status, 0);
     let limits = folder.file("limits", b"5.0 V\n");
-    assert_eq!(run(&["ask", &path, "1", "CRD .R"]).out(), "0 0 0 1 0 0 2\n");
+    assert_eq!(run(&["ask", &path, "1", "CRD .R"]).out(), "0 0 0 1 0 0 3\n");
     assert_eq!(run(&["job", &path, "1", ".R", &limits]).status, 0);
     assert_eq!(
         run(&["ask", &path, "1", "RDS .R:LIMITS"]).out(),

@@ -86,17 +86,17 @@ fn calls(line: &str, text: &[u8]) -> (Number, String) {
 #[test]
 fn three_phases_a_flush_after_each_and_none_for_an_empty_one() {
     let done = |calls: &str| (Number::Done, calls.to_string());
-    assert_eq!(calls("CRD .R:B", b""), done("6 | 7 |"));
-    assert_eq!(calls("WRS M .R:B", &[b'y'; 25]), done("6 7 8 | 9 |"));
+    assert_eq!(calls("CRD .R:B", b""), done("6 | 7 | 0 |"));
+    assert_eq!(calls("WRS M .R:B", &[b'y'; 25]), done("6 7 8 | 9 | 0 |"));
     assert_eq!(
         calls("WRS M .R:A", &[b'y'; 25]),
         done("6 7 8 | 5 | 2 3 4 |")
     );
     assert_eq!(calls("CPY .R:A .R:A", b""), done("6 7 8 | 5 | 2 3 4 |"));
-    assert_eq!(calls("DUP .R:A .R:B", b""), done("6 |"));
+    assert_eq!(calls("DUP .R:A .R:B", b""), done("6 | 0 2 |"));
     assert_eq!(calls("CHN .R:A B", b""), done("5 |"));
     assert_eq!(calls("DPR .R:A .4", b""), done("2 |"));
-    assert_eq!(calls("DEL .R:A", b""), done("5 | 2 3 4 |"));
+    assert_eq!(calls("DEL .R:A", b""), done("5 | 0 2 3 4 |"));
     assert_eq!(calls("RDS .R:A", b""), done(""));
     assert_eq!(calls("LST .R", b""), done(""));
     assert_eq!(calls("DUP .R:A .R:A", b""), done(""));
@@ -154,10 +154,10 @@ fn a_marked_file_is_repaired_in_two_phases_and_is_otherwise_a_file_as_any() {
     assert_eq!(asked("WRS* M .R:B", &[b'y'; 30]), done("3 4 | 2 |"));
     assert_eq!(asked("WRS* M .R:A", b""), done("2 |"));
     // a marked file somewhere makes no other request a rewrite
-    assert_eq!(asked("WRS M .R:C", b"y"), done("3 4 | 7 |"));
+    assert_eq!(asked("WRS M .R:C", b"y"), done("3 4 | 7 | 0 |"));
     assert_eq!(asked("DPR .R:A .4", b""), done("2 |"));
-    assert_eq!(asked("DUP .R:A .R:C", b""), done("3 |"));
-    assert_eq!(asked("DEL .R:A .R:B", b""), done("5 | 6 | 2 |"));
+    assert_eq!(asked("DUP .R:A .R:C", b""), done("3 | 0 2 |"));
+    assert_eq!(asked("DEL .R:A .R:B", b""), done("5 | 0 2 | 6 | 0 2 |"));
     assert_eq!(asked("RDS .R:A", b""), (Number::Marked, String::new()));
 }
 
@@ -203,18 +203,24 @@ fn a_del_goes_name_by_name() {
     };
     assert_eq!(
         deleted("DEL .R:A .R:B .R:C"),
-        ([0, 0, 0, 3, 0, 0, 6], "4 | 5 | 2 3 | 7 | 6 |".to_string())
+        (
+            [0, 0, 0, 3, 0, 0, 3 + 5 + 4],
+            "4 | 0 2 | 5 | 0 2 3 | 7 | 0 6 |".to_string()
+        )
     );
     assert_eq!(
         deleted("DEL .R:C .R:B .R : A .R"),
         (
-            [0, 0, 0, 4, 0, 0, 8],
-            "7 | 6 | 5 | 4 | 2 3 | 1 | 0 |".to_string()
+            [0, 0, 0, 4, 0, 0, 4 + 3 + 5 + 3],
+            "7 | 0 6 | 5 | 0 2 | 4 | 0 2 3 | 1 | 0 |".to_string()
         )
     );
     assert_eq!(
         deleted("DEL .R:A .R:B .R:B .R:C"),
-        ([11, 3, 2, 2, 0, 0, 4], "4 | 5 | 2 3 |".to_string())
+        (
+            [11, 3, 2, 2, 0, 0, 3 + 5],
+            "4 | 0 2 | 5 | 0 2 3 |".to_string()
+        )
     );
 }
 
@@ -236,8 +242,9 @@ fn a_job_goes_sheet_by_sheet() {
         chain: ".R",
         sheets: &sheets,
     };
-    assert_eq!(kept.job(job).unwrap().unwrap().stores, 6);
-    assert_eq!(disk.calls.borrow().join(" "), "2 3 | 4 | 5 6 | 7 |");
+    assert_eq!(kept.job(job).unwrap().unwrap().stores, 10);
+    let calls = disk.calls.borrow().join(" ");
+    assert_eq!(calls, "2 3 | 4 | 0 | 5 6 | 7 | 0 |");
     let expected: [(&str, &[u8]); 3] =
         [("CRD .R", b""), ("WRS M .R:A", b"1"), ("WRS M .R:B", b"2")];
     assert_eq!(kept.table(), table(12, &expected));
@@ -254,6 +261,20 @@ fn opening_flushes_what_it_found_before_it_clears() {
     assert_eq!(answer.stores, 2);
     assert_eq!(kept.table(), table(6, &[("CRD .R", b"")]));
     assert_eq!(disk.calls.borrow().join(" "), "0 1 2 3 4 5 | 2 3 |");
+}
+
+#[test]
+fn opening_counts_what_a_cut_left_uncounted() {
+    let mut cut = table(6, &[("CRD .R", b"")]);
+    let answer = filebox::request(&mut cut, b"WRS M .R:A", b"x", &mut [], 1, 3);
+    assert_eq!(answer.stores, 3);
+    let disk = Noted::default();
+    *disk.bytes.borrow_mut() = cut;
+    let (kept, answer) = Kept::open(disk.clone()).unwrap();
+    assert_eq!(answer.stores, 2);
+    let expected = [("CRD .R", &b""[..]), ("WRS M .R:A", b"x")];
+    assert_eq!(kept.table(), table(6, &expected));
+    assert_eq!(disk.calls.borrow().join(" "), "0 1 2 3 4 5 | 0 2 |");
 }
 
 #[test]
@@ -290,7 +311,7 @@ fn a_disk_that_goes_on_failing_gives_no_answer() {
         *disk.fails.borrow_mut() = Some(0);
         assert!(ask(&mut kept, "CRD .R", b"").is_err());
     }
-    assert_eq!(ask(&mut kept, "CRD .R", b"").unwrap().stores, 2);
+    assert_eq!(ask(&mut kept, "CRD .R", b"").unwrap().stores, 3);
 }
 
 #[test]
@@ -315,7 +336,7 @@ fn on_standard_input_a_disk_error_ends_without_an_answer() {
     };
     let said = "line.table: the disk failed: out of order. This request has no answer, and may be done or not";
     assert_eq!(stopped.to_string(), said);
-    assert_eq!(output, b"0 0 0 1 0 0 2\n");
+    assert_eq!(output, b"0 0 0 1 0 0 3\n");
 }
 
 /// A disk in memory of which every call fails while it is told to.
@@ -363,7 +384,7 @@ fn a_fixture_is_told_of_a_disk_error_and_the_host_goes_on() {
     };
     thread::spawn(move || serve_all(&desk, vec![Fixture { listener, place }]));
     let (mut one, mut other) = (Connection::to(address), Connection::to(address));
-    assert_eq!(other.ask("CRD .R"), "0 0 0 1 0 0 2\n");
+    assert_eq!(other.ask("CRD .R"), "0 0 0 1 0 0 3\n");
     fails.store(true, Ordering::SeqCst);
     one.send(b"CRD .R:A\n");
     let mut said = String::new();
@@ -374,5 +395,5 @@ fn a_fixture_is_told_of_a_disk_error_and_the_host_goes_on() {
     );
     fails.store(false, Ordering::SeqCst);
     assert_eq!(other.ask("LST .R"), "0 0 0 1 0 0 0\n");
-    assert_eq!(other.ask("CRD .R:A"), "0 0 0 1 0 0 2\n");
+    assert_eq!(other.ask("CRD .R:A"), "0 0 0 1 0 0 4\n");
 }

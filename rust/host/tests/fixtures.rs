@@ -30,10 +30,10 @@ fn the_user_is_fixed_by_where_the_line_comes_from() {
         host.said
     );
     let mut fixtures: Vec<Connection> = host.addresses().into_iter().map(Connection::to).collect();
-    assert_eq!(fixtures[0].ask("CRD .R"), "0 0 0 1 0 0 2\n");
+    assert_eq!(fixtures[0].ask("CRD .R"), "0 0 0 1 0 0 3\n");
     assert_eq!(fixtures[1].ask("LST .R"), "11 1 1 0 0 0 0\n");
     assert_eq!(fixtures[2].ask("LST .R"), "0 0 0 1 0 0 0\n");
-    assert_eq!(fixtures[1].ask("CRD .R .4"), "0 0 0 1 0 0 2\n");
+    assert_eq!(fixtures[1].ask("CRD .R .4"), "0 0 0 1 0 0 3\n");
     assert_eq!(fixtures[0].ask("LST ."), "0 0 0 1 0 13 0\nDM.U0    .R\r\n");
     assert_eq!(fixtures[1].ask("LST ."), "0 0 0 1 0 13 0\nDM.U4    .R\r\n");
 }
@@ -77,8 +77,8 @@ fn rubbish_silence_and_going_away_disturb_nobody() {
     let host = hosted(&path, &[1, 1, 1]);
     let addresses = host.addresses();
     let mut good = Connection::to(addresses[0]);
-    assert_eq!(good.ask("CRD .R"), "0 0 0 1 0 0 2\n");
-    assert_eq!(good.ask("CRD .R:LIMITS"), "0 0 0 1 0 0 2\n");
+    assert_eq!(good.ask("CRD .R"), "0 0 0 1 0 0 3\n");
+    assert_eq!(good.ask("CRD .R:LIMITS"), "0 0 0 1 0 0 4\n");
     let _silent = Connection::to(addresses[1]);
     let mut rubbish = Connection::to(addresses[2]);
     rubbish.send(&[vec![0xff; 3_000_000], b"\nLST .R:\n".to_vec()].concat());
@@ -122,7 +122,7 @@ fn an_answer_that_nobody_reads_disturbs_nobody() {
     let mut deaf = Connection::to(addresses[1]);
     assert_eq!(
         good.ask(&format!("WRS M .R\n{}", "x".repeat(1_400))),
-        "0 0 0 1 0 0 61\n"
+        "0 0 0 1 0 0 62\n"
     );
     deaf.stream.set_nonblocking(true).unwrap();
     use std::io::Write;

@@ -7,7 +7,7 @@ use random::Random;
 
 const SCRIPT: &[u8] = b"CRD .R\nWRS M .R:LIMITS\n5.0 V\nRDS .R:LIMITS\nLST .R\nRDS .R:KEYS\n";
 const ANSWERS: &str =
-    "0 0 0 1 0 0 2\n0 0 0 1 0 0 3\n0 0 0 1 0 5 0\n5.0 V0 0 0 1 0 17 0\nFM.U0    LIMITS\r\n11 1 2 0 0 0 0\n";
+    "0 0 0 1 0 0 3\n0 0 0 1 0 0 5\n0 0 0 1 0 5 0\n5.0 V0 0 0 1 0 17 0\nFM.U0    LIMITS\r\n11 1 2 0 0 0 0\n";
 
 #[test]
 fn it_makes_the_file_and_answers_as_the_program_does() {
@@ -28,7 +28,7 @@ fn a_rewrite_takes_the_next_line_as_its_text() {
     let folder = Folder::new();
     let path = folder.at("line.table");
     let script = b"CRD .R\nWRS M .R:LIMITS\n5.0 V\nDUP .R:LIMITS .R:BOARD7\nWRS* M .R:LIMITS\n4.9 V\nRDS .R:BOARD7\nWRS* L .R:LIMITS\nLST .\n";
-    let answers = "0 0 0 1 0 0 2\n0 0 0 1 0 0 3\n0 0 0 1 0 0 1\n0 0 0 1 0 0 4\n0 0 0 1 0 5 0\n4.9 V9 1 0 0 0 0 0\n";
+    let answers = "0 0 0 1 0 0 3\n0 0 0 1 0 0 5\n0 0 0 1 0 0 3\n0 0 0 1 0 0 4\n0 0 0 1 0 5 0\n4.9 V9 1 0 0 0 0 0\n";
     let ran = run_with(&["serve", &path], script);
     assert_eq!((ran.status, ran.out().as_str()), (0, answers), "{ran:?}");
 }
@@ -60,7 +60,7 @@ fn it_has_as_many_records_as_are_asked_for() {
     let empty = folder.file("empty", b"");
     assert_eq!(
         run_with(&["serve", &empty, "--records", "2"], b"CRD .R\n").out(),
-        "0 0 0 1 0 0 2\n"
+        "0 0 0 1 0 0 3\n"
     );
 }
 
@@ -79,11 +79,11 @@ fn it_acts_for_user_1_or_for_the_user_that_is_said() {
     let path = folder.at("line.table");
     assert_eq!(
         run_with(&["serve", &path], b"CRD .R\n").out(),
-        "0 0 0 1 0 0 2\n"
+        "0 0 0 1 0 0 3\n"
     );
     assert_eq!(
         run_with(&["serve", &path, "--user", "7"], b"LST .R\nCRD .G\n").out(),
-        "11 1 1 0 0 0 0\n0 0 0 1 0 0 2\n"
+        "11 1 1 0 0 0 0\n0 0 0 1 0 0 3\n"
     );
     assert_eq!(
         run_with(&["serve", &path, "--user", "1"], b"LST .\n").out(),
@@ -130,7 +130,7 @@ fn what_a_cut_left_is_mended_and_that_is_said() {
     assert_eq!(ran.out(), "0 0 0 1 0 0 0\n");
     assert!(
         ran.err
-            .contains("mended: 4 records of a request that was cut are cleared"),
+            .contains("mended: 4 records, cleared or counted anew"),
         "{ran:?}"
     );
     assert_eq!(held(&path), before);
@@ -163,7 +163,7 @@ fn a_host_that_was_killed_leaves_no_lock() {
     drop(Serving::start(&["serve", &path], 2));
     assert_eq!(
         run_with(&["serve", &path], b"CRD .R\n").out(),
-        "0 0 0 1 0 0 2\n"
+        "0 0 0 1 0 0 3\n"
     );
 }
 

@@ -29,6 +29,8 @@ pub struct Tried {
     pub mends: u64,
     /// Pulls that were mended to a rewrite's file marked and empty.
     pub marked: u64,
+    /// Pulls after which a heading was counted anew.
+    pub counted: u64,
     /// Disk errors that the host went on after.
     pub errors: u64,
     /// Flushes, of requests that changed something.
@@ -172,6 +174,7 @@ impl Story {
             .as_ref()
             .is_some_and(|(_, empty)| *empty == table);
         self.tried.marked += u64::from(marked);
+        self.tried.counted += u64::from(counted_anew(left, &table));
         let call = self.random.below(machine.calls().max(1) as usize) as u64;
         self.mended_in_turn(left, call, &table)
     }
@@ -238,6 +241,12 @@ impl Story {
             false => Err("after a disk error, neither the table before nor after".to_string()),
         }
     }
+}
+
+/// Has a heading other counts once what was left is mended?
+fn counted_anew(left: &[u8], mended: &[u8]) -> bool {
+    let mut pairs = left.chunks(32).zip(mended.chunks(32));
+    pairs.any(|(left, mended)| left != mended && mended[0] == 1)
 }
 
 /// Is the one record that counts as it is afterwards?

@@ -17,6 +17,7 @@ fn any_part_of_what_was_not_flushed_is_mended_to_the_table_before_or_after() {
         tried.halves > 10_000 && tried.mends > 10_000 && tried.errors > 20,
         "{tried:?}"
     );
+    assert!(tried.counted > 500, "{tried:?}");
     assert!(tried.flushes <= 3 * tried.changing, "{tried:?}");
 }
 

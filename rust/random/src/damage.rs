@@ -1,5 +1,6 @@
-//! Damage to a table: a few bytes changed, records copied or cleared, free records littered.
+//! Damage to a table: a few bytes changed, records copied or cleared, headings marked or counted wrongly, free records littered.
 
+use crate::counts::miscount;
 use crate::rewrites::mark;
 use crate::Random;
 
@@ -14,20 +15,21 @@ fn likely(random: &mut Random, table: &[u8]) -> u8 {
 }
 
 /// Change one of the first twenty bytes of a record, which hold all fields but a text's; or point a field at another
-/// record; or copy or clear a record; or mark the headings among three records.
+/// record; or copy or clear a record; or mark every heading in some stretch of the table; or make a count wrong.
 pub fn damage(random: &mut Random, table: &mut [u8]) {
     let records = table.len() / 32;
     if records == 0 {
         return;
     }
     let (other, to) = (random.below(records), random.below(records) * 32);
-    match random.below(10) {
+    match random.below(11) {
         0 => table.copy_within(other * 32..other * 32 + 32, to),
         1 => table[to..to + 32].fill(0),
         3 => {
             let stretch = table[to..].chunks_exact_mut(32).take(3);
             stretch.for_each(|record| mark(random, record));
         }
+        4 => miscount(random, table),
         2 => {
             let field = to + random.pick(&[2, 4]);
             table[field..field + 2].copy_from_slice(&(other as u16).to_le_bytes());

@@ -1,6 +1,7 @@
 //! What the random tests share: a repeatable source of numbers, request lines, and damage to a table.
 
 pub mod chains;
+pub mod counts;
 pub mod damage;
 pub mod lines;
 pub mod parts;
@@ -134,6 +135,67 @@ mod tests {
             let mut record = [kind; 12];
             rewrites::mark(&mut random, &mut record);
             assert_eq!(record, [kind; 12]);
+        }
+    }
+
+    #[test]
+    fn each_byte_of_a_count_is_made_wrong_and_no_other() {
+        let mut random = Random::new(1);
+        let mut met = [0; 4];
+        for _ in 0..200 {
+            // an entry, a heading, a text
+            let mut table = vec![0; 96];
+            (table[0], table[32], table[64]) = (2, 1, 3);
+            let before = table.clone();
+            counts::miscount(&mut random, &mut table);
+            let other = table.iter().zip(&before).position(|(one, two)| one != two);
+            if let Some(at) = other {
+                met[at - 44] += 1;
+                table[at] = 0;
+            }
+            assert_eq!(table, before);
+        }
+        assert!(met.iter().all(|times| *times > 10));
+        counts::miscount(&mut random, &mut []);
+        counts::miscount(&mut random, &mut [2; 32]);
+    }
+
+    #[test]
+    fn a_table_of_document_01_has_no_count() {
+        let mut table = vec![9; 64];
+        table[0] = 1;
+        counts::uncount(&mut table);
+        assert_eq!(table[12..16], [0; 4]);
+        table[12..16].fill(9);
+        table[0] = 9;
+        assert_eq!(table, [9; 64]);
+    }
+
+    #[test]
+    fn every_kind_of_line_that_moves_counts_comes() {
+        // a directory, which is user 1's `.R`, and an entry A in it that names an empty sheet
+        let mut table = vec![0; 128];
+        table[0] = 1;
+        table[32..44].copy_from_slice(&[2, 0, 255, 255, 0, 0, 1, 0, 0, 2, b'.', b'R']);
+        table[64..75].copy_from_slice(&[2, 0, 0, 0, 3, 0, 0, 0, 0, 1, b'A']);
+        table[96..101].copy_from_slice(&[1, 1, 0, 0, 1]);
+        let mut random = Random::new(1);
+        let lines: Vec<Vec<u8>> = (0..3_000)
+            .map(|_| counts::about(&mut random, &table, 1))
+            .collect();
+        for line in [
+            "DUP .R .R:B",
+            "DUP .R:A .R:A .4",
+            "DUP .R:A .AB",
+            "DUP .R .R:A",
+            "DEL .R:A",
+            "DEL .R:A .R:A",
+            "CRD .R:A",
+            "WRS M .R:A",
+            "CPY .R:A .R:A",
+            "WRS* M .R:A",
+        ] {
+            assert!(lines.iter().any(|met| met == line.as_bytes()), "{line}");
         }
     }
 

@@ -71,8 +71,8 @@ pub fn line(random: &mut Random) -> Vec<u8> {
             "DPR {one} {}",
             random.pick(&[".1", ".3", ".7", ".0", "M.1", "-", ""])
         ),
-        14 => format!("LST {}", if random.once_in(3) { "." } else { one }),
         19..=21 => format!("WRS* {} {one}", medium(random)),
+        14 => format!("LST {}", if random.once_in(3) { "." } else { one }),
         _ => {
             let name = if random.once_in(3) { "." } else { one };
             format!("LST* {name} {}", shallow(random))

@@ -48,8 +48,8 @@ pub fn granted(random: &mut Random, table: &[u8], user: u32) -> String {
         34..=38 => format!("RDS {one}{}", part(random)),
         39 | 40 => format!("LST {one}"),
         41 => "LST .".to_string(),
-        42..=44 => format!("LST* {one} {}", depth(random)),
         46..=49 => format!("WRS* {} {one}", medium(random)),
+        42..=44 => format!("LST* {one} {}", depth(random)),
         _ => format!("LST* . {}", depth(random)),
     }
 }
@@ -69,8 +69,8 @@ pub fn long(random: &mut Random, table: &[u8], user: u32) -> Vec<u8> {
         8 => format!("CHN {chain} {}", link(random)),
         9 => format!("DPR {chain} .4"),
         10 => format!("DEL {chain}"),
-        11 => format!("LST* {chain} {}", depth(random)),
         12 => format!("WRS* M {chain}"),
+        11 => format!("LST* {chain} {}", depth(random)),
         _ => format!("DEL {other} {chain}"),
     };
     line.into_bytes()

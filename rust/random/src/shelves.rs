@@ -34,8 +34,8 @@ fn misplaced(random: &mut Random, table: &[u8], user: u32, other: u32) -> String
         9 => format!("DUP {own} .{other:06}"),
         10 => format!("DUP {own} {name}:{link}"),
         11 => format!("DUP {own} .{other:05}:{link}"),
-        12 => format!("RDS .{other:07}:{link}"),
         13 => format!("WRS* M {name}"),
+        12 => format!("RDS .{other:07}:{link}"),
         _ => format!("LST .{other:05}{}", random.pick(&["A", ".", "_"])),
     }
 }

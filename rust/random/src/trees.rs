@@ -29,7 +29,7 @@ pub fn line(random: &mut Random, table: &[u8], user: u32, other: u32) -> Vec<u8>
         0..=3 => ".".to_string(),
         4..=6 => taken(random, table, other),
         7 => long(random, table, user),
-        8 => format!("{}:{}", old(random, table, user), link(random)),
+        8 | 11 => format!("{}:{}", old(random, table, user), link(random)),
         9 => random.pick(&[".1", ".A:B", ".:A", ".00077"]).to_string(),
         10 => random.pick(&["-", "A::B", "@", ".GONE"]).to_string(),
         _ => old(random, table, user),

@@ -13,7 +13,7 @@ use Rattle.paper.specs.Line.{Word}
 use Rattle.paper.specs.Check.{atLink, Refusal, refusalAt, Check}
 use Rattle.paper.specs.Request.{Begin, own, takeOf, giveTo}
 use Rattle.paper.specs.Walk.{State}
-use Rattle.paper.specs.Effect.{Plan, Planned, plan, halted, chainOf, endOf, toHolder, toEnd, Making, making, linkTaken, linking, showing, readInhibited, notSimple, noDirectory, writeInhibited, tooShort, isMarked, crdPlan, wrsPlan, rdsPlan, cpyPlan, dupPlan, chnPlan, delPlan, dprPlan, lstPlan, lstBasePlan, lstTreePlan, lstBaseTreePlan, rewritePlan}
+use Rattle.paper.specs.Effect.{Plan, Planned, plan, halted, chainOf, endOf, toHolder, toEnd, Making, making, linkTaken, linking, showing, readInhibited, notSimple, noDirectory, writeInhibited, tooShort, crdPlan, wrsPlan, rdsPlan, cpyPlan, dupPlan, chnPlan, delPlan, dprPlan, lstPlan, lstBasePlan, lstTreePlan, lstBaseTreePlan, rewritePlan}
 use Rattle.laws.proofs.Lists.{Every, every-append, every-parts}
 use Rattle.demands.proofs.Request.Fair.{Idle, Fair, FairCheck, Chained, ofChain, verdict-fair, fair-line, fair-linked, fair-end, fair-whole}
 use Rattle.demands.proofs.Request.Steps.{Walks, Halts, holder-within, end-within}

@@ -1,5 +1,5 @@
--- Mending takes away what a cut request left, and nothing else. Its two steps find the headings and the text of the debris, so it leaves of s
--- no more than f: f stands between s and what mending leaves of s, and both mend to the same table.
+-- Mending takes away what a cut request left, and nothing else. Its two steps find the headings and the text of the debris, so they leave of
+-- s no more than f: f stands between s and what is left of s, and both mend to the same table.
 use mathlib.Core.Bool.{Bool, true, false, _&&_, not}
 use mathlib.Core.List.{List, []}
 use mathlib.Core.Logic.{_⊎_, inl, inr, by-cases}
@@ -13,17 +13,22 @@ use Rattle.paper.specs.Record.{byte, isKind, marked, textLength, simple, names,
 use Rattle.paper.specs.Table.{rooms, rec}
 use Rattle.paper.specs.Entry.{named}
 use Rattle.paper.specs.Block.{blocks}
+use Rattle.paper.specs.Store.{run}
+use Rattle.paper.specs.Count.{recounts}
 use Rattle.paper.specs.Sound.{textInPlace}
-use Rattle.paper.specs.Mend.{keepsText, orphan, stray, mendStores, mended}
+use Rattle.paper.specs.Mend.{keepsText, orphan, stray, clearStores, cleared, mendStores, mended}
 use Rattle.laws.proofs.Tests.{and-left, and-right, and-both, not-both, false-by}
 use Rattle.laws.proofs.Scans.{any-true}
 use Rattle.laws.proofs.Entries.{names-kind, names-heading}
 use Rattle.laws.proofs.Lay.{Whole, rec-past, within}
+use Rattle.laws.proofs.Recounts.{recounts-none}
 use Rattle.demands.proofs.Sound.Clauses.{Sound, heading-marked, named-by}
+use Rattle.demands.proofs.Sound.Right.{Right}
 use Rattle.demands.proofs.Sound.Points.{text-points}
 use Rattle.demands.proofs.Mending.Wipe.{rec-wiped}
-use Rattle.demands.proofs.Mending.Part.{Alike, equal, heading, text, Part, own, loose, Parts, Kept, Below, free, stays, Less}
-use Rattle.demands.proofs.Mending.Less.{alike-is, alike-sym, below-trans, less-free, up-keeps, after₁, in-steps, less₁, less₂, mended-less}
+use Rattle.demands.proofs.Mending.Part.{Alike, heading, text, Part, own, loose, Parts, Kept, Below, free, stays, Less}
+use Rattle.demands.proofs.Mending.Counts.{alike-sym, alike-same, alike-names, counts-at}
+use Rattle.demands.proofs.Mending.Less.{below-trans, less-trans, less-free, up-keeps, after₁, in-steps, less₁, less₂, cleared-less}
 use Rattle.demands.proofs.Mending.Squeeze.{quiet, still, squeeze}
 
 -- a free record keeps no text
@@ -33,25 +38,36 @@ keeps-none = refl
 
 -- ---- a table that keeps the clauses has nothing to mend
 
-no-orphan : (t : List ℕ) → Kept t → (i : ℕ) → i < rooms t → orphan t i ≡ false
-no-orphan t k i l = go (isKind 1 (rec t i)) refl
-  where
-    go : (b : Bool) → isKind 1 (rec t i) ≡ b → (b && not (named t i)) ≡ false
-    go true e = rw (k .headings i l (eqb-true _ _ e))
-    go false e = refl
+module _ (t : List ℕ) (named-all : (i : ℕ) → i < rooms t → byte (rec t i) 0 ≡ 1 → named t i ≡ true)
+    (kept-all : (i : ℕ) → i < rooms t → byte (rec t i) 0 ≡ 3 → keepsText (rec t (headingOf (rec t i))) ≡ true) where
+  no-orphan : (i : ℕ) → i < rooms t → orphan t i ≡ false
+  no-orphan i l = go (isKind 1 (rec t i)) refl
+    where
+      go : (b : Bool) → isKind 1 (rec t i) ≡ b → (b && not (named t i)) ≡ false
+      go true e = rw (named-all i l (eqb-true _ _ e))
+      go false e = refl
 
-no-stray : (t : List ℕ) → Kept t → (i : ℕ) → i < rooms t → stray t i ≡ false
-no-stray t k i l = go (isKind 3 (rec t i)) refl
-  where
-    go : (b : Bool) → isKind 3 (rec t i) ≡ b → (b && not (keepsText (rec t (headingOf (rec t i))))) ≡ false
-    go true e = rw (k .texts i l (eqb-true _ _ e))
-    go false e = refl
+  no-stray : (i : ℕ) → i < rooms t → stray t i ≡ false
+  no-stray i l = go (isKind 3 (rec t i)) refl
+    where
+      go : (b : Bool) → isKind 3 (rec t i) ≡ b → (b && not (keepsText (rec t (headingOf (rec t i))))) ≡ false
+      go true e = rw (kept-all i l (eqb-true _ _ e))
+      go false e = refl
+
+  -- nothing to clear: the counts are all there is
+  nothing-to-clear : clearStores t ≡ []
+  nothing-to-clear = quiet t no-orphan no-stray
+
+  only-counts : mendStores t ≡ recounts t
+  unfolding mendStores
+  only-counts = rw (nothing-to-clear, still t nothing-to-clear)
 
 pub nothing-to-mend : (t : List ℕ) → Kept t → mendStores t ≡ []
-nothing-to-mend t k = quiet t (no-orphan t k) (no-stray t k)
+nothing-to-mend t k = only-counts t (k .headings) (k .texts) ∙ recounts-none t (k .counts)
 
 pub mended-kept : (t : List ℕ) → Kept t → mended t ≡ t
-mended-kept t k = still t (nothing-to-mend t k)
+unfolding mended run
+mended-kept t k = rw (nothing-to-mend t k)
 
 -- as a sound table does: a marked file has no text
 keeps-by : (t : List ℕ) → Sound t → (i : ℕ) → i < rooms t → byte (rec t i) 0 ≡ 3 → keepsText (rec t (headingOf (rec t i))) ≡ true
@@ -73,12 +89,25 @@ keeps-by t c i l k =
         heading-marked h (c .own (headingOf (rec t i)) (within t (headingOf (rec t i)) (c .whole) (omega arith)) .heading g) (eqb-true _ _ m) .length in
         omega arith)
 
-pub sound-keeps : (t : List ℕ) → Sound t → Kept t
+pub sound-keeps : (t : List ℕ) → Right t → Kept t
 sound-keeps t c =
-    record { headings = named-by t c; entries = λ i l k. rw (c .targets i l k); texts = keeps-by t c }
+    record {
+      headings = named-by t (c .clauses);
+      entries = λ i l k. rw (c .clauses .targets i l k);
+      texts = keeps-by t (c .clauses);
+      counts = counts-at t (c .counts);
+    }
 
-pub mended-sound : (t : List ℕ) → Sound t → mended t ≡ t
+pub mended-sound : (t : List ℕ) → Right t → mended t ≡ t
 mended-sound t c = mended-kept t (sound-keeps t c)
+
+-- and one whose counts are not true has them corrected, and no more
+pub mend-shaped : (t : List ℕ) → Sound t → mendStores t ≡ recounts t
+mend-shaped t c = only-counts t (named-by t c) (keeps-by t c)
+
+pub mended-shaped : (t : List ℕ) → Sound t → mended t ≡ run t (recounts t)
+unfolding mended
+mended-shaped t c = rw (mend-shaped t c)
 
 -- ---- mending leaves no more than f
 
@@ -94,7 +123,7 @@ module _ (f s : List ℕ) (w : Whole f) (p : Parts f s) where
   inside i l = rw (p .long) l
 
   -- f is s with its debris cleared
-  part-less : Less s f
+  pub part-less : Less s f
   part-less = record { long = sym (p .long); each = λ i l. go i (p .each i (rw (p .long) at l)) }
     where
       go : (i : ℕ) → Part f s i (rec f i) (rec s i) → Below (rec s i) (rec f i)
@@ -122,28 +151,33 @@ module _ (f s : List ℕ) (w : Whole f) (p : Parts f s) where
       past o = unfold keepsText in rw (rec-past (after₁ s) h (rw (less₁ s .long) whole) (rw (less₁ s .long, p .long) (omega arith)))
 
   -- after the second
-  under₂ : (i : ℕ) → i < rooms f → Below (rec f i) (rec (after₁ s) i) ⊎ Text f (rec s i) → Below (rec f i) (rec (mended s) i)
+  under₂ : (i : ℕ) → i < rooms f → Below (rec f i) (rec (after₁ s) i) ⊎ Text f (rec s i) → Below (rec f i) (rec (cleared s) i)
   under₂ i l = go
     where
       l₁ : i < rooms (after₁ s)
       l₁ = rw (less₁ s .long) (inside i l)
 
-      goes : Text f (rec s i) → Below (rec s i) (rec (after₁ s) i) → rec (mended s) i ≡ blank
-      goes q (free e) = less-free (after₁ s) (mended s) (less₂ s) i l₁ e
+      goes : Text f (rec s i) → Below (rec s i) (rec (after₁ s) i) → rec (cleared s) i ≡ blank
+      goes q (free e) = less-free (after₁ s) (cleared s) (less₂ s) i l₁ e
       goes q (stays y) =
           rw (in-steps s)
-          (rec-wiped (after₁ s) (stray (after₁ s)) i l₁ ∙ rw (alike-is (rec s i) (rec (after₁ s) i) y, q .0, keeps₁ (headingOf (rec s i)) (q .1)))
+          (rec-wiped (after₁ s) (stray (after₁ s)) i l₁
+          ∙ rw (alike-same (rec s i) (rec (after₁ s) i) y (rw (q .0)), q .0, keeps₁ (headingOf (rec s i)) (q .1)))
 
-      go : Below (rec f i) (rec (after₁ s) i) ⊎ Text f (rec s i) → Below (rec f i) (rec (mended s) i)
-      go (inl b) = below-trans (rec f i) (rec (after₁ s) i) (rec (mended s) i) b (less₂ s .each i l₁)
+      go : Below (rec f i) (rec (after₁ s) i) ⊎ Text f (rec s i) → Below (rec f i) (rec (cleared s) i)
+      go (inl b) = below-trans (rec f i) (rec (after₁ s) i) (rec (cleared s) i) b (less₂ s .each i l₁)
       go (inr q) = free (goes q (less₁ s .each i (inside i l)))
 
-  mended-under : Less f (mended s)
-  mended-under = record { long = mended-less s .long ∙ p .long; each = λ i l. under₂ i l (under₁ i l (p .each i l)) }
+  pub cleared-under : Less f (cleared s)
+  cleared-under = record { long = cleared-less s .long ∙ p .long; each = λ i l. under₂ i l (under₁ i l (p .each i l)) }
 
   -- whatever f is, both mend to the same table, which is f where f keeps the clauses
   pub debris : Kept f → mended s ≡ f
-  debris k = sym (squeeze s f whole part-less mended-under) ∙ mended-kept f k
+  debris k = sym (squeeze s f whole part-less cleared-under) ∙ mended-kept f k
+
+  -- and so does every table between s and f
+  pub between : Kept f → (a : List ℕ) → Less s a → Less a f → mended a ≡ f
+  between k a d e = squeeze s a whole d (less-trans a f (cleared s) e cleared-under) ∙ debris k
 
 -- ---- the debris of one request
 
@@ -166,14 +200,14 @@ module _ (f s : List ℕ) (k : Kept f) (e : length s ≡ length f) (h : (i : ℕ
       at (x .0) (x .1) (x .2) (h (x .0) (x .1)))
     where
       at : (j : ℕ) → j < rooms f → names i (rec s j) ≡ true → Left f (rec f j) (rec s j) → ⊥
-      at j l n (ours (equal q)) =
-          let m : names i (rec f j) ≡ true = rw q at n in
+      at j l n (ours x) =
+          let m : names i (rec f j) ≡ true = sym (alike-names i (rec f j) (rec s j) x) ∙ n in
           let g : isKind 1 (rec f (headingNamed (rec f j))) ≡ true = k .entries j l (names-kind i (rec f j) m) in
           not-both g (rw (names-heading i (rec f j) m, z) (unfold blank in refl))
       at j l n (litter b (head q)) = omega (arith, names-kind i (rec s j) n)
       at j l n (litter b (body q g)) = omega (arith, names-kind i (rec s j) n)
 
-  left-parts : Parts f s
+  pub left-parts : Parts f s
   left-parts = record { long = e; each = λ i l. go i (h i l) }
     where
       go : (i : ℕ) → Left f (rec f i) (rec s i) → Part f s i (rec f i) (rec s i)

@@ -1,5 +1,5 @@
 -- Mending is monotone. Clearing takes headings and names away and brings none, so each test that holds still holds when more is cleared:
--- what goes still goes. So each step of a lesser table leaves a lesser table, and so does mending.
+-- what goes still goes. So each step of a lesser table leaves a lesser table, and so does all that mending clears.
 use mathlib.Core.Bool.{Bool, true, false, not, cond}
 use mathlib.Core.List.{List}
 use mathlib.Core.Logic.{_⊎_, inl, inr, by-cases}
@@ -7,31 +7,22 @@ use mathlib.Core.Path.{_≡_, refl, sym, _∙_}
 use Prim.Native.Nat.{ℕ, _<_}
 use native.Mathlib.Omega.{arith}
 use native.Mathlib.Decide.{decLt}
-use Rattle.paper.specs.Record.{isKind, names, headingOf, blank}
+use borrow.Author.Tests.{eqb-true}
+use Rattle.paper.specs.Record.{byte, isKind, names, headingOf, blank}
 use Rattle.paper.specs.Table.{rooms, rec}
 use Rattle.paper.specs.Entry.{named}
-use Rattle.paper.specs.Mend.{keepsText, orphan, stray, wiped, mended}
+use Rattle.paper.specs.Store.{run}
+use Rattle.paper.specs.Count.{recounts}
+use Rattle.paper.specs.Mend.{keepsText, orphan, stray, wiped, cleared, mended}
 use Rattle.laws.proofs.Tests.{truth, not-both, and-left, and-right, and-both, either}
 use Rattle.laws.proofs.Scans.{any-true, any-here}
 use Rattle.laws.proofs.Lay.{Whole, rec-past}
 use Rattle.laws.proofs.Runs.{length-run, rooms-run}
-use Rattle.demands.proofs.Mending.Wipe.{rec-wiped, mended-is}
+use Rattle.demands.proofs.Mending.Wipe.{rec-wiped, cleared-is, mended-is}
 use Rattle.demands.proofs.Mending.Part.{Alike, equal, Below, free, stays, Less}
+use Rattle.demands.proofs.Mending.Counts.{alike-trans, alike-kind, alike-keeps, alike-same, is-blank, alike-names, recounts-each}
 
 -- ---- the order
-
-pub alike-is : (x r : List ℕ) → Alike x r → r ≡ x
-alike-is x r (equal e) = e
-
-pub alike-sym : (x r : List ℕ) → Alike x r → Alike r x
-alike-sym x r (equal e) = equal (sym e)
-
-pub alike-trans : (x y z : List ℕ) → Alike x y → Alike y z → Alike x z
-alike-trans x y z (equal p) (equal q) = equal (q ∙ p)
-
--- a free record is like no other
-pub is-blank : (r : List ℕ) → Alike blank r → r ≡ blank
-is-blank r (equal e) = e
 
 pub below-trans : (x y z : List ℕ) → Below x y → Below y z → Below x z
 below-trans x y z p (free e) = free e
@@ -67,15 +58,15 @@ less-free s a d i l e = go (d .each i l)
 
 -- ---- a test that a blank record does not pass: what passes it passed before
 
-up : (q : List ℕ → Bool) → q blank ≡ false → (x r : List ℕ) → Below x r → q r ≡ true → q x ≡ true
-up q z x r (free e) t = absurd (not-both t (rw e z))
-up q z x r (stays (equal e)) t = rw e at t
+up : (q : List ℕ → Bool) → q blank ≡ false → ((x r : List ℕ) → Alike x r → q r ≡ q x) → (x r : List ℕ) → Below x r → q r ≡ true → q x ≡ true
+up q z k x r (free e) t = absurd (not-both t (rw e z))
+up q z k x r (stays a) t = sym (k x r a) ∙ t
 
 pub up-keeps : (x r : List ℕ) → Below x r → keepsText r ≡ true → keepsText x ≡ true
-up-keeps = up keepsText (unfold blank keepsText in refl)
+up-keeps = up keepsText (unfold blank keepsText in refl) alike-keeps
 
 up-names : (h : ℕ) (x r : List ℕ) → Below x r → names h r ≡ true → names h x ≡ true
-up-names h = up (names h) (unfold blank in refl)
+up-names h = up (names h) (unfold blank in refl) (alike-names h)
 
 not-down : (a b : Bool) → (a ≡ true → b ≡ true) → not b ≡ true → not a ≡ true
 not-down a true h e = absurd (not-both e refl)
@@ -97,15 +88,16 @@ module _ (s a : List ℕ) (w : Whole s) (d : Less s a) where
 
   -- ---- what goes still goes
 
-  orphan-still : (i : ℕ) → Alike (rec s i) (rec a i) → orphan s i ≡ true → orphan a i ≡ true
+  pub orphan-still : (i : ℕ) → Alike (rec s i) (rec a i) → orphan s i ≡ true → orphan a i ≡ true
   orphan-still i x g =
-      rw (alike-is (rec s i) (rec a i) x) (and-both (isKind 1 (rec s i)) _ (and-left (isKind 1 (rec s i)) _ g)
+      rw (alike-kind (rec s i) (rec a i) x) (and-both (isKind 1 (rec s i)) _ (and-left (isKind 1 (rec s i)) _ g)
       (not-down (named a i) (named s i) (up-named i) (and-right (isKind 1 (rec s i)) _ g)))
 
-  stray-still : (i : ℕ) → Alike (rec s i) (rec a i) → stray s i ≡ true → stray a i ≡ true
+  pub stray-still : (i : ℕ) → Alike (rec s i) (rec a i) → stray s i ≡ true → stray a i ≡ true
   stray-still i x g =
+      let k : byte (rec s i) 0 ≡ 3 = eqb-true _ _ (and-left (isKind 3 (rec s i)) _ g) in
       let h : ℕ = headingOf (rec s i) in
-      rw (alike-is (rec s i) (rec a i) x) (and-both (isKind 3 (rec s i)) _ (and-left (isKind 3 (rec s i)) _ g)
+      rw (alike-same (rec s i) (rec a i) x (rw k)) (and-both (isKind 3 (rec s i)) _ (rw k)
       (not-down (keepsText (rec a h)) (keepsText (rec s h)) (up-keeps (rec s h) (rec a h) (below h)) (and-right (isKind 3 (rec s i)) _ g)))
 
 -- ---- a step
@@ -135,27 +127,27 @@ wiped-mono s a p q d h = record { long = rw (length-run s _, length-run a _) (d 
         let m : i < rooms s = rw (rooms-run s _) at l in
         rw (rec-wiped s p i m, rec-wiped a q i (rw (d .long) m)) (go i (d .each i m) (truth (p i)))
 
--- ---- the two steps, and mending
+-- ---- the two steps
 
 unfoldable pub after₁ : List ℕ → List ℕ
 after₁ t = wiped (orphan t) t
 
-pub in-steps : (t : List ℕ) → mended t ≡ wiped (stray (after₁ t)) (after₁ t)
+pub in-steps : (t : List ℕ) → cleared t ≡ wiped (stray (after₁ t)) (after₁ t)
 unfolding after₁
-in-steps t = mended-is t
+in-steps t = cleared-is t
 
 pub less₁ : (t : List ℕ) → Less t (after₁ t)
 unfolding after₁
 less₁ t = wiped-less t (orphan t)
 
-pub less₂ : (t : List ℕ) → Less (after₁ t) (mended t)
+pub less₂ : (t : List ℕ) → Less (after₁ t) (cleared t)
 less₂ t = rw (in-steps t) (wiped-less (after₁ t) (stray (after₁ t)))
 
-pub mended-less : (t : List ℕ) → Less t (mended t)
-mended-less t = less-trans t (after₁ t) (mended t) (less₁ t) (less₂ t)
+pub cleared-less : (t : List ℕ) → Less t (cleared t)
+cleared-less t = less-trans t (after₁ t) (cleared t) (less₁ t) (less₂ t)
 
-pub mended-mono : (s a : List ℕ) → Whole s → Less s a → Less (mended s) (mended a)
-mended-mono s a w d =
+pub cleared-mono : (s a : List ℕ) → Whole s → Less s a → Less (cleared s) (cleared a)
+cleared-mono s a w d =
     rw (in-steps s, in-steps a) (wiped-mono (after₁ s) (after₁ a) (stray (after₁ s)) (stray (after₁ a)) d₁ (stray-still (after₁ s) (after₁ a) w₁ d₁))
   where
     w₁ : Whole (after₁ s)
@@ -163,3 +155,11 @@ mended-mono s a w d =
 
     d₁ : Less (after₁ s) (after₁ a)
     d₁ = unfold after₁ in wiped-mono s a (orphan s) (orphan a) d (orphan-still s a w d)
+
+-- ---- and the counts
+
+pub recounts-less : (t : List ℕ) → Less t (run t (recounts t))
+recounts-less t = record { long = length-run t _; each = λ i l. stays (recounts-each t i l) }
+
+pub mended-less : (t : List ℕ) → Less t (mended t)
+mended-less t = rw (mended-is t) (less-trans t (cleared t) _ (cleared-less t) (recounts-less (cleared t)))

@@ -4,15 +4,24 @@ use mathlib.Core.Bool.{true, false}
 use mathlib.Core.List.{List}
 use mathlib.Core.Path.{_≡_}
 use Prim.Native.Nat.{ℕ, _<_}
-use lib.ListN.{length}
-use Rattle.paper.specs.Record.{byte, isKind, headingNamed, headingOf, blank}
+use lib.ListN.{length, take, drop}
+use Rattle.paper.specs.Record.{byte, isKind, directory, headingNamed, headingOf, blank}
 use Rattle.paper.specs.Table.{rooms, rec}
 use Rattle.paper.specs.Entry.{named}
+use Rattle.paper.specs.Count.{countsRight}
 use Rattle.paper.specs.Mend.{keepsText}
 
--- r is x, as far as mending leaves it
+-- r is the heading x but for its counts: bytes 12-13, and 14-15 in a directory
+pub record ButCounts (x r : List ℕ) : Type 0 where
+  pub kind : byte x 0 ≡ 1
+  pub front : take 12 r ≡ take 12 x
+  pub file : directory x ≡ false → take 2 (drop 14 r) ≡ take 2 (drop 14 x)
+  pub back : drop 16 r ≡ drop 16 x
+
+-- r is x, but for what mending writes anew
 pub data Alike (x r : List ℕ) : Type 0 where
   equal : r ≡ x → Alike x r
+  counts : ButCounts x r → Alike x r
 
 -- r, in record i of s, is debris over f: mending takes it away
 pub data Goes (f s : List ℕ) (i : ℕ) (r : List ℕ) : Type 0 where
@@ -33,8 +42,9 @@ pub record Kept (f : List ℕ) : Type 0 where
   pub headings : (i : ℕ) → i < rooms f → byte (rec f i) 0 ≡ 1 → named f i ≡ true
   pub entries : (i : ℕ) → i < rooms f → byte (rec f i) 0 ≡ 2 → isKind 1 (rec f (headingNamed (rec f i))) ≡ true
   pub texts : (i : ℕ) → i < rooms f → byte (rec f i) 0 ≡ 3 → keepsText (rec f (headingOf (rec f i))) ≡ true
+  pub counts : (i : ℕ) → i < rooms f → byte (rec f i) 0 ≡ 1 → countsRight f i (rec f i) ≡ true
 
--- a is s with some records cleared: what mending may have done to it
+-- a is s with some records cleared and some counts written anew: what mending may have done to it
 pub data Below (x r : List ℕ) : Type 0 where
   free : r ≡ blank → Below x r
   stays : Alike x r → Below x r

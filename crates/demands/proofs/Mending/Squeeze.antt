@@ -1,5 +1,5 @@
--- A table between s and what mending leaves of s mends to what s mends to: it ends between the end of s and the end of that end, and
--- there is nothing left to do there. Mending clears no entry, so no heading loses its name, and no heading once text is cleared.
+-- A table between s and what is left of s once cleared mends to what s mends to: it is left between what is left of s and what is left of
+-- that, where there is nothing to clear, and counts corrected do the rest. No entry is cleared, so no heading loses its name.
 use mathlib.Core.Bool.{Bool, true, false, _&&_, not, cond}
 use mathlib.Core.List.{List, []}
 use mathlib.Core.Logic.{by-cases}
@@ -11,15 +11,16 @@ use borrow.Author.Tests.{eqb-true}
 use Rattle.paper.specs.Record.{byte, isKind, names, headingOf, blank}
 use Rattle.paper.specs.Table.{rooms, rec}
 use Rattle.paper.specs.Entry.{named}
-use Rattle.paper.specs.Store.{run}
-use Rattle.paper.specs.Mend.{keepsText, orphan, stray, clears, wiped, mendStores, mended}
+use Rattle.paper.specs.Store.{clears, run}
+use Rattle.paper.specs.Mend.{keepsText, orphan, stray, wiped, clearStores, cleared, mended}
 use Rattle.laws.proofs.Tests.{and-left}
 use Rattle.laws.proofs.Scans.{any-cong}
-use Rattle.laws.proofs.Lay.{Whole, ext-table, rec-past}
+use Rattle.laws.proofs.Lay.{Whole, rec-past}
 use Rattle.laws.proofs.Runs.{length-run, rooms-run}
-use Rattle.demands.proofs.Mending.Wipe.{rec-wiped, clears-none}
+use Rattle.demands.proofs.Mending.Wipe.{rec-wiped, clears-none, mended-is}
 use Rattle.demands.proofs.Mending.Part.{Less}
-use Rattle.demands.proofs.Mending.Less.{alike-is, less-both, after₁, in-steps, less₁, mended-less, mended-mono}
+use Rattle.demands.proofs.Mending.Counts.{recounts-alike}
+use Rattle.demands.proofs.Mending.Less.{less-both, after₁, in-steps, less₁, cleared-less, cleared-mono}
 
 -- a step leaves every record that passes a test which nothing that it clears passes
 module _ (q : List ℕ → Bool) (z : q blank ≡ false) (t : List ℕ) (p : ℕ → Bool) (h : (i : ℕ) → p i ≡ true → q (rec t i) ≡ false) where
@@ -96,31 +97,32 @@ module _ (s : List ℕ) (w : Whole s) where
       go true q z = unfold blank in rw z
       go false q z = rw (z, keeps-end (headingOf (rec a i))) q
 
--- where no test passes there is nothing to mend
-pub quiet : (t : List ℕ) → ((i : ℕ) → i < rooms t → orphan t i ≡ false) → ((i : ℕ) → i < rooms t → stray t i ≡ false) → mendStores t ≡ []
-unfolding mendStores run
+-- where no test passes there is nothing to clear
+pub quiet : (t : List ℕ) → ((i : ℕ) → i < rooms t → orphan t i ≡ false) → ((i : ℕ) → i < rooms t → stray t i ≡ false) → clearStores t ≡ []
+unfolding clearStores run
 quiet t o s = rw (clears-none (orphan t) (rooms t) o) (clears-none (stray t) (rooms t) s)
 
--- mending leaves nothing to mend
-pub settled : (s : List ℕ) → Whole s → mendStores (mended s) ≡ []
+-- clearing leaves nothing to clear
+pub settled : (s : List ℕ) → Whole s → clearStores (cleared s) ≡ []
 unfolding e a
 settled s w =
     rw (in-steps s)
     (quiet (e s w) (λ i l. no-orphan s w i (rw (rooms-run (after₁ s) _) at l)) (λ i l. no-stray s w i (rw (rooms-run (after₁ s) _) at l)))
 
-pub still : (t : List ℕ) → mendStores t ≡ [] → mended t ≡ t
-unfolding mended run
+pub still : (t : List ℕ) → clearStores t ≡ [] → cleared t ≡ t
+unfolding cleared run
 still t q = rw q
 
-module _ (s x : List ℕ) (w : Whole s) (d : Less s x) (u : Less x (mended s)) where
+module _ (s x : List ℕ) (w : Whole s) (d : Less s x) (u : Less x (cleared s)) where
+  -- x is left below what is left of s, and above it
+  under : Less (cleared s) (cleared x)
+  under = cleared-mono s x w d
+
+  over : Less (cleared x) (cleared s)
+  over = rw (still (cleared s) (settled s w)) at (cleared-mono x (cleared s) (rw (d .long) w) u)
+
   pub squeeze : mended x ≡ mended s
   squeeze =
-      ext-table (mended x) (mended s) (under .long) (rw (under .long, mended-less s .long) w)
-      (λ i l. alike-is (rec (mended s) i) (rec (mended x) i) (less-both (mended s) (mended x) under over i (rw (under .long) at l)))
-    where
-      -- x ends below the end of s, and above it
-      under : Less (mended s) (mended x)
-      under = mended-mono s x w d
-
-      over : Less (mended x) (mended s)
-      over = rw (still (mended s) (settled s w)) at (mended-mono x (mended s) (rw (d .long) w) u)
+      mended-is x
+      ∙ recounts-alike (cleared s) (cleared x) (under .long) (less-both (cleared s) (cleared x) under over) (rw (cleared-less s .long) w)
+      ∙ sym (mended-is s)

@@ -1,30 +1,38 @@
--- The power cut, for every list of stores of one shape: stores of debris, one store that counts, clearings of what is debris then.
+-- The power cut, for every list of stores of one shape: stores of debris, one store that counts, counts and clearings of what is debris then.
 -- A cut before the store that counts is the table before with debris; a cut after it is the table after with debris.
-use mathlib.Core.List.{List, [], _∷_, _++_}
+use mathlib.Core.List.{List, [], _∷_, _++_, append-assoc}
 use mathlib.Core.Logic.{_⊎_, inl, inr, by-cases, ⊎-elim}
-use mathlib.Core.Path.{_≡_, sym, _∙_}
-use Prim.Native.Nat.{ℕ, zero, suc, _+_, _-_, _≤_, _<_}
+use mathlib.Core.Path.{_≡_, refl, sym, _∙_}
+use Prim.Native.Nat.{ℕ, zero, suc, _+_, _-_, _≤_}
 use native.Mathlib.Omega.{arith}
 use native.Mathlib.Decide.{decLe}
-use lib.ListN.{length, take, drop, take-append-drop}
+use lib.ListN.{length, take}
 use lib.Seq.{take-append-le, take-append-add}
 use Rattle.paper.specs.Record.{byte, blank}
 use Rattle.paper.specs.Table.{rooms, rec, lay}
 use Rattle.paper.specs.Store.{Store, run}
+use Rattle.paper.specs.Count.{recounts}
+use Rattle.paper.specs.Effect.{withCounts}
 use Rattle.paper.specs.Mend.{mended}
-use Rattle.laws.proofs.Lists.{Every, every-take, every-drop}
-use Rattle.laws.proofs.Lay.{Whole, rooms-lay, length-lay}
+use Rattle.laws.proofs.Lists.{Every, every-imp, every-take}
+use Rattle.laws.proofs.Lay.{Whole, rooms-lay, length-lay, length-rec}
 use Rattle.laws.proofs.Runs.{Lays, run-each, run-append, length-run, rooms-run}
-use Rattle.demands.proofs.Mending.Part.{equal, Kept}
-use Rattle.demands.proofs.Mending.Debris.{mended-kept, Loose, Left, ours, litter, left-mends}
+use Rattle.laws.proofs.Recounts.{Recount, every-recounts}
+use Rattle.demands.proofs.Mending.Part.{Alike, equal, counts, Parts, Kept, Less}
+use Rattle.demands.proofs.Mending.Counts.{alike-sym, but-recount}
+use Rattle.demands.proofs.Mending.Debris.{mended-kept, part-less, between, Loose, Left, ours, litter, left-parts, left-mends}
+use Rattle.demands.proofs.Mending.Again.{Tidy, Tidies, tidied, tidy-less, tidy-over}
 
 -- a store that lays debris in a free record of t
 abbrev pub Litters : List ℕ → Store → Type 0
 Litters t = Lays (λ i r. (rec t i ≡ blank) × Loose t r) (rooms t)
 
--- a store that clears what m holds there and what is debris in f
+-- a store to m, which comes to f: it lays what is there but for its counts, or clears debris that is free in f
+abbrev pub Sweep : (f x y r : List ℕ) → Type 0
+Sweep f x y r = Alike x r ⊎ ((r ≡ blank) × ((y ≡ blank) × Loose f x))
+
 abbrev pub Sweeps : (f m : List ℕ) → Store → Type 0
-Sweeps f m = Lays (λ i r. (r ≡ blank) × Loose f (rec m i)) (rooms m)
+Sweeps f m = Lays (λ i r. Sweep f (rec m i) (rec f i) r) (rooms m)
 
 -- what the store that counts lays over what: an entry, over an entry, or a heading over a heading
 pub data Counts (x r : List ℕ) : Type 0 where
@@ -43,7 +51,7 @@ run-counted t pre s rest = run-append t pre (s ∷ rest)
 pub rooms-counted : (t : List ℕ) (pre : List Store) (s : Store) → rooms (counted t pre s) ≡ rooms t
 rooms-counted t pre s = rooms-lay (run t pre) (s .at) (s .bytes) ∙ rooms-run t pre
 
--- the shape of a request's stores: none; or stores of debris, the store that counts, clearings of what is debris then
+-- the shape of a request's stores: none; or stores of debris, the store that counts, then counts and clearings of what is debris then
 pub data Shaped (t : List ℕ) (stores : List Store) : Type 0 where
   none : stores ≡ [] → Shaped t stores
   phased : (pre : List Store) (s : Store) (post : List Store) → stores ≡ pre ++ s ∷ post → Every (Litters t) pre
@@ -55,32 +63,52 @@ littered t w k ss h =
     left-mends t (run t ss) k (length-run t ss)
     (λ i l. ⊎-elim (λ e. ours (equal e)) (λ p. litter (p .0) (p .1)) (run-each (λ i r. (rec t i ≡ blank) × Loose t r) t ss h i l)) w
 
--- what is still to be cleared mends away
-swept : (m : List ℕ) (post : List Store) → Whole (run m post) → Kept (run m post) → Every (Sweeps (run m post) m) post
-    → (j : ℕ) → mended (run m (take j post)) ≡ run m post
-swept m post w k h j = left-mends f s k (length-run m _ ∙ sym (length-run m post)) (λ i l. left i (rw (rooms-run m post) at l)) w
+-- the counts corrected, and whatever is done after them
+pub recounts-sweep : (f m : List ℕ) → Every (Sweeps f m) (recounts m)
+recounts-sweep f m = every-imp (Lays (Recount m) (rooms m)) (Sweeps f m) (recounts m) one (every-recounts m)
   where
-    f : List ℕ
-    f = run m post
+    one : (x : Store) → Lays (Recount m) (rooms m) x → Sweeps f m x
+    one x h =
+        record {
+          within = h .within;
+          size = h .size;
+          holds = inl (rw (h .holds .0) (counts (but-recount m (x .at) (rec m (x .at)) (length-rec m (x .at) (h .within)) (h .holds .1 .0))));
+        }
 
-    s : List ℕ
-    s = run m (take j post)
+pub counted-is : (t : List ℕ) (pre : List Store) (s : Store) → withCounts t (pre ++ s ∷ []) ≡ pre ++ s ∷ recounts (counted t pre s)
+unfolding run
+counted-is t pre s = rw (run-counted t pre s []) (append-assoc pre (s ∷ []) (recounts (counted t pre s)))
 
-    Clear : ℕ → List ℕ → Type 0
-    Clear i r = (r ≡ blank) × Loose f (rec m i)
+pub counted-stores : (t : List ℕ) (pre : List Store) (s : Store) (last : List Store)
+    → withCounts t (pre ++ s ∷ []) ++ last ≡ pre ++ s ∷ (recounts (counted t pre s) ++ last)
+counted-stores t pre s last = rw (counted-is t pre s) (append-assoc pre (s ∷ recounts (counted t pre s)) last)
 
-    rest : run s (drop j post) ≡ f
-    rest = sym (run-append m (take j post) (drop j post)) ∙ rw take-append-drop
+-- what is still to be done mends, whichever of the stores are made
+module _ (f m : List ℕ) (post : List Store) (ends : run m post ≡ f) (w : Whole f) (k : Kept f) (h : Every (Sweeps f m) post) where
+  long : length f ≡ length m
+  long = rw (← ends) (length-run m post)
 
-    one : (i : ℕ) → (rec s i ≡ rec m i) ⊎ Clear i (rec s i) → (rec f i ≡ rec s i) ⊎ Clear i (rec f i) → Left f (rec f i) (rec s i)
-    one i p (inl q) = ours (equal (sym q))
-    one i (inl p) (inr q) = litter (q .0) (rw p (q .1))
-    one i (inr p) (inr q) = ours (equal (p .0 ∙ sym (q .0)))
+  -- m is f with counts and debris
+  left : Parts f m
+  left = left-parts f m k (sym long) (λ i l. go i (rw ends at (run-each (λ i r. Sweep f (rec m i) (rec f i) r) m post h i (rw long at l))))
+    where
+      go : (i : ℕ) → (rec f i ≡ rec m i) ⊎ Sweep f (rec m i) (rec f i) (rec f i) → Left f (rec f i) (rec m i)
+      go i (inl q) = ours (equal (sym q))
+      go i (inr (inl a)) = ours (alike-sym (rec m i) (rec f i) a)
+      go i (inr (inr c)) = litter (c .0) (c .1 .1)
 
-    left : (i : ℕ) → i < rooms m → Left f (rec f i) (rec s i)
-    left i l =
-        let r : rooms s ≡ rooms m = rooms-run m (take j post) in
-        one i (run-each Clear m _ (every-take _ j post h) i l) (rw rest at (run-each Clear s (drop j post) (rw r (every-drop _ j post h)) i (rw r l)))
+  tidies : (ss : List Store) → Every (Sweeps f m) ss → Every (Tidies f m) ss
+  tidies ss = every-imp (Sweeps f m) (Tidies f m) ss (λ x g. record { within = g .within; size = g .size; holds = go x (g .holds) })
+    where
+      go : (x : Store) → Sweep f (rec m (x .at)) (rec f (x .at)) (x .bytes) → Tidy (rec m (x .at)) (rec f (x .at)) (x .bytes)
+      go x (inl a) = inl a
+      go x (inr c) = inr (c .0, c .1 .0)
+
+  pub swept : (ss : List Store) → Every (Sweeps f m) ss → mended (run m ss) ≡ f
+  swept ss g =
+      let d : Less m f = part-less f m w left in
+      let each = tidied f m ss (tidies ss g) in
+      between f m w left k (run m ss) (tidy-less f m (run m ss) d (length-run m ss) each) (tidy-over f m (run m ss) d (length-run m ss) each)
 
 -- the table before or the table after
 abbrev pub Cut : List ℕ → List Store → ℕ → Type 0
@@ -102,5 +130,11 @@ power-cut t stores w k d (phased pre s post e h c g) n =
     past : (j : ℕ) → n ≡ length pre + suc j → mended (run t (take n (pre ++ s ∷ post))) ≡ run t (pre ++ s ∷ post)
     past j q =
         rw (q, take-append-add pre (s ∷ post) (suc j), run-counted t pre s (take j post), run-counted t pre s post)
-        (swept (counted t pre s) post (rw (length-run, length-lay, length-run) w) (rw (e, run-counted t pre s post) at d)
-        (rw (← run-counted t pre s post, ← e) g) j)
+        (swept (run m post) m post refl (rw (length-run, length-lay, length-run) w) (rw (e, run-counted t pre s post) at d) sweeps
+        (take j post) (every-take _ j post sweeps))
+      where
+        m : List ℕ
+        m = counted t pre s
+
+        sweeps : Every (Sweeps (run m post) m) post
+        sweeps = rw (← run-counted t pre s post, ← e) g

@@ -12,10 +12,10 @@ use Rattle.paper.specs.Store.{run}
 use Rattle.paper.specs.Effect.{Plan, Planned, plan, delPlan, emptied, rewritePlan}
 use Rattle.paper.specs.Mend.{mended}
 use Rattle.paper.specs.Answer.{Outcome, Ran, ran, single, oneName, deleting}
-use Rattle.demands.proofs.Sound.Clauses.{Sound}
+use Rattle.demands.proofs.Sound.Right.{Right}
 use Rattle.demands.proofs.Request.Ended.{Passed, ran-by, passes}
 use Rattle.demands.proofs.SoundKept.Kept.{Keeps, passed-sound, del-keeps}
-use Rattle.demands.proofs.SoundKept.Emptied.{emptied-sound}
+use Rattle.demands.proofs.SoundKept.Told.{emptied-right}
 use Rattle.demands.proofs.SoundKept.Rewriting.{Granted, rewrite-granted, rewrite-keeps}
 use Rattle.demands.proofs.Mending.Debris.{sound-keeps, mended-sound}
 use Rattle.demands.proofs.PowerCut.Cut.{Shaped, Cut, power-cut}
@@ -32,8 +32,8 @@ pub record Done (o : ℕ → Outcome) (x : List ℕ) : Type 0 where
 pub passed-shaped : (t : List ℕ) (x : Planned) (p : Plan) → Safe t x → Passed x p → Shaped t (p .stores)
 passed-shaped t x p h v = let s : Safe t (plan p) = rw (v .plan) at h in s (v .checks)
 
-passed-cut : (t : List ℕ) → Sound t → (x : Planned) (p : Plan) → Safe t x → Keeps t x → Passed x p → (k : ℕ) → Cut t (p .stores) k
-passed-cut t c x p h g v = power-cut t (p .stores) (c .whole) (sound-keeps t c) (sound-keeps _ (passed-sound t x p g v)) (passed-shaped t x p h v)
+passed-cut : (t : List ℕ) → Right t → (x : Planned) (p : Plan) → Safe t x → Keeps t x → Passed x p → (k : ℕ) → Cut t (p .stores) k
+passed-cut t c x p h g v = power-cut t (p .stores) (c .clauses .whole) (sound-keeps t c) (sound-keeps _ (passed-sound t x p g v)) (passed-shaped t x p h v)
 
 -- ---- one plan
 
@@ -47,10 +47,10 @@ module _ (t reply : List ℕ) (x : Planned) where
       let q = passes (length (p .stores)) x p v (omega arith) in
       record { stop = length (p .stores); number = rw q; table = rw q }
 
-module _ (t reply : List ℕ) (c : Sound t) (x : Planned) (safe : Safe t x) (sure : Keeps t x) where
+module _ (t reply : List ℕ) (c : Right t) (x : Planned) (safe : Safe t x) (sure : Keeps t x) where
   -- the table before, or the table after; sound in either case
   abbrev Either : List ℕ → Type 0
-  Either y = Sound y × ((y ≡ t) ⊎ Done (run-to t reply x) y)
+  Either y = Right y × ((y ≡ t) ⊎ Done (run-to t reply x) y)
 
   landed : (y : List ℕ) (p : Plan) → Passed x p → (y ≡ t) ⊎ (y ≡ run t (p .stores)) → Either y
   landed y p v (inl q) = (rw q c, inl q)
@@ -65,7 +65,7 @@ module _ (t reply : List ℕ) (c : Sound t) (x : Planned) (safe : Safe t x) (sur
 
 -- ---- `WRS*`
 
-module _ (t reply : List ℕ) (c : Sound t) (u : ℕ) (text : List ℕ) (name : Word) (short : length text ≤ 24000) where
+module _ (t reply : List ℕ) (c : Right t) (u : ℕ) (text : List ℕ) (name : Word) (short : length text ≤ 24000) where
   abbrev rewriter : Planned
   rewriter = rewritePlan t u text name
 
@@ -77,38 +77,38 @@ module _ (t reply : List ℕ) (c : Sound t) (u : ℕ) (text : List ℕ) (name : 
         → y ≡ emptied (run t (p .stores)) (file t (g .end)) → Remakes y
 
   cut-off : (k : ℕ) (p : Plan) → Passed rewriter p → (g : Granted t u text name p) → k < length (p .stores)
-      → Sound (mended (run t (take k (p .stores)))) × Remakes (mended (run t (take k (p .stores))))
+      → Right (mended (run t (take k (p .stores)))) × Remakes (mended (run t (take k (p .stores))))
   cut-off zero p v g l =
-      let z : mended (run t (take 0 (p .stores))) ≡ t = cut-first t (file t (g .end)) text c (g .fit) in
+      let z : mended (run t (take 0 (p .stores))) ≡ t = cut-first t (file t (g .end)) text (c .clauses) (g .fit) (c .counts) in
       (rw z c, unmade z)
   cut-off (suc k) p v g l =
       let h : ℕ = file t (g .end) in
       let z : mended (run t (take (suc k) (p .stores))) ≡ emptied t h =
-      rw (g .stores) (cut-half t h text c (g .fit) (suc k) (omega arith) (rw (g .stores) at l)) in
-      let e : emptied (run t (p .stores)) h ≡ emptied t h = rw (g .stores) (emptied-again t h text c (g .fit)) in
-      (rw z (emptied-sound t h c (g .fit .file)), half p g (at-once t reply rewriter p v) z (z ∙ sym e))
+      rw (g .stores) (cut-half t h text (c .clauses) (g .fit) (c .counts) (suc k) (omega arith) (rw (g .stores) at l)) in
+      let e : emptied (run t (p .stores)) h ≡ emptied t h = rw (g .stores) (emptied-again t h text (c .clauses) (g .fit)) in
+      (rw z (emptied-right t h c (g .fit .file)), half p g (at-once t reply rewriter p v) z (z ∙ sym e))
 
-  pub rewrite-cut : (k : ℕ) → Sound (mended (run-to t reply rewriter k .table)) × Remakes (mended (run-to t reply rewriter k .table))
+  pub rewrite-cut : (k : ℕ) → Right (mended (run-to t reply rewriter k .table)) × Remakes (mended (run-to t reply rewriter k .table))
   rewrite-cut k =
-      ran-by (λ y. Sound (mended (single t reply k y .table)) × Remakes (mended (single t reply k y .table))) k rewriter
+      ran-by (λ y. Right (mended (single t reply k y .table)) × Remakes (mended (single t reply k y .table))) k rewriter
       (λ f _. let z : mended t ≡ t = mended-sound t c in (rw z c, unmade z))
       (λ p v l.
-      let s = passed-sound t rewriter p (rewrite-keeps t c u text name short) v in
+      let s = passed-sound t rewriter p (rewrite-keeps t (c .clauses) u text name short (c .counts)) v in
       let z = mended-sound (run t (p .stores)) s in
       (rw z s, remade (rw z (at-once t reply rewriter p v))))
-      (λ p v l. cut-off k p v (rewrite-granted t c u text name short p v) l)
+      (λ p v l. cut-off k p v (rewrite-granted t (c .clauses) u text name short p v) l)
 
 -- ---- DEL, name by name
 
 -- x is sound, and the table after some first part of the names
 pub record Parted (t : List ℕ) (u : ℕ) (reply : List ℕ) (n made : ℕ) (ws : List Word) (x : List ℕ) : Type 0 where
-  pub sound : Sound x
+  pub sound : Right x
   pub names : ℕ
   pub most : names ≤ length ws
   pub done : Done (λ k. deleting t u reply k n made (take names ws)) x
 
 module _ (u : ℕ) (reply : List ℕ) where
-  no-name : (t : List ℕ) (n made : ℕ) (ws : List Word) (x : List ℕ) → Sound t → x ≡ t → Parted t u reply n made ws x
+  no-name : (t : List ℕ) (n made : ℕ) (ws : List Word) (x : List ℕ) → Right t → x ≡ t → Parted t u reply n made ws x
   unfolding deleting
   no-name t n made ws x c q =
       rw q (record { sound = c; names = 0; most = omega arith; done = record { stop = 0; number = refl; table = refl } })
@@ -138,7 +138,7 @@ module _ (u : ℕ) (reply : List ℕ) where
             name-made front (m + a .stop) (omega arith) ∙ rw q in
             record { stop = m + a .stop; number = rw s (a .number); table = rw s (a .table) }
 
-  pub del-cut : (ws : List Word) (t : List ℕ) → Sound t → (k n made : ℕ)
+  pub del-cut : (ws : List Word) (t : List ℕ) → Right t → (k n made : ℕ)
       → Parted t u reply n made ws (mended (deleting t u reply k n made ws .table))
   unfolding deleting
   del-cut [] t c k n made = no-name t n made [] (mended t) c (mended-sound t c)
@@ -148,7 +148,7 @@ module _ (u : ℕ) (reply : List ℕ) where
       x = delPlan t u (n + 1) w
 
       sure : Keeps t x
-      sure = del-keeps t u (n + 1) w c
+      sure = del-keeps t u (n + 1) w (c .clauses)
 
       -- the table after the plan has ended so, mended
       after : Ran → List ℕ
@@ -160,11 +160,11 @@ module _ (u : ℕ) (reply : List ℕ) where
           one-more t n made w p v ws y
           (no-name (run t (p .stores)) (n + 1) (made + length (p .stores)) ws y (passed-sound t x p sure v) z)
 
-      go : ((p : Plan) → Sound (run t (p .stores)) → (k n made : ℕ)
+      go : ((p : Plan) → Right (run t (p .stores)) → (k n made : ℕ)
           → Parted (run t (p .stores)) u reply n made ws (mended (deleting (run t (p .stores)) u reply k n made ws .table)))
           → Parted t u reply n made (w ∷ ws) (after (ran k x))
       go rest =
           ran-by (λ y. Parted t u reply n made (w ∷ ws) (after y)) k x
           (λ f _. no-name t n made (w ∷ ws) _ c (mended-sound t c))
           (λ p v l. one-more t n made w p v ws _ (rest p (passed-sound t x p sure v) (k - length (p .stores)) (n + 1) (made + length (p .stores))))
-          (λ p v l. cut-here p v _ (passed-cut t c x p (del-safe t c u (n + 1) w) sure v k))
+          (λ p v l. cut-here p v _ (passed-cut t c x p (del-safe t (c .clauses) u (n + 1) w) sure v k))

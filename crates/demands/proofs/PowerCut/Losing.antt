@@ -1,27 +1,27 @@
--- What follows an entry displaced or cleared is clearings of debris: the lost file's heading, and its text, which belongs to no simple file
--- once the heading is cleared.
+-- What follows an entry displaced or cleared is counts, and then clearings of debris: the lost file's heading, and its text, which belongs
+-- to no simple file once the heading is cleared.
 use mathlib.Core.Bool.{Bool, true, false}
-use mathlib.Core.List.{List, [], _∷_, _++_}
+use mathlib.Core.List.{List, [], _∷_, _++_, append-nil}
 use mathlib.Core.Logic.{_⊎_, inl, inr, _≢_}
 use mathlib.Core.Path.{_≡_, refl, _∙_}
 use Prim.Native.Nat.{ℕ, suc, _<_}
 use native.Mathlib.Omega.{arith}
 use lib.ListN.{length}
-use Rattle.paper.specs.Scan.{eachBelow}
 use Rattle.paper.specs.Record.{byte, headingNamed, blank}
 use Rattle.paper.specs.Table.{rooms, rec, lay, textRoom}
 use Rattle.paper.specs.Entry.{named}
 use Rattle.paper.specs.Block.{blocksOf}
-use Rattle.paper.specs.Store.{Store, puts, clear, run}
-use Rattle.paper.specs.Effect.{freed, lost, settled}
+use Rattle.paper.specs.Store.{Store, puts, run}
+use Rattle.paper.specs.Count.{recounts}
+use Rattle.paper.specs.Effect.{freed, withCounts, lost, settled}
 use Rattle.laws.proofs.Tests.{truth}
-use Rattle.laws.proofs.Lists.{Every, every-each}
-use Rattle.laws.proofs.Lay.{Whole, lay-same, lay-other, rooms-lay, length-blank, within, kinds-apart}
-use Rattle.laws.proofs.Runs.{Lays, run-each, rooms-run}
+use Rattle.laws.proofs.Lists.{Every, every-append, every-both, every-each}
+use Rattle.laws.proofs.Lay.{Whole, lay-other, length-blank, within, kinds-apart}
+use Rattle.laws.proofs.Runs.{Lays, run-each, run-append, rooms-run, cleared-there}
 use Rattle.demands.proofs.Sound.Clauses.{Sound}
 use Rattle.demands.proofs.SoundKept.Freed.{text-found}
 use Rattle.demands.proofs.Mending.Debris.{keeps-none, Loose, head, body}
-use Rattle.demands.proofs.PowerCut.Cut.{Litters, Sweeps, counted, run-counted, rooms-counted, over, Shaped, phased}
+use Rattle.demands.proofs.PowerCut.Cut.{Litters, Sweeps, counted, run-counted, rooms-counted, entered, over, Shaped, phased, recounts-sweep, counted-is, counted-stores}
 
 -- what is not free is left by stores of debris
 stays : (t : List ℕ) (pre : List Store) → Whole t → Every (Litters t) pre
@@ -62,52 +62,55 @@ module _ (t : List ℕ) (c : Sound t) (pre : List Store) (lit : Every (Litters t
   in-h : h < rooms t
   in-h = within t h (c .whole) (omega (arith, kh))
 
-  -- the table once the file is cleared
+  -- the table once the counts are corrected, and once the file is cleared
+  n : List ℕ
+  n = run m (recounts m)
+
   f : List ℕ
-  f = run m (freed t h)
+  f = run n (freed t h)
 
-  -- the stores after the heading's
-  texts : List Store
-  texts = eachBelow (λ p. clear (textRoom t h p)) (blocksOf t h)
+  rooms-n : rooms n ≡ rooms t
+  unfolding n
+  rooms-n = rooms-run m (recounts m) ∙ rooms-m
 
-  clears-texts : Every (Lays (λ i x. x ≡ blank) (rooms t)) texts
-  unfolding texts
-  clears-texts = every-each _ _ (blocksOf t h) (λ p b. record { within = text-found 65535 t h c kh p b .0; size = length-blank; holds = refl })
+  at-text : (p : ℕ) → p < blocksOf t h → textRoom t h p < rooms t
+  at-text p b = text-found 65535 t h c kh p b .0
 
-  is-f : f ≡ run (lay m h blank) texts
-  unfolding f freed run texts
-  is-f = refl
+  -- each record of the file is free at the end
+  clearings : Every (Lays (λ _ x. x ≡ blank) (rooms n)) (freed t h)
+  unfolding freed
+  clearings = (
+    record { within = rw rooms-n in-h; size = length-blank; holds = refl },
+    every-each _ _ (blocksOf t h) (λ p b. record { within = rw rooms-n (at-text p b); size = length-blank; holds = refl }),
+  )
 
-  rooms-h : rooms (lay m h blank) ≡ rooms t
-  rooms-h = rooms-lay m h blank ∙ rooms-m
+  free : Every (λ x. rec f (x .at) ≡ blank) (freed t h)
+  unfolding f
+  free = cleared-there n (freed t h) clearings
 
   blank-h : rec f h ≡ blank
-  blank-h = go (rw is-f (run-each (λ i x. x ≡ blank) (lay m h blank) texts (rw rooms-h clears-texts) h (rw rooms-h in-h)))
-    where
-      go : (rec f h ≡ rec (lay m h blank) h) ⊎ (rec f h ≡ blank) → rec f h ≡ blank
-      go (inl z) = z ∙ lay-same m h blank length-blank (rw rooms-m in-h)
-      go (inr z) = z
+  unfolding freed
+  blank-h = free .0
 
-  sweeps : Every (Sweeps f m) (freed t h)
-  unfolding freed blank
-  sweeps = (
-    record { within = rw rooms-m in-h; size = length-blank; holds = (refl, head (rw at-h kh)) },
-    every-each _ _ (blocksOf t h) one,
-  )
+  loose : Every (λ x. (x .bytes ≡ blank) × ((x .at < rooms m) × Loose f (rec m (x .at)))) (freed t h)
+  unfolding freed
+  loose = ((refl, (rw rooms-m in-h, head (rw at-h kh))), every-each _ _ (blocksOf t h) (λ p b. (refl, (rw rooms-m (at-text p b), one p b))))
     where
       at-h : rec m h ≡ rec t h
       at-h = stays-m 0 h (kinds-apart t h e 1 2 kh ke (omega arith)) kh
 
-      one : (p : ℕ) → p < blocksOf t h → Sweeps f m (clear (textRoom t h p))
+      one : (p : ℕ) → p < blocksOf t h → Loose f (rec m (textRoom t h p))
       one p b =
           let i : ℕ = textRoom t h p in
           let g = text-found 65535 t h c kh p b in
           let s : rec m i ≡ rec t i = stays-m 2 i (kinds-apart t i e 3 2 (g .1 .kind) ke (omega arith)) (g .1 .kind) in
-          record {
-            within = rw rooms-m (g .0);
-            size = length-blank;
-            holds = (refl, rw s (body (g .1 .kind) (rw (g .1 .heading, blank-h) keeps-none)));
-          }
+          rw s (body (g .1 .kind) (rw (g .1 .heading, blank-h) keeps-none))
+
+  sweeps : Every (Sweeps f m) (recounts m ++ freed t h)
+  sweeps =
+      every-append (Sweeps f m) (recounts m) (freed t h) (recounts-sweep f m)
+      (every-both _ _ (Sweeps f m) (freed t h)
+      (λ x z g. record { within = g .1 .0; size = rw (g .0) length-blank; holds = inr (g .0, (z, g .1 .1)) }) free loose)
 
 -- what follows is nothing, or the lost file freed
 module _ (t : List ℕ) (e : ℕ) (r : List ℕ) where
@@ -124,14 +127,25 @@ module _ (t : List ℕ) (e : ℕ) (r : List ℕ) where
 
 -- an entry overwritten or cleared, after stores of debris
 pub losing-shaped : (t : List ℕ) → Sound t → (pre : List Store) → Every (Litters t) pre
-    → (e : ℕ) (r : List ℕ) → byte (rec t e) 0 ≡ 2 → length r ≡ 32 → Shaped t (pre ++ puts e r ∷ settled t e r)
-unfolding h f m
+    → (e : ℕ) (r : List ℕ) → byte (rec t e) 0 ≡ 2 → length r ≡ 32 → Shaped t (withCounts t (pre ++ puts e r ∷ []) ++ settled t e r)
 losing-shaped t c pre lit e r ke lr =
-    phased pre (puts e r) (settled t e r) refl lit (record { within = in-e t c pre lit e r ke lr; size = lr; holds = over ke })
-    (go (truth (still-named t e r)))
+    phased pre (puts e r) (recounts m₁ ++ settled t e r) (counted-stores t pre (puts e r) (settled t e r)) lit
+    (record { within = in-e t c pre lit e r ke lr; size = lr; holds = over ke })
+    (rw (counted-stores t pre (puts e r) (settled t e r), run-counted t pre (puts e r) (recounts m₁ ++ settled t e r)) (go (truth (still-named t e r))))
   where
+    m₁ : List ℕ
+    m₁ = counted t pre (puts e r)
+
     go : (still-named t e r ≡ true) ⊎ (still-named t e r ≡ false)
-        → Every (Sweeps (run t (pre ++ puts e r ∷ settled t e r)) (counted t pre (puts e r))) (settled t e r)
-    go (inl n) = rw (settled-none t e r n) tt
-    go (inr n) =
-        rw (settled-freed t e r n, run-counted t pre (puts e r) (freed t (headingNamed (rec t e)))) (sweeps t c pre lit e r ke lr)
+        → Every (Sweeps (run m₁ (recounts m₁ ++ settled t e r)) m₁) (recounts m₁ ++ settled t e r)
+    go (inl q) = rw (settled-none t e r q, append-nil) (recounts-sweep (run m₁ (recounts m₁)) m₁)
+    go (inr q) =
+        rw (settled-freed t e r q, run-append m₁ (recounts m₁) (freed t (headingNamed (rec t e))))
+        (unfold h f n m in sweeps t c pre lit e r ke lr)
+
+-- a new entry in a free record, after stores of debris
+pub adding-shaped : (t : List ℕ) (pre : List Store) → Every (Litters t) pre → (i : ℕ) (r : List ℕ) → i < rooms t → length r ≡ 32 → byte r 0 ≡ 2
+    → Shaped t (withCounts t (pre ++ puts i r ∷ []))
+adding-shaped t pre lit i r l b k =
+    phased pre (puts i r) (recounts (counted t pre (puts i r))) (counted-is t pre (puts i r)) lit
+    (record { within = l; size = b; holds = entered k }) (recounts-sweep _ (counted t pre (puts i r)))

@@ -1,5 +1,5 @@
--- Each function's stores have the shape of the power cut: a new file first, then the entry, then what it displaced;
--- an entry cleared, then its file; or one store alone. What the end checks let pass has the free records that it needs.
+-- Each function's stores have the shape of the power cut: a new file first, then the entry, then counts and what it displaced;
+-- an entry cleared, then counts and its file; or one store alone. What the end checks let pass has the free records that it needs.
 use mathlib.Core.List.{List, [], _∷_, _++_}
 use mathlib.Core.Path.{_≡_, refl, _∙_}
 use Prim.Native.Nat.{ℕ, _≤_, _<_}
@@ -28,8 +28,8 @@ use Rattle.demands.proofs.Request.Steps.{last-looked, holder-by, end-by
 use Rattle.demands.proofs.SoundKept.Filed.{roomy, length-file}
 use Rattle.demands.proofs.SoundKept.Recoded.{length-recoded, recoded-like}
 use Rattle.demands.proofs.SoundKept.Renamed.{length-renamed}
-use Rattle.demands.proofs.PowerCut.Cut.{Litters, Counts, entered, over, again, Shaped, none, phased}
-use Rattle.demands.proofs.PowerCut.Losing.{losing-shaped}
+use Rattle.demands.proofs.PowerCut.Cut.{Litters, Counts, over, again, Shaped, none, phased}
+use Rattle.demands.proofs.PowerCut.Losing.{losing-shaped, adding-shaped}
 use Rattle.demands.proofs.PowerCut.Littering.{littering}
 
 -- a plan whose stores have the shape where its checks pass
@@ -63,8 +63,7 @@ module _ (t : List ℕ) (c : Sound t) where
           let f = found-stands t (m .directory .holder) (m .name) i q .1 in
           losing-shaped t c (m .first) (lit enough) i (m .entry) (f .kind) size
       go nowhere q enough =
-          phased (m .first) _ [] refl (lit (omega arith))
-          (record { within = room-below t (length (m .first)) (omega arith); size = size; holds = entered kind }) tt
+          adding-shaped t (m .first) (lit (omega arith)) _ (m .entry) (room-below t (length (m .first)) (omega arith)) size kind
 
   -- a new file under a name that fits its field
   filing-safe : (place : ℕ) (w : Word) (d : State) (type lev code life n : ℕ) (body : List ℕ) (thirteen fifteen late : List Check)

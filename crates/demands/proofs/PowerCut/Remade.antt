@@ -1,10 +1,10 @@
 -- A rewrite that is cut: between the first store, which marks the file, and the last, which unmarks it, the table is that with the file
 -- marked and empty and with text of it, old or new, in records that are free there; and mending clears the text of a marked file.
-use mathlib.Core.Bool.{false}
+use mathlib.Core.Bool.{true, false}
 use mathlib.Core.List.{List, [], _∷_, _++_}
 use mathlib.Core.Logic.{_⊎_, inl, inr, _≢_, by-cases}
 use mathlib.Core.Path.{_≡_, refl, sym, _∙_}
-use Prim.Native.Nat.{ℕ, zero, suc, _+_, _≤_, _<_}
+use Prim.Native.Nat.{ℕ, zero, suc, _≤_, _<_}
 use native.Mathlib.Omega.{arith}
 use native.Mathlib.Decide.{ℕ-discrete}
 use lib.ListN.{length, take, length-append}
@@ -12,6 +12,7 @@ use lib.Seq.{take-append-le, take-all}
 use borrow.Author.Tests.{eq-eqb}
 use Rattle.paper.specs.Record.{byte, isKind, simple, headingOf, rewritten, blank}
 use Rattle.paper.specs.Table.{rooms, rec, lay}
+use Rattle.paper.specs.Sound.{countsTrue}
 use Rattle.paper.specs.Store.{Store, puts, run}
 use Rattle.paper.specs.Effect.{bared, emptying, emptied, laying, rewriting}
 use Rattle.paper.specs.Mend.{keepsText, mended}
@@ -25,6 +26,7 @@ use Rattle.demands.proofs.SoundKept.Retexted.{Mine, none, some}
 use Rattle.demands.proofs.SoundKept.Emptied.{Medium, in-h, size-h, head-type, Emptied, heading, text, other, emptied-by, emptied-heading, emptied-sound}
 use Rattle.demands.proofs.SoundKept.Refilled as filled
 use Rattle.demands.proofs.SoundKept.Refilled.{Rewrite, Look, look, old, room-free, no-text, text-at, heading-there, last-kind, refilled-sound}
+use Rattle.demands.proofs.SoundKept.Told.{emptied-right, refilled-right}
 use Rattle.demands.proofs.SoundKept.Rewriting.{each-bared, each-laid}
 use Rattle.demands.proofs.Mending.Part.{equal}
 use Rattle.demands.proofs.Mending.Debris.{sound-keeps, mended-sound, Left, ours, litter, body, left-mends}
@@ -43,9 +45,10 @@ module _ (t : List ℕ) (h : ℕ) (c : Sound t) (f : Medium t h) where
   unfolding keepsText
   keeps-no = rw (emptied-heading t h c f) (and-no-right (simple (rewritten (rec t h) 1 0)) _ (rw (rewritten-mark (rec t h) 1 0 (size-h t h c f))))
 
-  pub half-mends : (x : List ℕ) → Half t h x → mended x ≡ emptied t h
-  half-mends x d =
-      left-mends (emptied t h) x (sound-keeps (emptied t h) (emptied-sound t h c f)) (d .long ∙ sym (length-run t (emptying t h)))
+  pub half-mends : countsTrue t ≡ true → (x : List ℕ) → Half t h x → mended x ≡ emptied t h
+  half-mends q x d =
+      left-mends (emptied t h) x (sound-keeps (emptied t h) (emptied-right t h (record { clauses = c; counts = q }) f))
+      (d .long ∙ sym (length-run t (emptying t h)))
       (λ i l. go i (d .each i (rw (rooms-run t (emptying t h)) at l))) (emptied-sound t h c f .whole)
     where
       go : (i : ℕ) → HalfAt t h x i → Left (emptied t h) (rec (emptied t h) i) (rec x i)
@@ -116,23 +119,25 @@ module _ (t : List ℕ) (h : ℕ) (new : List ℕ) (c : Sound t) (w : Rewrite t 
 
   -- ---- cut after k stores
 
-  pub cut-first : mended (run t (take 0 (rewriting t h new))) ≡ t
+  pub cut-first : countsTrue t ≡ true → mended (run t (take 0 (rewriting t h new))) ≡ t
   unfolding run
-  cut-first = mended-sound t c
+  cut-first q = mended-sound t (record { clauses = c; counts = q })
 
-  pub cut-half : (k : ℕ) → 1 ≤ k → k < length (rewriting t h new) → mended (run t (take k (rewriting t h new))) ≡ emptied t h
+  pub cut-half : countsTrue t ≡ true → (k : ℕ) → 1 ≤ k → k < length (rewriting t h new) → mended (run t (take k (rewriting t h new))) ≡ emptied t h
   unfolding run
-  cut-half zero l m = let z : ⊥ = omega arith in absurd z
-  cut-half (suc j) l m =
+  cut-half q zero l m = let z : ⊥ = omega arith in absurd z
+  cut-half q (suc j) l m =
       rw (stores-are, take-append-le j texts (puts h (rewritten (rec t h) 0 (length new)) ∷ []) few)
-      (half-mends t h c (w .file) _ (half-way (take j texts) (every-take _ j texts texts-each)))
+      (half-mends t h c (w .file) q _ (half-way (take j texts) (every-take _ j texts texts-each)))
     where
       few : j ≤ length texts
       few = let n : suc j < length (puts h (rewritten (rec t h) 1 0) ∷ texts ++ puts h (rewritten (rec t h) 0 (length new)) ∷ []) = rw stores-are at m in
           omega (arith, length-append texts (puts h (rewritten (rec t h) 0 (length new)) ∷ []), n)
 
-  pub cut-last : (k : ℕ) → length (rewriting t h new) ≤ k → mended (run t (take k (rewriting t h new))) ≡ run t (rewriting t h new)
-  cut-last k l = rw (take-all k (rewriting t h new) l) (mended-sound (run t (rewriting t h new)) (refilled-sound t h new c w))
+  pub cut-last : countsTrue t ≡ true → (k : ℕ) → length (rewriting t h new) ≤ k → mended (run t (take k (rewriting t h new))) ≡ run t (rewriting t h new)
+  cut-last q k l =
+      rw (take-all k (rewriting t h new) l)
+      (mended-sound (run t (rewriting t h new)) (refilled-right t h new (record { clauses = c; counts = q }) w))
 
   -- ---- "after with that one file marked and empty": it is the same table from before and from after
 

@@ -14,7 +14,7 @@ use Rattle.paper.specs.Declaration.{Part, given, notGiven, wrsLifetime, dprCode
 use Rattle.paper.specs.Octal.{partOf}
 use Rattle.paper.specs.Line.{Word, words, word, legalLine}
 use Rattle.paper.specs.Check.{atLink, whole, refusalAt, Check, check, Verdict, passed, refused, verdict}
-use Rattle.paper.specs.Request.{Request, crd, wrs, rds, cpy, dup, chn, del, dpr, lst, lstBase, lstTree, lstBaseTree, rewrite, Read, request, unread, after, readAs, needed, miscounted, firstWrong, firstLink, malformed, illegal, isTake, illegalBut, each, between, misnamed, oldFrom, declaredAt, octalAt, readCrd, readWrs, readRds, readLst, readCpy, readDup, readChn, readDpr, readDel, depthGiven, readTree, readRewrite, isFunction, isTree, isRewrite, readFunction, read, textTooLong, withText, asked}
+use Rattle.paper.specs.Request.{Request, crd, wrs, rds, cpy, dup, chn, del, dpr, lst, lstBase, lstTree, lstBaseTree, rewrite, Read, request, unread, after, needed, miscounted, firstWrong, firstLink, malformed, illegal, isTake, illegalBut, each, between, misnamed, oldFrom, declaredAt, octalAt, readCrd, readWrs, readRds, readLst, readCpy, readDup, readChn, readDpr, readDel, depthGiven, readTree, readRewrite, isFunction, isTree, isRewrite, readFunction, read, textTooLong, withText, asked}
 use Rattle.paper.specs.Effect.{begun}
 use Rattle.laws.proofs.Tests.{either}
 use Rattle.laws.proofs.Lists.{Every, every-append}

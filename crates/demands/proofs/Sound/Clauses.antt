@@ -15,7 +15,7 @@ use Rattle.paper.specs.Record.{byte, headingType, level, headingCode, lifetime,
 use Rattle.paper.specs.Table.{sized, rooms, rec}
 use Rattle.paper.specs.Entry.{Holder, holder, stands, bears, crowd, limit, named}
 use Rattle.paper.specs.Block.{blocks}
-use Rattle.paper.specs.Sound.{freeAsAbove, markRight, headingAsAbove, entryAsAbove, textAsAbove, asAbove, holderThere, holdersThere, headingThere, headingsThere, userRight, usersRight, namePadded, namesPadded, notTwice, noneTwice, isNamed, allNamed, notCrowded, noneCrowded, directoryPlain, directoriesPlain, once, textWhole, textsWhole, textInPlace, noOtherText, nameLegal, namesLegal, sound}
+use Rattle.paper.specs.Sound.{implies, freeAsAbove, markRight, headingAsAbove, entryAsAbove, textAsAbove, asAbove, holderThere, holdersThere, headingThere, headingsThere, userRight, usersRight, namePadded, namesPadded, notTwice, noneTwice, isNamed, allNamed, notCrowded, noneCrowded, directoryPlain, directoriesPlain, once, textWhole, textsWhole, textInPlace, noOtherText, nameLegal, namesLegal, countsTrue, shaped, sound}
 use Rattle.laws.proofs.Tests.{truth, and-left, and-right, and-both, and-parts, implies-use, implies-by, false-by, not-both, joined, joined-first, joined-part}
 use Rattle.laws.proofs.Scans.{all-true, all-here, any-here, any-true, any-false}
 use Rattle.laws.proofs.Counts.{count-none}
@@ -74,20 +74,25 @@ pub record HeadingFields (r : List ℕ) : Type 0 where
   pub code : headingCode r ≤ 7
   pub lifetime : (1 ≤ lifetime r) × (lifetime r ≤ 2)
   pub mark : markRight r ≡ true
-  pub rest : (zeros 6 4 r ≡ true) × (zeros 12 20 r ≡ true)
+  pub rest : zeros 6 4 r ≡ true
+  pub file : headingType r ≡ 1 → zeros 14 2 r ≡ true
+  pub last : zeros 16 16 r ≡ true
 
 pub heading-fields : (r : List ℕ) → HeadingOwn r → HeadingFields r
 unfolding joined
 heading-fields r h =
     let a = leb (headingType r) 1 in
-    let s = leb (level r) 3 ∷ leb (headingCode r) 7 ∷ leb 1 (lifetime r) ∷ leb (lifetime r) 2 ∷ markRight r ∷ zeros 6 4 r ∷ zeros 12 20 r ∷ [] in
+    let f = implies (eqb (headingType r) 1) (zeros 14 2 r) in
+    let s = leb (level r) 3 ∷ leb (headingCode r) 7 ∷ leb 1 (lifetime r) ∷ leb (lifetime r) 2 ∷ markRight r ∷ zeros 6 4 r ∷ f ∷ zeros 16 16 r ∷ [] in
     record {
       type = leb-true _ _ (joined-first a s (h .shape));
       level = leb-true _ _ (joined-part a s 0 (h .shape));
       code = leb-true _ _ (joined-part a s 1 (h .shape));
       lifetime = (leb-true _ _ (joined-part a s 2 (h .shape)), leb-true _ _ (joined-part a s 3 (h .shape)));
       mark = joined-part a s 4 (h .shape);
-      rest = (joined-part a s 5 (h .shape), joined-part a s 6 (h .shape));
+      rest = joined-part a s 5 (h .shape);
+      file = λ e. implies-use (eqb (headingType r) 1) _ (joined-part a s 6 (h .shape)) (eq-eqb _ _ e);
+      last = joined-part a s 7 (h .shape);
     }
 
 -- "A marked file, simple, M, length 0"
@@ -184,9 +189,9 @@ crowds-by t c d = go (truth (anyBelow (λ i. stands d (rec t i)) (rooms t)))
         leb-true _ _ (every-true 2 (notCrowded t) t (c .crowded) (w .0) (w .1) (s .kind)) in
         subst (λ (x : Holder). crowd t x ≤ limit x) (stands-holder d (rec t (w .0)) s) b
 
-pub sound-clauses : (t : List ℕ) → sized t ≡ true → sound t ≡ true → Sound t
+pub shaped-clauses : (t : List ℕ) → sized t ≡ true → shaped t ≡ true → Sound t
 unfolding holdersThere headingsThere allNamed textsWhole noOtherText
-sound-clauses t z e =
+shaped-clauses t z e =
     let c = tested t e in
     let s = sized-whole t z in
     record {
@@ -204,6 +209,10 @@ sound-clauses t z e =
           (implies-use (eqb (headingType (rec t h)) 1) _ (every-true 1 (textWhole t) t (c .whole) h l q) (eq-eqb _ _ s))));
       texts = every-true 3 (textInPlace t) t (c .other);
     }
+
+pub sound-clauses : (t : List ℕ) → sized t ≡ true → sound t ≡ true → Sound t
+unfolding sound
+sound-clauses t z e = shaped-clauses t z (and-left (shaped t) _ e)
 
 -- ---- from the clauses to the test
 
@@ -235,9 +244,9 @@ named-by t c i l q = go (c .named i l q)
     go (inl e) = e
     go (inr e) = let z : ⊥ = omega (arith, c .few) in absurd z
 
-pub clauses-sound : (t : List ℕ) → Sound t → (sized t ≡ true) × (sound t ≡ true)
+pub clauses-shaped : (t : List ℕ) → Sound t → (sized t ≡ true) × (shaped t ≡ true)
 unfolding holdersThere headingsThere usersRight namesPadded allNamed noneCrowded directoriesPlain textsWhole noOtherText namesLegal
-clauses-sound t c =
+clauses-shaped t c =
     let m : length t % 32 ≡ 0 = c .whole in
     let n : length t ≤ 65536 = omega (arith, c .few) in (
       and-both (eqb (length t % 32) 0) _ (eq-eqb _ _ m) (le-leb _ _ n),
@@ -260,3 +269,7 @@ clauses-sound t c =
         legal = every-here 2 nameLegal t (λ i l q. c .own i l .entry q .legal);
       }),
     )
+
+pub clauses-sound : (t : List ℕ) → Sound t → countsTrue t ≡ true → (sized t ≡ true) × (sound t ≡ true)
+unfolding sound
+clauses-sound t c e = let s = clauses-shaped t c in (s .0, and-both (shaped t) _ (s .1) e)

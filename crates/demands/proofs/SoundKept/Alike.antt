@@ -57,10 +57,10 @@ of-kind n a b x y k f =
 like-typed : (n : ℕ) (a b : List ℕ) → Like a b → typed n b ≡ typed n a
 like-typed n a b s = of-kind 1 a b _ _ (s .kind) (λ q. rw (s .heading q .type))
 
-like-names : (h : ℕ) (a b : List ℕ) → Like a b → names h b ≡ names h a
+pub like-names : (h : ℕ) (a b : List ℕ) → Like a b → names h b ≡ names h a
 like-names h a b s = of-kind 2 a b _ _ (s .kind) (λ q. rw (s .entry q .heading))
 
-like-stands : (d : Holder) (a b : List ℕ) → Like a b → stands d b ≡ stands d a
+pub like-stands : (d : Holder) (a b : List ℕ) → Like a b → stands d b ≡ stands d a
 unfolding stands
 like-stands d a b s = of-kind 2 a b _ _ (s .kind) (λ q. rw (s .entry q .holder, s .entry q .user))
 

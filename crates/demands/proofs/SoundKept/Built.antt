@@ -73,7 +73,9 @@ own-heading type lev code life n f =
     let l : n < 256 ^ 2 = omega (arith, f .size) in
     let e : textLength (headingRecord type lev code life n) ≡ n = heading-length type lev code life n l in
     heading-own (headingRecord type lev code life n) refl (record {
-      shape = rw (le-leb _ _ (f .types), le-leb _ _ (f .levels), le-leb _ _ (f .codes), le-leb _ _ (f .least), le-leb _ _ (f .most));
+      shape =
+          rw (le-leb _ _ (f .types), le-leb _ _ (f .levels), le-leb _ _ (f .codes), le-leb _ _ (f .least), le-leb _ _ (f .most))
+          (rw (implies-by (eqb type 1) true (λ _. refl)));
       directory = λ z. (f .plain z .0, e ∙ f .plain z .1);
       simple = λ z. omega (arith, f .size);
     })

@@ -65,10 +65,11 @@ module _ (r : List ℕ) (s : length r ≡ 32) (k : byte r 0 ≡ 1) (y : headingT
                 at 3 (omega arith, inl (omega arith)),
                 at 4 (omega arith, inl (omega arith)),
                 rewritten-zeros r mark n 6 4 (λ i l. (omega arith, inl (omega arith))),
-                rewritten-zeros r mark n 12 20 (λ i l. (omega arith, inr (omega arith))),
+                rewritten-zeros r mark n 14 2 (λ i l. (omega arith, inr (omega arith))),
+                rewritten-zeros r mark n 16 16 (λ i l. (omega arith, inr (omega arith))),
               )
               (rw (le-leb _ _ (g .type), le-leb _ _ (g .level), le-leb _ _ (g .code), le-leb _ _ (g .lifetime .0), le-leb _ _ (g .lifetime .1))
-              (rw (g .rest .0, g .rest .1)));
+              (rw (g .rest, g .file y, g .last, y)));
           directory = λ (z : headingType (rewritten r mark n) ≡ 0). let x : ⊥ = omega (arith, again-type) in absurd x;
           simple = λ _. omega (arith, again-length);
         })

@@ -10,6 +10,7 @@ use lib.ListN.{length}
 use Rattle.paper.specs.Record.{byte, names, headingOf, textAt}
 use Rattle.paper.specs.Table.{rooms, rec}
 use Rattle.paper.specs.Entry.{Holder, stands, bears, find, crowd, named}
+use Rattle.paper.specs.Count.{namings}
 use Rattle.laws.proofs.Tests.{false-by}
 use Rattle.laws.proofs.Scans.{any-cong, first-cong}
 use Rattle.laws.proofs.Counts.{count-cong}
@@ -80,6 +81,10 @@ module _ (t f : List ℕ) (g : Grown t f) where
   pub grown-named : (h : ℕ) → named f h ≡ named t h
   unfolding named
   grown-named h = rw grown-rooms (any-cong _ _ (rooms t) (same-entry (names h) (names-kind h)))
+
+  pub grown-namings : (h : ℕ) → namings f h ≡ namings t h
+  unfolding namings
+  grown-namings h = rw grown-rooms (count-cong _ _ (rooms t) (same-entry (names h) (names-kind h)))
 
   pub grown-crowd : (d : Holder) → crowd f d ≡ crowd t d
   unfolding crowd

@@ -1,9 +1,9 @@
 -- Every request's plan keeps soundness: an entry of a walked directory under a name that was read is as an entry should be, over the
 -- entry that it displaces or in a free record; a copy is no longer than its source's blocks, 24 bytes each.
 use mathlib.Core.Bool.{true, false}
-use mathlib.Core.List.{List, [], _∷_, _++_}
+use mathlib.Core.List.{List, [], append-nil}
 use mathlib.Core.Logic.{inl, inr, _≢_}
-use mathlib.Core.Path.{_≡_, refl, ap}
+use mathlib.Core.Path.{_≡_, refl, ap, _∙_}
 use Prim.Native.Nat.{ℕ, _^_, _≤_, _<_}
 use native.Mathlib.Omega.{arith}
 use lib.ListN.{length}
@@ -19,19 +19,27 @@ use Rattle.paper.specs.Request.{Begin}
 use Rattle.paper.specs.Code.{joined}
 use Rattle.paper.specs.Entry.{Holder, holder, full}
 use Rattle.paper.specs.Block.{blocks, fileText}
+use Rattle.paper.specs.Sound.{countsTrue}
 use Rattle.paper.specs.Walk.{State, start, file, reached, toDirectory, lastName}
 use Rattle.paper.specs.Store.{puts, run}
-use Rattle.paper.specs.Effect.{Making, borne, losing, settled, chainOf, making, filing, linking, crdPlan, wrsPlan, cpyPlan, dupPlan, chnPlan}
+use Rattle.paper.specs.Effect.{Making, borne, placing, losing, settled, chainOf, making, filing, linking, crdPlan, wrsPlan, cpyPlan, dupPlan, chnPlan}
+use Rattle.laws.proofs.Lists.{Every}
 use Rattle.laws.proofs.Entries.{Stands, found-stands}
+use Rattle.laws.proofs.Lay.{lay-other, within}
+use Rattle.laws.proofs.Runs.{Lays, rooms-run}
 use Rattle.laws.proofs.Blocks.{file-most}
 use Rattle.demands.proofs.Sound.Clauses.{Sound, entry-code, length-most}
+use Rattle.demands.proofs.Sound.Right.{Right}
 use Rattle.demands.proofs.Request.Formed.{Named, Last, named-last, named-some, Within, within-else}
 use Rattle.demands.proofs.Request.Read.{CrdRead, WrsRead, CpyRead, DupRead, ChnRead}
 use Rattle.demands.proofs.Request.Walked.{Ends, base, inside, joined-code, walk-ends, ends-base, walk-reached}
+use Rattle.demands.proofs.PowerCut.Cut.{counted, rooms-counted}
+use Rattle.demands.proofs.SoundKept.Grown.{grown-stays}
 use Rattle.demands.proofs.SoundKept.Built.{NewHeading, NewEntry}
 use Rattle.demands.proofs.SoundKept.Filed.{length-file}
 use Rattle.demands.proofs.SoundKept.Made.{Made, Entered, made-sound, made-over, displaced-same, new-file, filing-made, linking-made}
 use Rattle.demands.proofs.SoundKept.Settled.{instead-found, displaced-sound}
+use Rattle.demands.proofs.SoundKept.Recounted.{Gone, counted-right, settled-gone}
 use Rattle.demands.proofs.SoundKept.Kept.{Keeps, holder-keeps, end-keeps, making-keeps, chn-keeps}
 
 -- a declared number, or the one taken where it is not given
@@ -62,17 +70,29 @@ module _ (t : List ℕ) (c : Sound t) where
   made-keeps o m made = making-keeps t m over free
     where
       over : (e : ℕ) → borne t m ≡ at e → length (m .first) ≤ length (frees t) → losing t e (m .entry) ≡ false
-          → Sound (run t (m .first ++ puts e (m .entry) ∷ settled t e (m .entry)))
+          → Right (run t (placing t m (at e)))
       over e b l v =
           let d = made l in
+          let f = found-stands t (m .directory .holder) (m .name) e b in
           let s : Stands (m .directory .holder) (m .entry) = stands-in (m .entry) (m .directory .holder) (d .fits .kind) (d .place) in
-          displaced-sound t (m .first) e (m .entry) c (d .before .grown) (found-stands t (m .directory .holder) (m .name) e b .1 .kind)
+          counted-right t (m .first) (puts e (m .entry)) (settled t e (m .entry)) (gone d e (f .0) (f .1 .kind))
+          (displaced-sound t (m .first) e (m .entry) c (d .before .grown) (f .1 .kind)
           (instead-found t (m .directory .holder) (m .name) e (m .entry) b (d .fits .size) s) v
-          (rw (displaced-same o t m c d e b) (made-over o t m c d e b))
+          (rw (displaced-same o t m c d e b) (made-over o t m c d e b)))
+        where
+          gone : Made o t m → (e : ℕ) → e < rooms t → byte (rec t e) 0 ≡ 2
+              → Every (Lays (Gone (counted t (m .first) (puts e (m .entry)))) (rooms (counted t (m .first) (puts e (m .entry))))) (settled t e (m .entry))
+          gone d e l k =
+              settled-gone t c e (m .entry) l k (counted t (m .first) (puts e (m .entry))) (rooms-counted t (m .first) (puts e (m .entry)))
+              (λ j i n q.
+              lay-other (run t (m .first)) e (m .entry) i (d .fits .size) n (rw (rooms-run t (m .first)) (within t i (c .whole) (omega arith)))
+              ∙ grown-stays t (run t (m .first)) (d .before .grown) i (c .whole) (omega arith))
 
       free : borne t m ≡ nowhere → full t (m .directory .holder) ≡ false → length (m .first) < length (frees t)
-          → Sound (run t (m .first ++ puts (room t (length (m .first))) (m .entry) ∷ []))
-      free b f l = made-sound o t m c (made (omega arith)) b (leb-false _ _ f) l
+          → Right (run t (placing t m nowhere))
+      free b f l =
+          rw (append-nil (placing t m nowhere)) at
+          (counted-right t (m .first) (puts (room t (length (m .first))) (m .entry)) [] tt (made-sound o t m c (made (omega arith)) b (leb-false _ _ f) l))
 
   -- a new file, whose heading and entry are as they should be
   filing-keeps : (place : ℕ) (w : Word) (d : State) (type lev code life : ℕ) (text : List ℕ) → NewHeading type lev code life (length text)
@@ -166,8 +186,8 @@ module _ (t : List ℕ) (c : Sound t) where
       let x = entered u new d j m (h .new) (joined-code _ _ (entry-code (rec t (f .entry)) (s .own)) b) q in
       made-keeps 65535 (linking t f d new code) (λ _. linking-made t f d new code c (s .heading) x) [] _ []))
 
-  pub chn-kept : (u : ℕ) (old link : Word) → ChnRead old link → Keeps t (chnPlan t u old link)
-  chn-kept u old link h =
-      chn-keeps t u old link c (h .link) (λ d q z.
+  pub chn-kept : countsTrue t ≡ true → (u : ℕ) (old link : Word) → ChnRead old link → Keeps t (chnPlan t u old link)
+  chn-kept e u old link h =
+      chn-keeps t u old link (record { clauses = c; counts = e }) (h .link) (λ d q z.
       let one = ends-base 65535 t c u (chainOf old) d (walk-ends 65535 t c 1 u (chainOf old) d q) z in
       h .base (omega (arith, one, named-some old (h .old))))

@@ -1,7 +1,7 @@
 -- A new entry, with the stores before it: they leave the table sound but for the file that the entry is to name, and every entry as it was.
 -- So the entry fits the record that was planned for it: the free one after the new file's, or that of the entry it displaces.
 use mathlib.Core.Bool.{true}
-use mathlib.Core.List.{List, [], _∷_}
+use mathlib.Core.List.{List, [], _∷_, _++_}
 use mathlib.Core.Logic.{_⊎_, inl, inr}
 use mathlib.Core.Path.{_≡_, refl, sym, ap, _∙_, subst}
 use Prim.Native.Nat.{ℕ, _^_, _<_}
@@ -19,7 +19,7 @@ use Rattle.paper.specs.Block.{blocks}
 use Rattle.paper.specs.Sound.{isBase, holderThere}
 use Rattle.paper.specs.Walk.{State, file, lastName}
 use Rattle.paper.specs.Store.{Store, puts, run}
-use Rattle.paper.specs.Effect.{Making, borne, placing, newFile, chainOf, filing, linking}
+use Rattle.paper.specs.Effect.{Making, borne, newFile, chainOf, filing, linking}
 use Rattle.laws.proofs.Tests.{or-left, or-right}
 use Rattle.laws.proofs.Fields.{heading-length, entry-record-kind, length-entry, entry-holder, entry-heading, entry-user, entry-name}
 use Rattle.laws.proofs.Entries.{link-short, found-bears, found-stands}
@@ -71,7 +71,7 @@ module _ (o : ℕ) (t : List ℕ) (m : Making) (c : Sound t) (d : Made o t m) wh
 
   -- nothing is displaced, the place is not full, and there is room: the table is sound
   pub made-sound : borne t m ≡ nowhere → crowd t (m .directory .holder) < limit (m .directory .holder) → length (m .first) < length (frees t)
-      → Sound (run t (placing t m nowhere))
+      → Sound (run t (m .first ++ puts (room t (length (m .first))) (m .entry) ∷ []))
   unfolding run
   made-sound b l k =
       rw (run-append t (m .first) (puts (room t (length (m .first))) (m .entry) ∷ []))

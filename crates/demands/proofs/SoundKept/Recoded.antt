@@ -20,7 +20,7 @@ use Rattle.demands.proofs.Sound.Clauses.{HeadingOwn, Own, heading-field
 use Rattle.demands.proofs.SoundKept.Alike.{Like, replaced-sound}
 
 module _ (r : List ℕ) (code : ℕ) (s : length r ≡ 32) (k : byte r 0 ≡ 1) where
-  byte-same : (j : ℕ) → j ≢ 3 → byte (recoded r code) j ≡ byte r j
+  pub byte-same : (j : ℕ) → j ≢ 3 → byte (recoded r code) j ≡ byte r j
   unfolding recoded
   byte-same j d = getD-set-other r 3 j code 0 d
 
@@ -58,7 +58,8 @@ module _ (r : List ℕ) (code : ℕ) (s : length r ≡ 32) (k : byte r 0 ≡ 1) 
             record {
               shape =
                   rw (byte-same 1 (omega arith), byte-same 2 (omega arith), code-new, byte-same 4 (omega arith), byte-same 5 (omega arith), length-same)
-                  (rw (zeros-same 6 4 (omega arith), zeros-same 12 20 (omega arith), le-leb code 7 b) (rw code-old at (o .shape)));
+                  (rw (zeros-same 6 4 (omega arith), zeros-same 14 2 (omega arith), zeros-same 16 16 (omega arith), le-leb code 7 b)
+                  (rw code-old at (o .shape)));
               directory = rw (byte-same 1 (omega arith), byte-same 4 (omega arith), length-same) (o .directory);
               simple = rw (byte-same 1 (omega arith), length-same) (o .simple);
             };

@@ -1,6 +1,6 @@
 -- What `WRS*` does where its checks pass: it has walked to a simple file of lifetime M that may be written, and there is room for the text.
 -- So its stores are those of a rewrite, and the table after them is sound.
-use mathlib.Core.Bool.{false}
+use mathlib.Core.Bool.{true, false}
 use mathlib.Core.List.{List, _++_}
 use mathlib.Core.Logic.{_≢_}
 use mathlib.Core.Path.{_≡_, refl, sym, _∙_}
@@ -14,6 +14,7 @@ use Rattle.paper.specs.Line.{Word}
 use Rattle.paper.specs.Check.{passed, verdict}
 use Rattle.paper.specs.Code.{noWrite}
 use Rattle.paper.specs.Block.{blocks, block, blocksOf}
+use Rattle.paper.specs.Sound.{countsTrue}
 use Rattle.paper.specs.Walk.{State, start, file, reached, toDirectory, toLast}
 use Rattle.paper.specs.Store.{puts, clear}
 use Rattle.paper.specs.Effect.{Plan, Planned, plan, halted, chainOf, bared, emptying, emptied, laying, rewriting, rewritePlan}
@@ -34,7 +35,8 @@ use Rattle.demands.proofs.SoundKept.Freed.{text-found}
 use Rattle.demands.proofs.SoundKept.Kept.{Keeps}
 use Rattle.demands.proofs.SoundKept.Retexted.{Mine, none, some}
 use Rattle.demands.proofs.SoundKept.Emptied.{in-h, size-h, Emptied, heading, text, other, emptied-by}
-use Rattle.demands.proofs.SoundKept.Refilled.{Rewrite, room-in, room-free, room-not, refilled-sound}
+use Rattle.demands.proofs.SoundKept.Refilled.{Rewrite, room-in, room-free, room-not}
+use Rattle.demands.proofs.SoundKept.Told.{refilled-right}
 
 -- ---- each store of a rewrite
 
@@ -167,9 +169,9 @@ module _ (t : List ℕ) (c : Sound t) (u : ℕ) (body : List ℕ) (name : Word) 
   pub rewrite-granted : (p : Plan) → Passed (rewritePlan t u body name) p → Granted t u body name p
   rewrite-granted p v = let s : Grants t u body name (plan p) = rw (v .plan) at rewrite-grants in s (v .checks)
 
-  pub rewrite-keeps : Keeps t (rewritePlan t u body name)
-  rewrite-keeps = go (rewritePlan t u body name) rewrite-grants
+  pub rewrite-keeps : countsTrue t ≡ true → Keeps t (rewritePlan t u body name)
+  rewrite-keeps e = go (rewritePlan t u body name) rewrite-grants
     where
       go : (x : Planned) → Grants t u body name x → Keeps t x
-      go (plan p) h = λ v. let g = h v in rw (g .stores) (refilled-sound t (file t (g .end)) body c (g .fit))
+      go (plan p) h = λ v. let g = h v in rw (g .stores) (refilled-right t (file t (g .end)) body (record { clauses = c; counts = e }) (g .fit))
       go (halted f) h = tt

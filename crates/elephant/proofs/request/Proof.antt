@@ -67,7 +67,8 @@ admit-requires c κs =
     let g = at-read2 .read2 .given in
     let q = sym (g .1) ∙ at-read-line .read-line .ensures in
     let-through (s .args .table .now) (s .args .line .now) (s .args .text .now) (s .args .reply .now) (s .args .user) (s .args .stop) (n .result)
-    (n .ensures) (omega arith) (g .0 .0) q (at-bears .bears-text .ensures _ _ ∙ and-no-left (at-bears .bears-text .result) _ (not-true (at-bears .bears-text .result) (c .before .before .if2 .taken)))
+    (n .ensures) (omega arith) (g .0 .0) q
+    (at-bears .bears-text .ensures _ _ ∙ and-no-left (at-bears .bears-text .result) _ (not-true (at-bears .bears-text .result) (c .before .before .if2 .taken)))
 
 same-length-2 : tie.Need-same-length-2
 same-length-2 c = search needs
@@ -97,7 +98,8 @@ returns-3 c =
     let n = at-entrance-number .entrance-number in
     let g = at-read2 .read2 .given in
     let q = sym (g .1) ∙ at-read-line .read-line .ensures in
-    let w = rw (not-false (at-bears .bears-text .result) (c .before .before .if2 .left)) at (at-bears .bears-text .ensures (s .args .line .now) (s .args .text .now)) in
+    let w =
+    rw (not-false (at-bears .bears-text .result) (c .before .before .if2 .left)) at (at-bears .bears-text .ensures (s .args .line .now) (s .args .text .now)) in
     refused-long (s .args .table .now) (s .args .line .now) (s .args .text .now) (s .args .reply .now) (s .args .user) (s .args .stop) (n .result)
     (n .ensures) (omega arith) (g .0 .0) q (w ∙ lt-ltb 24000 _ (c .before .if3 .taken)) _ (c .refused-whole2 .ensures)
 
@@ -112,7 +114,8 @@ grant-requires c κs =
     let n = at-entrance-number .entrance-number in
     let g = at-read2 .read2 .given in
     let q = sym (g .1) ∙ at-read-line .read-line .ensures in
-    let w = rw (not-false (at-bears .bears-text .result) (c .before .before .before .if2 .left)) at (at-bears .bears-text .ensures (s .args .line .now) (s .args .text .now)) in
+    let w =
+    rw (not-false (at-bears .bears-text .result) (c .before .before .before .if2 .left)) at (at-bears .bears-text .ensures (s .args .line .now) (s .args .text .now)) in
     let-through (s .args .table .now) (s .args .line .now) (s .args .text .now) (s .args .reply .now) (s .args .user) (s .args .stop) (n .result)
     (n .ensures) (omega arith) (g .0 .0) q (w ∙ le-ltb 24000 _ (c .before .before .if3 .left))
 

@@ -20,6 +20,7 @@ use Rattle.laws.proofs.Scans.{first-cong, first-at}
 use Rattle.laws.proofs.Lists.{join-cong}
 use Rattle.laws.proofs.Lay.{Whole, rec-past}
 use Rattle.demands.proofs.SoundKept.Freed.{textOf}
+use Rattle.demands.proofs.Mending.Part.{Alike, equal, counts}
 
 -- the file of heading h is in s what and where it is in t
 pub record Held (h : ℕ) (t s : List ℕ) : Type 0 where
@@ -29,6 +30,15 @@ pub record Held (h : ℕ) (t s : List ℕ) : Type 0 where
   pub back : drop 16 (rec s h) ≡ drop 16 (rec t h)
   -- a record that is text of h in one of them is the same in both
   pub texts : (i : ℕ) → (textOf h (rec t i) ≡ true) ⊎ (textOf h (rec s i) ≡ true) → rec s i ≡ rec t i
+
+-- a heading alike but for its counts
+pub alike-front : (x r : List ℕ) → Alike x r → take 12 r ≡ take 12 x
+alike-front x r (equal e) = rw e
+alike-front x r (counts b) = b .front
+
+pub alike-back : (x r : List ℕ) → Alike x r → drop 16 r ≡ drop 16 x
+alike-back x r (equal e) = rw e
+alike-back x r (counts b) = b .back
 
 pub held-refl : (h : ℕ) (t : List ℕ) → Held h t t
 held-refl h t = record { long = refl; front = refl; back = refl; texts = λ _ _. refl }

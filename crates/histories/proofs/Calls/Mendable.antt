@@ -12,7 +12,7 @@ use Rattle.paper.specs.Mend.{mendStores, mended}
 use Rattle.paper.specs.Answer.{requested, mending}
 use Rattle.laws.proofs.Lay.{Whole}
 use Rattle.laws.proofs.Runs.{length-run}
-use Rattle.demands.proofs.Sound.Clauses.{Sound, sound-clauses}
+use Rattle.demands.proofs.Sound.Right.{Right, sound-right}
 use Rattle.demands.proofs.Request.Course.{Course, untried, tried, course}
 use Rattle.demands.proofs.Mending.{mendedWhole, mend-sound, mended-again}
 use Rattle.demands.proofs.Mending.Debris.{mended-sound}
@@ -20,25 +20,25 @@ use Rattle.demands.proofs.PowerCut.{demand-three}
 use Rattle.histories.specs.History.{Call, asks, mends, called, after}
 
 abbrev pub Mendable : List ℕ → Type 0
-Mendable t = Sound (mended t)
+Mendable t = Right (mended t)
 
 pub mendable-whole : (t : List ℕ) → Mendable t → Whole t
-mendable-whole t c = let w : length (mended t) ≡ length t = unfold mended in length-run t (mendStores t) in rw w at (c .whole)
+mendable-whole t c = let w : length (mended t) ≡ length t = unfold mended in length-run t (mendStores t) in rw w at (c .clauses .whole)
 
-pub sound-mendable : (t : List ℕ) → Sound t → Mendable t
+pub sound-mendable : (t : List ℕ) → Right t → Mendable t
 sound-mendable t c = rw (mended-sound t c) c
 
 -- a request is refused and changes nothing, or the table is sound
 pub data Asked (t line text reply : List ℕ) (u k : ℕ) : Type 0 where
   refused : requested t line text reply u k .table ≡ t → Asked t line text reply u k
-  entered : Sound t → Asked t line text reply u k
+  entered : Right t → Asked t line text reply u k
 
 pub how-asked : (t line text reply : List ℕ) (u k : ℕ) → Asked t line text reply u k
 how-asked t line text reply u k = go (course t line text reply u)
   where
     go : Course t line text reply u → Asked t line text reply u k
     go (untried f h e) = refused (rw (e k))
-    go (tried r h e) = entered (sound-clauses t (h .sized) (h .sound))
+    go (tried r h e) = entered (sound-right t (h .sized) (h .sound))
 
 pub called-mendable : (t : List ℕ) (c : Call) → Mendable t → Mendable (called t c .table)
 called-mendable t (mends k) m = rw (mended-again t k) m
@@ -49,7 +49,7 @@ called-mendable t (asks line text reply u k) m = go (course t line text reply u)
     ends s a =
         let b = mend-sound s (length (mendStores s)) (rw a) in
         let d : (sized (mended s) ≡ true) × (sound (mended s) ≡ true) = rw a at b in
-        sound-clauses (mended s) (d .0) (d .1)
+        sound-right (mended s) (d .0) (d .1)
 
     go : Course t line text reply u → Mendable (requested t line text reply u k .table)
     go (untried f h e) = rw (e k) m

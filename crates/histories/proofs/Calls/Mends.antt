@@ -1,35 +1,39 @@
--- A mend, cut anywhere: it clears headings that no entry names, and then text whose heading keeps none by then, and nothing else.
+-- A mend, cut anywhere: it clears headings that no entry names, then text whose heading keeps none by then, and last it writes counts.
 -- So a heading that it clears is named by no entry, and text stays whose heading keeps it and stays.
 use mathlib.Core.Bool.{true, false}
 use mathlib.Core.List.{List}
-use mathlib.Core.Logic.{_⊎_, inl, inr, _≢_, by-cases}
-use mathlib.Core.Path.{_≡_, refl, _∙_}
+use mathlib.Core.Logic.{_⊎_, inl, inr, _≢_, by-cases, ⊎-elim}
+use mathlib.Core.Path.{_≡_, refl, sym, _∙_}
 use Prim.Native.Nat.{ℕ, _-_, _≤_, _<_}
 use native.Mathlib.Omega.{arith}
 use native.Mathlib.Decide.{decLe}
 use lib.ListN.{length, take}
 use lib.Seq.{take-append-le, take-length}
 use borrow.Author.Tests.{eqb-true, not-true}
-use Rattle.paper.specs.Record.{byte, isKind, headingOf, simple, blank}
+use Rattle.paper.specs.Record.{byte, isKind, headingOf, simple}
 use Rattle.paper.specs.Table.{rooms, rec}
 use Rattle.paper.specs.Entry.{named}
 use Rattle.paper.specs.Store.{run}
-use Rattle.paper.specs.Mend.{keepsText, orphan, stray, mendFirst, mendSecond, mendStores, mended}
+use Rattle.paper.specs.Mend.{keepsText, orphan, stray, mendFirst, mendSecond, clearStores, cleared, mendStores, mended}
+use Rattle.paper.specs.Count.{recounts}
 use Rattle.paper.specs.Answer.{mending}
 use Rattle.laws.proofs.Tests.{not-both, and-left, and-right}
-use Rattle.laws.proofs.Lists.{take-past}
+use Rattle.laws.proofs.Lists.{every-take, take-past}
 use Rattle.laws.proofs.Entries.{typed-kind}
 use Rattle.laws.proofs.Lay.{Whole, within, kind-blank}
-use Rattle.laws.proofs.Runs.{run-append, length-run}
+use Rattle.laws.proofs.Runs.{run-each, run-append, length-run}
 use Rattle.demands.proofs.Mending.Wipe.{Blanks, cut-wipe}
 use Rattle.demands.proofs.MendAnswered.{MendCame, unsized, unsound, whole, cutOff, mend-came}
 use Rattle.demands.proofs.SoundKept.Freed.{textOf}
-use Rattle.histories.proofs.Calls.Stores.{Lessened}
+use Rattle.demands.proofs.Mending.Part.{Alike, equal, Below, free, stays, Less}
+use Rattle.demands.proofs.Mending.Counts.{alike-kind, alike-same}
+use Rattle.demands.proofs.Mending.Less.{less-refl, less-trans}
+use Rattle.histories.proofs.Calls.Falls.{counts-alike}
 use Rattle.histories.proofs.Calls.Moved.{text-of}
 
 -- from t to s, by a mend
 pub record Tidied (t s : List ℕ) : Type 0 where
-  pub less : Lessened t s
+  pub less : Less t s
   -- a heading that is none any more was named by no entry
   pub last : (h : ℕ) → byte (rec t h) 0 ≡ 1 → byte (rec s h) 0 ≢ 1 → named t h ≡ false
   -- the text of a heading that keeps it and stays
@@ -40,7 +44,7 @@ unfolding keepsText
 keeps-kind r e = typed-kind 1 r (and-left (simple r) _ e)
 
 pub tidied-none : (t : List ℕ) → Tidied t t
-tidied-none t = record { less = record { long = refl; each = λ _ _. inl refl }; last = λ h k n. absurd (n k); texts = λ _ _ _ _ _. refl }
+tidied-none t = record { less = less-refl t; last = λ h k n. absurd (n k); texts = λ _ _ _ _ _. refl }
 
 module _ (t : List ℕ) (w : Whole t) where
   orphan-parts : (i : ℕ) → orphan t i ≡ true → (byte (rec t i) 0 ≡ 1) × (named t i ≡ false)
@@ -50,9 +54,9 @@ module _ (t : List ℕ) (w : Whole t) where
   first : (s : List ℕ) → length s ≡ length t → ((i : ℕ) → i < rooms t → (rec s i ≡ rec t i) ⊎ Blanks (orphan t) i (rec s i)) → Tidied t s
   first s e each = record { less = record { long = e; each = λ i l. less i (each i l) }; last = last; texts = texts }
     where
-      less : (i : ℕ) → (rec s i ≡ rec t i) ⊎ Blanks (orphan t) i (rec s i) → (rec s i ≡ rec t i) ⊎ (rec s i ≡ blank)
-      less i (inl q) = inl q
-      less i (inr q) = inr (q .0)
+      less : (i : ℕ) → (rec s i ≡ rec t i) ⊎ Blanks (orphan t) i (rec s i) → Below (rec t i) (rec s i)
+      less i (inl q) = stays (equal q)
+      less i (inr q) = free (q .0)
 
       last : (h : ℕ) → byte (rec t h) 0 ≡ 1 → byte (rec s h) 0 ≢ 1 → named t h ≡ false
       last h k n = go (each h (within t h w (omega arith)))
@@ -71,11 +75,12 @@ module _ (t : List ℕ) (w : Whole t) where
   t₁ : List ℕ
   t₁ = run t (mendFirst t)
 
-  done : Tidied t t₁
+  first-each : (i : ℕ) → i < rooms t → (rec t₁ i ≡ rec t i) ⊎ Blanks (orphan t) i (rec t₁ i)
   unfolding t₁
-  done =
-      first (run t (mendFirst t)) (length-run t (mendFirst t))
-      (λ i l. rw (take-length (mendFirst t)) at (cut-wipe t (orphan t) (length (mendFirst t)) i l))
+  first-each i l = rw (take-length (mendFirst t)) at (cut-wipe t (orphan t) (length (mendFirst t)) i l)
+
+  done : Tidied t t₁
+  done = first t₁ (unfold t₁ in length-run t (mendFirst t)) first-each
 
   -- in the second step: text
   second : (s : List ℕ) → length s ≡ length t₁ → ((i : ℕ) → i < rooms t₁ → (rec s i ≡ rec t₁ i) ⊎ Blanks (stray t₁) i (rec s i)) → Tidied t s
@@ -87,32 +92,33 @@ module _ (t : List ℕ) (w : Whole t) where
       at-t : (i : ℕ) → i < rooms t → (rec s i ≡ rec t₁ i) ⊎ Blanks (stray t₁) i (rec s i)
       at-t i l = each i (rw rooms₁ l)
 
-      less : (i : ℕ) → i < rooms t → (rec s i ≡ rec t i) ⊎ (rec s i ≡ blank)
-      less i l = go (at-t i l) (done .less .each i l)
+      less : (i : ℕ) → i < rooms t → Below (rec t i) (rec s i)
+      less i l = go (at-t i l)
         where
-          go : (rec s i ≡ rec t₁ i) ⊎ Blanks (stray t₁) i (rec s i) → (rec t₁ i ≡ rec t i) ⊎ (rec t₁ i ≡ blank) → (rec s i ≡ rec t i) ⊎ (rec s i ≡ blank)
-          go (inr q) p = inr (q .0)
-          go (inl q) (inl p) = inl (q ∙ p)
-          go (inl q) (inr p) = inr (q ∙ p)
+          go : (rec s i ≡ rec t₁ i) ⊎ Blanks (stray t₁) i (rec s i) → Below (rec t i) (rec s i)
+          go (inr q) = free (q .0)
+          go (inl q) = rw q (done .less .each i l)
+
+      -- a heading after the first step stays one, and is one before it
+      heads₁ : (h : ℕ) → h < rooms t → byte (rec t₁ h) 0 ≡ 1 → byte (rec s h) 0 ≡ 1
+      heads₁ h l k = go (at-t h l)
+        where
+          go : (rec s h ≡ rec t₁ h) ⊎ Blanks (stray t₁) h (rec s h) → byte (rec s h) 0 ≡ 1
+          go (inl q) = rw q k
+          go (inr q) =
+              let y : byte (rec t₁ h) 0 ≡ 3 = eqb-true _ _ (and-left _ _ (q .1)) in
+              let v : ⊥ = omega arith in absurd v
 
       last : (h : ℕ) → byte (rec t h) 0 ≡ 1 → byte (rec s h) 0 ≢ 1 → named t h ≡ false
-      last h k n = go (at-t h (within t h w (omega arith))) (done .less .each h (within t h w (omega arith)))
-        where
-          go : (rec s h ≡ rec t₁ h) ⊎ Blanks (stray t₁) h (rec s h) → (rec t₁ h ≡ rec t h) ⊎ (rec t₁ h ≡ blank) → named t h ≡ false
-          go x (inr p) = done .last h k (λ (z : byte (rec t₁ h) 0 ≡ 1). omega (arith, kind-blank (rec t₁ h) p))
-          go (inl q) (inl p) = absurd (n (rw (q, p) k))
-          go (inr q) (inl p) =
-              let y : byte (rec t₁ h) 0 ≡ 3 = eqb-true _ _ (and-left _ _ (q .1)) in
-              let z : byte (rec t h) 0 ≡ 3 = rw p at y in
-              let v : ⊥ = omega arith in absurd v
+      last h k n = done .last h k (λ (z : byte (rec t₁ h) 0 ≡ 1). n (heads₁ h (within t h w (omega arith)) z))
 
       -- a heading at the end was one all the way
       heads : (h : ℕ) → byte (rec s h) 0 ≡ 1 → h < rooms t → rec t₁ h ≡ rec t h
-      heads h z l = go (at-t h l) (done .less .each h l)
+      heads h z l = go (at-t h l) (first-each h l)
         where
-          go : (rec s h ≡ rec t₁ h) ⊎ Blanks (stray t₁) h (rec s h) → (rec t₁ h ≡ rec t h) ⊎ (rec t₁ h ≡ blank) → rec t₁ h ≡ rec t h
+          go : (rec s h ≡ rec t₁ h) ⊎ Blanks (stray t₁) h (rec s h) → (rec t₁ h ≡ rec t h) ⊎ Blanks (orphan t) h (rec t₁ h) → rec t₁ h ≡ rec t h
           go x (inl p) = p
-          go (inl q) (inr p) = let v : ⊥ = omega (arith, kind-blank (rec s h) (q ∙ p)) in absurd v
+          go (inl q) (inr p) = let v : ⊥ = omega (arith, kind-blank (rec s h) (q ∙ p .0)) in absurd v
           go (inr q) (inr p) = let v : ⊥ = omega (arith, kind-blank (rec s h) (q .0)) in absurd v
 
       texts : (h i : ℕ) → keepsText (rec t h) ≡ true → byte (rec s h) 0 ≡ 1 → textOf h (rec t i) ≡ true → rec s i ≡ rec t i
@@ -140,15 +146,58 @@ module _ (t : List ℕ) (w : Whole t) where
               let a : keepsText (rec t h) ≡ false = rw (kept, y .1, same) at v in
               absurd (not-both m a)
 
-  -- cut after k stores
-  stores-tidied : (k : ℕ) → Tidied t (run t (take k (mendStores t)))
-  unfolding mendStores t₁
-  stores-tidied k =
+  -- cut in one of the two
+  cleared-tidied : (k : ℕ) → Tidied t (run t (take k (clearStores t)))
+  unfolding clearStores t₁
+  cleared-tidied k =
       by-cases (decLe k (length (mendFirst t)))
       (λ (l : k ≤ length (mendFirst t)). rw (take-append-le k (mendFirst t)) (first _ (length-run t _) (cut-wipe t (orphan t) k)))
       (λ (l : ¬ (k ≤ length (mendFirst t))).
       rw (take-past k (mendFirst t) (mendSecond t₁) (omega arith), run-append)
       (second _ (length-run t₁ _) (cut-wipe t₁ (stray t₁) (k - length (mendFirst t)))))
+
+  all-cleared : Tidied t (cleared t)
+  unfolding cleared
+  all-cleared = rw (take-length (clearStores t)) at (cleared-tidied (length (clearStores t)))
+
+  -- last, counts: every other byte stays
+  third : (s : List ℕ) → length s ≡ length (cleared t) → ((i : ℕ) → i < rooms (cleared t) → Alike (rec (cleared t) i) (rec s i)) → Tidied t s
+  third s e each = record { less = less-trans t (cleared t) s (all-cleared .less) less; last = last; texts = texts }
+    where
+      less : Less (cleared t) s
+      less = record { long = e; each = λ i l. stays (each i l) }
+
+      same : (i : ℕ) → i < rooms t → Alike (rec (cleared t) i) (rec s i)
+      same i l = each i (rw (all-cleared .less .long) l)
+
+      kind : (i : ℕ) → i < rooms t → byte (rec s i) 0 ≡ byte (rec (cleared t) i) 0
+      kind i l = alike-kind (rec (cleared t) i) (rec s i) (same i l)
+
+      last : (h : ℕ) → byte (rec t h) 0 ≡ 1 → byte (rec s h) 0 ≢ 1 → named t h ≡ false
+      last h k n = all-cleared .last h k (λ (z : byte (rec (cleared t) h) 0 ≡ 1). n (kind h (within t h w (omega arith)) ∙ z))
+
+      texts : (h i : ℕ) → keepsText (rec t h) ≡ true → byte (rec s h) 0 ≡ 1 → textOf h (rec t i) ≡ true → rec s i ≡ rec t i
+      texts h i m z x =
+          let y = text-of h (rec t i) x in
+          let l : i < rooms t = within t i w (omega (arith, y .0)) in
+          let g : h < rooms t = within t h w (omega (arith, keeps-kind (rec t h) m)) in
+          let q : rec (cleared t) i ≡ rec t i = all-cleared .texts h i m (sym (kind h g) ∙ z) x in
+          alike-same (rec (cleared t) i) (rec s i) (same i l) (rw (q, y .0)) ∙ q
+
+  -- cut after k stores
+  stores-tidied : (k : ℕ) → Tidied t (run t (take k (mendStores t)))
+  unfolding mendStores cleared
+  stores-tidied k =
+      by-cases (decLe k (length (clearStores t)))
+      (λ (l : k ≤ length (clearStores t)). rw (take-append-le k (clearStores t)) (cleared-tidied k))
+      (λ (l : ¬ (k ≤ length (clearStores t))).
+      rw (take-past k (clearStores t) (recounts (cleared t)) (omega arith), run-append)
+      (third _ (length-run (cleared t) _) (alike (k - length (clearStores t)))))
+    where
+      alike : (j i : ℕ) → i < rooms (cleared t) → Alike (rec (cleared t) i) (rec (run (cleared t) (take j (recounts (cleared t)))) i)
+      alike j i l =
+          ⊎-elim equal (λ a. a)
+          (run-each (λ i r. Alike (rec (cleared t) i) r) (cleared t) (take j (recounts (cleared t))) (every-take _ j _ (counts-alike (cleared t))) i l)
 
   pub mend-tidied : (k : ℕ) → Tidied t (mending t k .table)
   unfolding mended

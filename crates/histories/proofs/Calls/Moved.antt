@@ -21,8 +21,10 @@ use Rattle.demands.proofs.Sound.Clauses.{Sound}
 use Rattle.demands.proofs.Sound.Points.{text-points}
 use Rattle.demands.proofs.SoundKept.Freed.{textOf}
 use Rattle.demands.proofs.SoundKept.Retexted.{none, some, mine-not}
-use Rattle.histories.proofs.Calls.Stores.{Put, heading, text, entry, cleared, recodes, rewrites, retexts, Kept, Of, Left, stored, rid}
-use Rattle.histories.proofs.Calls.Held.{Held}
+use Rattle.demands.proofs.Mending.Part.{Alike, equal, counts}
+use Rattle.demands.proofs.Mending.Counts.{but-kind}
+use Rattle.histories.proofs.Calls.Stores.{Put, heading, text, entry, cleared, recodes, rewrites, retexts, again, Kept, Of, Left, stored, rid}
+use Rattle.histories.proofs.Calls.Held.{Held, alike-front, alike-back}
 
 -- a text record of h, in numbers
 pub text-of : (h : ℕ) (r : List ℕ) → textOf h r ≡ true → (byte r 0 ≡ 3) × (headingOf r ≡ h)
@@ -71,18 +73,20 @@ put-over t h r k (cleared a b) = let z : ⊥ = omega arith in absurd z
 put-over t h r k (recodes code b a w x q) = rw q (kind-recoded (rec t h) code ∙ k)
 put-over t h r k (rewrites mark n b a w q) = rw q (kind-rewritten (rec t h) mark n ∙ k)
 put-over t h r k (retexts g a w m n) = absurd (mine-not g (rec t h) 1 m (omega arith) (omega arith) k)
+put-over t h r k (again b) = but-kind (rec t h) r b ∙ k
 
 module _ (t s : List ℕ) (c : Sound t) (e : length s ≡ length t) where
-  -- what is laid over a capped heading, or over text
-  no-put : (h : ℕ) → byte (rec t h) 0 ≡ 1 → noWrite (headingCode (rec t h)) ≡ true → Put t h (rec s h) → ⊥
-  no-put h k n (heading a b) = omega arith
-  no-put h k n (text a b d) = omega arith
-  no-put h k n (entry (inl a) b) = omega arith
-  no-put h k n (entry (inr a) b) = omega arith
-  no-put h k n (cleared a b) = omega arith
-  no-put h k n (recodes code b a w x q) = not-both n w
-  no-put h k n (rewrites mark m b a w q) = not-both n w
-  no-put h k n (retexts g a w x y) = mine-not g (rec t h) 1 x (omega arith) (omega arith) k
+  -- over a capped heading nothing is laid but its counts
+  put-capped : (h : ℕ) → byte (rec t h) 0 ≡ 1 → noWrite (headingCode (rec t h)) ≡ true → Put t h (rec s h) → Alike (rec t h) (rec s h)
+  put-capped h k n (heading a b) = let z : ⊥ = omega arith in absurd z
+  put-capped h k n (text a b d) = let z : ⊥ = omega arith in absurd z
+  put-capped h k n (entry (inl a) b) = let z : ⊥ = omega arith in absurd z
+  put-capped h k n (entry (inr a) b) = let z : ⊥ = omega arith in absurd z
+  put-capped h k n (cleared a b) = let z : ⊥ = omega arith in absurd z
+  put-capped h k n (recodes code b a w x q) = absurd (not-both n w)
+  put-capped h k n (rewrites mark m b a w q) = absurd (not-both n w)
+  put-capped h k n (retexts g a w x y) = absurd (mine-not g (rec t h) 1 x (omega arith) (omega arith) k)
+  put-capped h k n (again b) = counts b
 
   -- heading h may be written
   abbrev Open : ℕ → Type 0
@@ -99,6 +103,7 @@ module _ (t s : List ℕ) (c : Sound t) (e : length s ≡ length t) where
   put-over-text h i y (rewrites mark n b a w q) = let z : ⊥ = omega (arith, y .0) in absurd z
   put-over-text h i y (retexts g a w (none x) m) = let z : ⊥ = omega (arith, y .0, kind-blank (rec t i) x) in absurd z
   put-over-text h i y (retexts g a w (some x e) m) = let z : g ≡ h = sym e ∙ y .1 in rw (← z) (a, w)
+  put-over-text h i y (again b) = let z : ⊥ = omega (arith, y .0, b .kind) in absurd z
 
   -- text of h that is laid lies in a free record, and so does its heading; or h is rewritten
   put-text : (h i : ℕ) → textOf h (rec s i) ≡ true → Put t i (rec s i) → ((byte (rec t i) 0 ≡ 0) × (byte (rec t h) 0 ≡ 0)) ⊎ Open h
@@ -117,6 +122,7 @@ module _ (t s : List ℕ) (c : Sound t) (e : length s ≡ length t) where
           let z : ⊥ = omega (arith, y .0) in absurd z
       go y (retexts g a w m (none v)) = let z : ⊥ = omega (arith, y .0, kind-blank (rec s i) v) in absurd z
       go y (retexts g a w m (some v e)) = let z : g ≡ h = sym e ∙ y .1 in inr (rw (← z) (a, w))
+      go y (again b) = let z : ⊥ = omega (arith, y .0, but-kind (rec t i) (rec s i) b, b .kind) in absurd z
 
   -- a heading laid where none was lies on a free record
   put-heading : (h : ℕ) → byte (rec t h) 0 ≢ 1 → byte (rec s h) 0 ≡ 1 → Put t h (rec s h) → byte (rec t h) 0 ≡ 0
@@ -127,6 +133,7 @@ module _ (t s : List ℕ) (c : Sound t) (e : length s ≡ length t) where
   put-heading h n k (recodes code b a w x q) = absurd (n a)
   put-heading h n k (rewrites mark m b a w q) = absurd (n a)
   put-heading h n k (retexts g a w x y) = absurd (mine-not g (rec s h) 1 y (omega arith) (omega arith) k)
+  put-heading h n k (again b) = absurd (n (b .kind))
 
   in-t : (i : ℕ) → byte (rec t i) 0 ≢ 0 → i < rooms t
   in-t i n = within t i (c .whole) n
@@ -144,12 +151,12 @@ module _ (t s : List ℕ) (c : Sound t) (e : length s ≡ length t) where
     unnamed : named s file ≡ false
 
   module _ (each : (i : ℕ) → i < rooms t → Kept t s i ⊎ Gone i) where
-    same-heading : (h : ℕ) → byte (rec t h) 0 ≡ 1 → noWrite (headingCode (rec t h)) ≡ true → byte (rec s h) 0 ≡ 1 → rec s h ≡ rec t h
+    same-heading : (h : ℕ) → byte (rec t h) 0 ≡ 1 → noWrite (headingCode (rec t h)) ≡ true → byte (rec s h) 0 ≡ 1 → Alike (rec t h) (rec s h)
     same-heading h k n z = go (each h (in-t h (omega arith)))
       where
-        go : Kept t s h ⊎ Gone h → rec s h ≡ rec t h
-        go (inl (inl q)) = q
-        go (inl (inr p)) = absurd (no-put h k n p)
+        go : Kept t s h ⊎ Gone h → Alike (rec t h) (rec s h)
+        go (inl (inl q)) = equal q
+        go (inl (inr p)) = put-capped h k n p
         go (inr g) = let y : ⊥ = omega (arith, kind-blank (rec s h) (g .empty)) in absurd y
 
     -- text of h is not gone while h is a heading
@@ -228,7 +235,7 @@ module _ (t s : List ℕ) (c : Sound t) (e : length s ≡ length t) where
           long = e;
           held = λ h k n z.
               let q = same-heading h k n z in
-              record { long = e; front = rw q; back = rw q; texts = λ i. same-text h i k n z };
+              record { long = e; front = alike-front (rec t h) (rec s h) q; back = alike-back (rec t h) (rec s h) q; texts = λ i. same-text h i k n z };
           last = lost-name;
           new = new-heading;
           fresh = new-text;

@@ -1,16 +1,16 @@
 -- Every request's plan has that shape: a new file goes to free records, an entry over the one that bears its name or to a free record,
 -- DPR asks write of the joined code, and a file is freed only where the entry laid or cleared was the last to name it.
 use mathlib.Core.Bool.{true, false, not, cond}
-use mathlib.Core.List.{List, [], _∷_, _++_, append-assoc}
+use mathlib.Core.List.{List, [], _∷_, _++_, append-nil}
 use mathlib.Core.Logic.{_⊎_, inl, inr, _≢_, by-cases}
-use mathlib.Core.Path.{_≡_, refl, sym, _∙_}
+use mathlib.Core.Path.{_≡_, refl, _∙_}
 use Prim.Native.Nat.{ℕ, _+_, _≤_, _<_}
 use native.Mathlib.Omega.{arith}
 use native.Mathlib.Decide.{ℕ-discrete}
 use lib.ListN.{length, take, length-set, List·getD-append}
 use lib.Seq.{getD-take, length-take-le}
 use borrow.Author.Tests.{ltb-false}
-use Rattle.paper.specs.Scan.{Found, at, nowhere, allBelow}
+use Rattle.paper.specs.Scan.{Found, at, nowhere, allBelow, anyBelow}
 use Rattle.paper.specs.Record.{byte, level, headingCode, lifetime, entryCode, headingNamed, names, blank, headingRecord, nameField}
 use Rattle.paper.specs.Table.{rooms, rec, lay, frees, room}
 use Rattle.paper.specs.Declaration.{Part, orElse}
@@ -23,14 +23,16 @@ use Rattle.paper.specs.Sound.{implies}
 use Rattle.paper.specs.Block.{block, fileText}
 use Rattle.paper.specs.Walk.{State, applies, file, reached, toLast, lastName}
 use Rattle.paper.specs.Store.{Store, puts, run}
-use Rattle.paper.specs.Effect.{Planned, plan, halted, chainOf, toHolder, toEnd, Making, borne, placing, needed, writeInhibited, making, filing, linking, newFile, freed, lost, settled, recoded, renamed, crdPlan, wrsPlan, cpyPlan, dupPlan, chnPlan, dprPlan, delPlan, rdsPlan, lstPlan, lstBasePlan, lstTreePlan, lstBaseTreePlan, rewriting, rewritePlan}
+use Rattle.paper.specs.Count.{recounts}
+use Rattle.paper.specs.Effect.{Planned, plan, halted, chainOf, toHolder, toEnd, Making, borne, placing, needed, writeInhibited, making, filing, linking, newFile, freed, withCounts, lost, settled, recoded, renamed, crdPlan, wrsPlan, cpyPlan, dupPlan, chnPlan, dprPlan, delPlan, rdsPlan, lstPlan, lstBasePlan, lstTreePlan, lstBaseTreePlan, rewriting, rewritePlan}
 use Rattle.laws.proofs.Tests.{truth, not-both, false-by, implies-use}
 use Rattle.laws.proofs.Scans.{any-here, any-none, all-true}
 use Rattle.laws.proofs.Lists.{Every, every-parts, every-append, every-imp}
 use Rattle.laws.proofs.Fields.{text-heading, name-total, length-entry, entry-record-kind}
 use Rattle.laws.proofs.Entries.{found-stands, names-kind}
-use Rattle.laws.proofs.Lay.{lay-same, lay-other, length-rec, rooms-lay, length-blank, within}
-use Rattle.laws.proofs.Runs.{Lays, run-each, run-append, rooms-run}
+use Rattle.laws.proofs.Lay.{Whole, lay-same, lay-other, length-lay, length-rec, rooms-lay, length-blank}
+use Rattle.laws.proofs.Runs.{Lays, run-each, length-run, rooms-run}
+use Rattle.laws.proofs.Recounts.{Recount, every-recounts}
 use Rattle.laws.proofs.Rooms.{room-below, room-kind}
 use Rattle.demands.proofs.Sound.Clauses.{Sound, entry-code}
 use Rattle.demands.proofs.Request.Fair.{Idle, verdict-idle}
@@ -39,7 +41,11 @@ use Rattle.demands.proofs.Request.Walked.{walk-reached}
 use Rattle.demands.proofs.SoundKept.Filed.{Roomy, Laid, each-laid, roomy, length-file, was-free, text-kind, small}
 use Rattle.demands.proofs.SoundKept.Emptied.{Medium}
 use Rattle.demands.proofs.SoundKept.Rewriting.{Rewrites, head-again, mine-now, each-rewrites, Grants, rewrite-grants}
-use Rattle.histories.proofs.Calls.Stores.{Put, heading, text, entry, cleared, recodes, rewrites, retexts, Puts, Shaped, plain, freeing}
+use Rattle.demands.proofs.Mending.Part.{ButCounts}
+use Rattle.demands.proofs.Mending.Counts.{but-kind, but-recount}
+use Rattle.demands.proofs.Mending.Less.{recounts-less}
+use Rattle.demands.proofs.PowerCut.Cut.{counted, run-counted, rooms-counted, counted-is}
+use Rattle.histories.proofs.Calls.Stores.{Put, heading, text, entry, cleared, recodes, rewrites, retexts, again, Puts, Shaped, plain, freeing, unnamed-still}
 
 abbrev pub Shape : List ℕ → Planned → Type 0
 Shape t (halted f) = Unit {0}
@@ -91,55 +97,102 @@ module _ (t : List ℕ) (c : Sound t) where
       one : (s : Store) → Lays (Laid t head body n) (rooms t) s → News t s
       one s l = record { within = l .within; size = l .size; holds = new (s .at) (s .bytes) (l .holds) }
 
-  module _ (pre : List Store) (news : Every (News t) pre) (e : ℕ) (r : List ℕ) (k : byte (rec t e) 0 ≡ 2) (size : length r ≡ 32)
+  -- an entry laid, or cleared, and the counts corrected
+  module _ (pre : List Store) (news : Every (News t) pre) (e : ℕ) (l : e < rooms t) (r : List ℕ) (size : length r ≡ 32) (n : byte r 0 ≢ 1)
       (put : Put t e r) where
-    in-e : e < rooms t
-    in-e = within t e (c .whole) (omega arith)
+    -- the table then, and with its counts
+    m : List ℕ
+    m = counted t pre (puts e r)
 
     main : List Store
-    main = pre ++ puts e r ∷ []
+    main = withCounts t (pre ++ puts e r ∷ [])
+
+    rooms-m : rooms m ≡ rooms t
+    unfolding m
+    rooms-m = rooms-counted t pre (puts e r)
+
+    whole-m : Whole m
+    unfolding m
+    whole-m = rw (length-lay (run t pre) e r, length-run t pre) (c .whole)
+
+    at-pre : (i : ℕ) → i < rooms t → (rec (run t pre) i ≡ rec t i) ⊎ ((byte (rec t i) 0 ≡ 0) × (byte (rec (run t pre) i) 0 ≢ 2) × Put t i (rec (run t pre) i))
+    at-pre = run-each (λ i r. (byte (rec t i) 0 ≡ 0) × (byte r 0 ≢ 2) × Put t i r) t pre news
+
+    at-other : (i : ℕ) → i < rooms t → i ≢ e → rec m i ≡ rec (run t pre) i
+    unfolding m
+    at-other i b d = lay-other (run t pre) e r i size d (rw (rooms-run t pre) b)
+
+    at-e : rec m e ≡ r
+    unfolding m
+    at-e = lay-same (run t pre) e r size (rw (rooms-run t pre) l)
+
+    counts-put : Every (Puts t) (recounts m)
+    counts-put = every-imp (Lays (Recount m) (rooms m)) (Puts t) (recounts m) one (every-recounts m)
+      where
+        was : (i : ℕ) (x : List ℕ) → byte x 0 ≡ 1 → ButCounts (rec m i) x → rec m i ≡ rec (run t pre) i
+            → (rec (run t pre) i ≡ rec t i) ⊎ ((byte (rec t i) 0 ≡ 0) × (byte (rec (run t pre) i) 0 ≢ 2) × Put t i (rec (run t pre) i)) → Put t i x
+        was i x k b q (inl y) = again (rw (q, y) at b)
+        was i x k b q (inr y) = heading (y .0) k
+
+        put-at : (i : ℕ) (x : List ℕ) → i < rooms t → byte (rec m i) 0 ≡ 1 → ButCounts (rec m i) x → Put t i x
+        put-at i x b k y =
+            by-cases (ℕ-discrete i e) (λ (q : i ≡ e). absurd (n (rw (q, at-e) at k)))
+            (λ (q : i ≢ e). was i x (but-kind (rec m i) x y ∙ k) y (at-other i b q) (at-pre i b))
+
+        one : (x : Store) → Lays (Recount m) (rooms m) x → Puts t x
+        one x h =
+            let b : x .at < rooms t = rw rooms-m at (h .within) in
+            let k : byte (rec m (x .at)) 0 ≡ 1 = h .holds .1 .0 in
+            record {
+              within = b;
+              size = h .size;
+              holds = put-at (x .at) (x .bytes) b k (rw (h .holds .0) (but-recount m (x .at) (rec m (x .at)) (length-rec m (x .at) (h .within)) k));
+            }
 
     laid : Every (Puts t) main
-    unfolding main
-    laid = every-append (Puts t) pre (puts e r ∷ []) (news-puts t pre news) (record { within = in-e; size = size; holds = put }, tt)
+    unfolding main m
+    laid =
+        rw (counted-is t pre (puts e r))
+        (every-append (Puts t) pre (puts e r ∷ recounts (counted t pre (puts e r))) (news-puts t pre news)
+        (record { within = l; size = size; holds = put }, counts-put))
 
-    run-main : run t main ≡ lay (run t pre) e r
-    unfolding main run
-    run-main = run-append t pre (puts e r ∷ [])
+    run-main : run t main ≡ run m (recounts m)
+    unfolding main m
+    run-main = rw (counted-is t pre (puts e r)) (run-counted t pre (puts e r) (recounts (counted t pre (puts e r))))
 
     -- what names a heading with the new records names it without
-    names-main : (g i : ℕ) → i < rooms t → names g (rec (lay (run t pre) e r) i) ≡ true → names g (rec (lay t e r) i) ≡ true
-    names-main g i l n =
+    names-m : (g i : ℕ) → i < rooms t → names g (rec m i) ≡ true → names g (rec (lay t e r) i) ≡ true
+    names-m g i b x =
         by-cases (ℕ-discrete i e)
-        (λ (q : i ≡ e). rw (q, lay-same t e r size in-e) (rw (q, lay-same (run t pre) e r size (rw (rooms-run t pre) in-e)) at n))
-        (λ (q : i ≢ e).
-        rw (lay-other t e r i size q l)
-        (go (run-each (λ i r. (byte (rec t i) 0 ≡ 0) × (byte r 0 ≢ 2) × Put t i r) t pre news i l)
-        (rw (lay-other (run t pre) e r i size q (rw (rooms-run t pre) l)) at n)))
+        (λ (q : i ≡ e). rw (q, lay-same t e r size l) (rw (q, at-e) at x))
+        (λ (q : i ≢ e). rw (lay-other t e r i size q b) (go (at-pre i b) (rw (at-other i b q) at x)))
       where
         go : (rec (run t pre) i ≡ rec t i) ⊎ ((byte (rec t i) 0 ≡ 0) × (byte (rec (run t pre) i) 0 ≢ 2) × Put t i (rec (run t pre) i))
             → names g (rec (run t pre) i) ≡ true → names g (rec t i) ≡ true
-        go (inl q) x = rw q at x
-        go (inr q) x = absurd (q .1 (names-kind g (rec (run t pre) i) x))
+        go (inl q) y = rw q at y
+        go (inr q) y = absurd (q .1 (names-kind g (rec (run t pre) i) y))
 
     unnamed-main : (g : ℕ) → named (lay t e r) g ≡ false → named (run t main) g ≡ false
-    unfolding named
-    unnamed-main g n =
-        rw run-main (any-none (λ i. names g (rec (lay (run t pre) e r) i)) (rooms (lay (run t pre) e r)) (λ i l. false-by _ (λ x.
-        let b : i < rooms t = rw (rooms-lay, rooms-run) at l in
-        not-both (any-here (λ j. names g (rec (lay t e r) j)) (rooms (lay t e r)) i (rw rooms-lay b) (names-main g i b x)) n)))
+    unnamed-main g x = rw run-main (unnamed-still m (run m (recounts m)) g whole-m (recounts-less m) (unfold named in without))
+      where
+        without : anyBelow (λ i. names g (rec m i)) (rooms m) ≡ false
+        without =
+            any-none (λ i. names g (rec m i)) (rooms m) (λ i b. false-by _ (λ y.
+            let d : i < rooms t = rw rooms-m at b in
+            not-both (any-here (λ j. names g (rec (lay t e r) j)) (rooms (lay t e r)) i (rw rooms-lay d) (names-m g i d y)) (unfold named in x)))
 
-    -- an entry laid or cleared, and its file freed where no entry names it then
-    over-shaped : Shaped t (pre ++ puts e r ∷ settled t e r)
+    -- the file freed where no entry names it then
+    over-shaped : byte (rec t e) 0 ≡ 2 → Shaped t (withCounts t (pre ++ puts e r ∷ []) ++ settled t e r)
     unfolding settled lost
-    over-shaped = go (truth (named (lay t e r) g))
+    over-shaped k = go (truth (named (lay t e r) g))
       where
         g : ℕ
         g = headingNamed (rec t e)
 
-        go : (named (lay t e r) g ≡ true) ⊎ (named (lay t e r) g ≡ false) → Shaped t (pre ++ puts e r ∷ cond (not (named (lay t e r) g)) (freed t g) [])
-        go (inl n) = plain (rw n (unfold main in laid))
-        go (inr n) = freeing main g laid (c .targets e in-e k) (unnamed-main g n) (rw n (unfold main in sym (append-assoc pre (puts e r ∷ []) (freed t g))))
+        go : (named (lay t e r) g ≡ true) ⊎ (named (lay t e r) g ≡ false)
+            → Shaped t (withCounts t (pre ++ puts e r ∷ []) ++ cond (not (named (lay t e r) g)) (freed t g) [])
+        go (inl x) = plain (rw (x, append-nil) (unfold main in laid))
+        go (inr x) = freeing main g laid (c .targets e l k) (unnamed-main g x) (rw x (unfold main in refl))
 
   -- a new entry, after new records
   making-shape : (m : Making) (thirteen fifteen late : List Check) → (length (m .first) ≤ length (frees t) → Every (News t) (m .first))
@@ -149,19 +202,16 @@ module _ (t : List ℕ) (c : Sound t) where
       let a = every-parts Idle (thirteen ++ writeInhibited (m .place) (m .directory) ∷ fifteen) _ (verdict-idle _ v) .1 in
       go (borne t m) refl (ltb-false _ _ (a .1 .1 .0))
     where
+      no-heading : byte (m .entry) 0 ≢ 1
+      no-heading = λ (z : byte (m .entry) 0 ≡ 1). omega arith
+
       go : (x : Found) → borne t m ≡ x → needed m x ≤ length (frees t) → Shaped t (placing t m x)
       go (at e) q enough =
-          let k = found-stands t (m .directory .holder) (m .name) e q .1 .kind in
-          over-shaped (m .first) (news enough) e (m .entry) k size (entry (inr k) kind)
+          let f = found-stands t (m .directory .holder) (m .name) e q in
+          over-shaped (m .first) (news enough) e (f .0) (m .entry) size no-heading (entry (inr (f .1 .kind)) kind) (f .1 .kind)
       go nowhere q enough =
-          plain (every-append (Puts t) (m .first) _ (news-puts t (m .first) (news (omega arith))) (
-            record {
-              within = room-below t (length (m .first)) (omega arith);
-              size = size;
-              holds = entry (inl (room-kind t (length (m .first)) (omega arith))) kind;
-            },
-            tt,
-          ))
+          plain (unfold main in laid (m .first) (news (omega arith)) (room t (length (m .first))) (room-below t (length (m .first)) (omega arith))
+          (m .entry) size no-heading (entry (inl (room-kind t (length (m .first)) (omega arith))) kind))
 
   filing-shape : (place : ℕ) (w : Word) (d : State) (type lev code life n : ℕ) (body : List ℕ) (thirteen fifteen late : List Check)
       → length (lastName (chainOf w)) ≤ 10
@@ -257,8 +307,9 @@ module _ (t : List ℕ) (c : Sound t) where
   unfolding delPlan
   del-shape u place name =
       end-shape t u place name _ (λ d f q _.
-      let k = last-looked t d (chainOf name) f q .stands .kind in
-      over-shaped [] tt (f .entry) blank k length-blank (cleared k refl))
+      let g = last-looked t d (chainOf name) f q in
+      over-shaped [] tt (f .entry) (g .within) blank length-blank (unfold blank in λ (z : _≡_ {A = ℕ} 0 1). omega arith) (cleared (g .stands .kind) refl)
+      (g .stands .kind))
 
   pub rds-shape : (u : ℕ) (reply : List ℕ) (name : Word) (first count : Part) → Shape t (rdsPlan t u reply name first count)
   unfolding rdsPlan

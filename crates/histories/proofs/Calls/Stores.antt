@@ -1,6 +1,6 @@
 -- What the stores of any request are, on a sound table: new records on free ones, an entry laid again or cleared, a heading with more
--- inhibited and write not inhibited before, a file rewritten; and then, at most, one file freed that no entry names by then.
-use mathlib.Core.Bool.{true, false}
+-- inhibited and write not inhibited before, or with other counts, a file rewritten; and then, at most, one file freed that no entry names.
+use mathlib.Core.Bool.{false}
 use mathlib.Core.List.{List, _++_}
 use mathlib.Core.Logic.{_⊎_, inl, inr, _≢_, by-cases, ⊎-elim}
 use mathlib.Core.Path.{_≡_, refl, _∙_}
@@ -9,8 +9,9 @@ use native.Mathlib.Omega.{arith}
 use native.Mathlib.Decide.{decLe, ℕ-discrete}
 use lib.ListN.{length, take}
 use lib.Seq.{take-append-le}
+use borrow.Author.Tests.{ne-eqb}
 use Rattle.paper.specs.Scan.{eachBelow}
-use Rattle.paper.specs.Record.{byte, headingCode, headingOf, names, rewritten, blank}
+use Rattle.paper.specs.Record.{byte, headingCode, headingOf, rewritten, blank}
 use Rattle.paper.specs.Table.{rooms, rec, lay, textRoom}
 use Rattle.paper.specs.Code.{noWrite, lacks}
 use Rattle.paper.specs.Entry.{named}
@@ -18,13 +19,15 @@ use Rattle.paper.specs.Block.{blocksOf}
 use Rattle.paper.specs.Store.{Store, clear, run}
 use Rattle.paper.specs.Effect.{freed, recoded}
 use Rattle.laws.proofs.Tests.{not-both, false-by}
-use Rattle.laws.proofs.Scans.{any-here, any-none}
 use Rattle.laws.proofs.Lists.{Every, every-take, every-each, take-past}
 use Rattle.laws.proofs.Lay.{Whole, lay-same, lay-other, rooms-lay, length-lay, length-blank, within, kind-blank}
 use Rattle.laws.proofs.Runs.{Lays, run-each, run-append, length-run, rooms-run}
 use Rattle.demands.proofs.Sound.Clauses.{Sound}
 use Rattle.demands.proofs.SoundKept.Freed.{text-found}
 use Rattle.demands.proofs.SoundKept.Retexted.{Mine}
+use Rattle.demands.proofs.Mending.Part.{ButCounts, Alike, equal, Below, free, stays, Less}
+use Rattle.demands.proofs.Mending.Counts.{alike-kind, alike-same}
+use Rattle.demands.proofs.Mending.Less.{up-named}
 
 -- r laid in record i of t, by any request
 pub data Put (t : List ℕ) (i : ℕ) (r : List ℕ) : Type 0 where
@@ -37,6 +40,8 @@ pub data Put (t : List ℕ) (i : ℕ) (r : List ℕ) : Type 0 where
   -- a rewrite: a heading that may be written with another mark and length; text of it, or nothing, where text of it or nothing was
   rewrites : (mark n : ℕ) → n ≤ 24000 → byte (rec t i) 0 ≡ 1 → noWrite (headingCode (rec t i)) ≡ false → r ≡ rewritten (rec t i) mark n → Put t i r
   retexts : (h : ℕ) → byte (rec t h) 0 ≡ 1 → noWrite (headingCode (rec t h)) ≡ false → Mine h (rec t i) → Mine h r → Put t i r
+  -- a heading with other counts, whoever may write it
+  again : ButCounts (rec t i) r → Put t i r
 
 abbrev pub Puts : List ℕ → Store → Type 0
 Puts t = Lays (Put t) (rooms t)
@@ -47,28 +52,23 @@ pub data Shaped (t : List ℕ) (ss : List Store) : Type 0 where
   freeing : (main : List Store) (g : ℕ) → Every (Puts t) main → byte (rec t g) 0 ≡ 1 → named (run t main) g ≡ false → ss ≡ main ++ freed t g
       → Shaped t ss
 
--- s is t with some records cleared
-pub record Lessened (t s : List ℕ) : Type 0 where
-  pub long : length s ≡ length t
-  pub each : (i : ℕ) → i < rooms t → (rec s i ≡ rec t i) ⊎ (rec s i ≡ blank)
-
--- what is of a kind stayed
-pub less-stays : (t s : List ℕ) → Whole t → Lessened t s → (i : ℕ) → byte (rec s i) 0 ≢ 0 → rec s i ≡ rec t i
+-- what is of a kind stayed, but for its counts, where s is t with some records cleared and some counts written anew
+pub less-stays : (t s : List ℕ) → Whole t → Less t s → (i : ℕ) → byte (rec s i) 0 ≢ 0 → Alike (rec t i) (rec s i)
 less-stays t s w d i n = go (d .each i (rw (d .long) at (within s i (rw (d .long) w) n)))
   where
-    go : (rec s i ≡ rec t i) ⊎ (rec s i ≡ blank) → rec s i ≡ rec t i
-    go (inl q) = q
-    go (inr q) = absurd (n (kind-blank (rec s i) q))
+    go : Below (rec t i) (rec s i) → Alike (rec t i) (rec s i)
+    go (stays a) = a
+    go (free e) = absurd (n (kind-blank (rec s i) e))
 
--- clearing takes names away, and brings none
-pub unnamed-still : (t s : List ℕ) (h : ℕ) → Lessened t s → named t h ≡ false → named s h ≡ false
-unfolding named
-unnamed-still t s h d n =
-    any-none (λ i. names h (rec s i)) (rooms s) (λ i l. false-by _ (λ e. one i (rw (d .long) at l) e (d .each i (rw (d .long) at l))))
-  where
-    one : (i : ℕ) → i < rooms t → names h (rec s i) ≡ true → (rec s i ≡ rec t i) ⊎ (rec s i ≡ blank) → ⊥
-    one i l e (inl q) = not-both (any-here (λ j. names h (rec t j)) (rooms t) i l (rw q at e)) n
-    one i l e (inr q) = unfold blank in not-both e (rw q)
+-- .. what is no heading, whole
+pub less-same : (t s : List ℕ) → Whole t → Less t s → (i k : ℕ) → byte (rec s i) 0 ≡ suc (suc k) → rec s i ≡ rec t i
+less-same t s w d i k e =
+    let a = less-stays t s w d i (omega arith) in
+    alike-same (rec t i) (rec s i) a (ne-eqb (byte (rec t i) 0) 1 (omega (arith, alike-kind (rec t i) (rec s i) a)))
+
+-- .. and no name is brought
+pub unnamed-still : (t s : List ℕ) (h : ℕ) → Whole t → Less t s → named t h ≡ false → named s h ≡ false
+unnamed-still t s h w d n = false-by (named s h) (λ e. not-both (up-named t s w d h e) n)
 
 -- ---- what such stores leave, cut anywhere
 
@@ -93,6 +93,10 @@ module _ (t : List ℕ) (c : Sound t) (main : List Store) (laid : Every (Puts t)
   rooms-m : rooms m ≡ rooms t
   unfolding m
   rooms-m = rooms-run t main
+
+  whole-m : Whole m
+  unfolding m
+  whole-m = rw (length-run t main) (c .whole)
 
   in-g : g < rooms t
   in-g = within t g (c .whole) (omega arith)
@@ -140,16 +144,16 @@ module _ (t : List ℕ) (c : Sound t) (main : List Store) (laid : Every (Puts t)
   unfolding m
   at-m i l = run-each (Put t) t main laid i l
 
-  lessened : (j : ℕ) → Lessened m (s j)
+  lessened : (j : ℕ) → Less m (s j)
   unfolding s
   lessened j =
       record {
         long = length-run (lay m g blank) (take j texts) ∙ length-lay m g blank;
-        each = λ i l. ⊎-elim inl (λ e. inr (e .0)) (from-m j i (rw rooms-m at l));
+        each = λ i l. ⊎-elim (λ e. stays (equal e)) (λ e. free (e .0)) (from-m j i (rw rooms-m at l));
       }
 
   freed-left : named m g ≡ false → (j : ℕ) → Left t (s j)
-  freed-left n j = rid g k (heading-gone j) (unnamed-still m (s j) g (lessened j) n) (λ i l. go i (at-m i l) (from-m j i l))
+  freed-left n j = rid g k (heading-gone j) (unnamed-still m (s j) g whole-m (lessened j) n) (λ i l. go i (at-m i l) (from-m j i l))
     where
       go : (i : ℕ) → Kept t m i → (rec (s j) i ≡ rec m i) ⊎ ((rec (s j) i ≡ blank) × Of t g i) → Kept t (s j) i ⊎ ((rec (s j) i ≡ blank) × Of t g i)
       go i a (inr e) = inr e

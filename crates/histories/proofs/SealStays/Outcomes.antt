@@ -11,7 +11,7 @@ use lib.ListN.{length, take}
 use lib.Seq.{take-length}
 use borrow.Author.Tests.{eqb-true, not-false}
 use Rattle.paper.specs.Record.{byte, headingCode}
-use Rattle.paper.specs.Table.{sized, rec}
+use Rattle.paper.specs.Table.{sized, rooms, rec}
 use Rattle.paper.specs.Line.{Word}
 use Rattle.paper.specs.Check.{Refusal, Verdict, passed, refused, verdict}
 use Rattle.paper.specs.Request.{Request, crd, wrs, rds, cpy, dup, chn, del, dpr, lst, lstBase, lstTree, lstBaseTree, rewrite, Read, request, unread, asked}
@@ -22,22 +22,26 @@ use Rattle.paper.specs.Effect.{Planned, crdPlan, wrsPlan, rdsPlan, cpyPlan, dup
 use Rattle.paper.specs.Mend.{mendStores, mended}
 use Rattle.paper.specs.Answer.{Outcome, refusing, ran, single, oneName, deleting, granted, entrance, acted, admitted, requested, mendable, mendRun, mending}
 use Rattle.laws.proofs.Tests.{truth, same-truth}
-use Rattle.laws.proofs.Lists.{Every, every-take}
+use Rattle.laws.proofs.Lists.{every-take}
 use Rattle.laws.proofs.Entries.{link-short}
 use Rattle.laws.proofs.Runs.{length-run}
-use Rattle.demands.proofs.Sound.Clauses.{Sound, sound-clauses, clauses-sound}
+use Rattle.demands.proofs.Sound.Clauses.{Sound, sound-clauses}
+use Rattle.demands.proofs.Sound.Right.{sound-right, right-sound}
 use Rattle.demands.proofs.Request.Formed.{named-last}
 use Rattle.demands.proofs.Request.Fair.{verdict-idle}
 use Rattle.demands.proofs.Request.Read.{Told, Right, read-right}
 use Rattle.demands.proofs.Request.Ended.{ran-by, refuses}
 use Rattle.demands.proofs.SoundKept.Kept.{passed-sound, del-keeps}
+use Rattle.demands.proofs.Mending.Counts.{alike-kind, alike-byte}
+use Rattle.demands.proofs.Mending.Again.{mend-tidies}
 use Rattle.demands.proofs.Mending.Debris.{nothing-to-mend, sound-keeps}
 use Rattle.histories.specs.History.{Call, asks, mends, called, heads}
 use Rattle.histories.proofs.Calls.Stores.{less-stays}
 use Rattle.histories.proofs.Calls.Shapes.{Shape, crd-shape, wrs-shape, cpy-shape, dup-shape, chn-shape, dpr-shape, del-shape, rds-shape, lst-shape, lst-base-shape, lst-tree-shape, lst-base-tree-shape, rewrite-shape}
-use Rattle.histories.proofs.Calls.Requests.{passed-shaped, Clears, lessened}
+use Rattle.histories.proofs.Calls.Falls.{falls-less, falls-take, mend-falls}
+use Rattle.histories.proofs.Calls.Anywhere.{Fits, lays-fit}
+use Rattle.histories.proofs.Calls.Requests.{passed-shaped}
 use Rattle.histories.proofs.Calls.Mendable.{Mendable, mendable-whole}
-use Rattle.histories.proofs.BetweenStores.{mend-clears}
 use Rattle.histories.proofs.SealStays.Veils.{Veil, run-veil, mend-veil}
 use Rattle.histories.proofs.SealStays.Plans.{Same, one, neither, crd-same, wrs-same, cpy-same, dup-same, chn-same, dpr-same, del-same, rds-same, lst-same, lst-base-same, lst-tree-same, lst-base-tree-same, rewrite-same}
 use Rattle.histories.proofs.SealStays.Stays.{Sealed, Hidden, equal, veiled, gone-equal, stores-hidden, all-hidden}
@@ -92,8 +96,8 @@ del-agree h (w ∷ ws) t s u reply k n made c d (veiled v q) = go (truth (heads 
         (λ f _. record { answer = refl; reply = refl; tables = veiled v q })
         (λ p r _.
         rest (run t (p .stores)) (run s (p .stores)) (k - length (p .stores)) (n + 1) (made + length (p .stores))
-        (passed-sound t x p (del-keeps t u (n + 1) w c) r)
-        (passed-sound s y p (del-keeps s u (n + 1) w d) (rw e r))
+        (passed-sound t x p (del-keeps t u (n + 1) w c) r .clauses)
+        (passed-sound s y p (del-keeps s u (n + 1) w d) (rw e r) .clauses)
         (all-hidden h t c (eqb-true _ _ z) (q z) s v (p .stores) (passed-shaped t x p (del-shape t c u (n + 1) w) r)))
         (λ p r _. record {
           answer = refl;
@@ -163,12 +167,12 @@ module _ (h : ℕ) (t s text reply : List ℕ) (u j : ℕ) (v : Veil h t s) (c :
 -- nothing to clear: the table is its own end
 sound-end : (t : List ℕ) → Mendable t → mendStores t ≡ [] → sound t ≡ true
 unfolding mended run
-sound-end t m e = let z : mended t ≡ t = rw e in rw z at (clauses-sound (mended t) m .1)
+sound-end t m e = let z : mended t ≡ t = rw e in rw z at (right-sound (mended t) m .1)
 
 module _ (h : ℕ) (t s : List ℕ) (v : Veil h t s) (m : Mendable t) (m₁ : Mendable s) where
   sized-t : sized t ≡ true
   unfolding mended
-  sized-t = rw (length-run t (mendStores t)) at (clauses-sound (mended t) m .0)
+  sized-t = rw (length-run t (mendStores t)) at (right-sound (mended t) m .0)
 
   sized-s : sized s ≡ true
   sized-s = rw (v .long) sized-t
@@ -177,8 +181,8 @@ module _ (h : ℕ) (t s : List ℕ) (v : Veil h t s) (m : Mendable t) (m₁ : Me
   sound-veil : sound s ≡ sound t
   sound-veil =
       same-truth (sound s) (sound t)
-      (λ e. sound-end t m (sym (mend-veil h t s (mendable-whole t m) v) ∙ nothing-to-mend s (sound-keeps s (sound-clauses s sized-s e))))
-      (λ e. sound-end s m₁ (mend-veil h t s (mendable-whole t m) v ∙ nothing-to-mend t (sound-keeps t (sound-clauses t sized-t e))))
+      (λ e. sound-end t m (sym (mend-veil h t s (mendable-whole t m) v) ∙ nothing-to-mend s (sound-keeps s (sound-right s sized-s e))))
+      (λ e. sound-end s m₁ (mend-veil h t s (mendable-whole t m) v ∙ nothing-to-mend t (sound-keeps t (sound-right t sized-t e))))
 
   entrance-veil : (u : ℕ) → entrance s u ≡ entrance t u
   unfolding entrance
@@ -211,32 +215,31 @@ module _ (h : ℕ) (t s : List ℕ) (v : Veil h t s) (m : Mendable t) (m₁ : Me
             let i : sound t ≡ true = unfold entrance in not-false (sound t) (verdict-idle _ e .1 .0) in
             read-agree text reply u j i (asked line text) (read-right line text)
 
-    -- a mend clears the same records of both, and lays none again
+    -- a mend makes the same stores on both, and every heading that is left keeps its code
     cut-hidden : (j : ℕ) → Hidden h (run t (take j (mendStores t))) (run s (take j (mendStores t)))
-    cut-hidden j = veiled (run-veil h _ ss t s (mendable-whole t m) clears v) sealed
+    cut-hidden j =
+        veiled (run-veil h ss t s (mendable-whole t m) (every-take Fits j (mendStores t) (lays-fit _ (rooms t) (mendStores t) (mend-tidies t))) v) sealed
       where
         ss : List Store
         ss = take j (mendStores t)
 
-        clears : Every (Clears t) ss
-        clears = every-take (Clears t) j (mendStores t) (mend-clears t)
-
         sealed : Sealed h (run t ss)
         sealed z =
             let k : byte (rec (run t ss) h) 0 ≡ 1 = eqb-true _ _ z in
-            let e = less-stays t (run t ss) (mendable-whole t m) (lessened t ss clears) h (omega arith) in
-            rw e (q (rw e at z))
+            let d = falls-less ss t (falls-take j (mendStores t) t (mend-falls t)) in
+            let a = less-stays t (run t ss) (mendable-whole t m) d h (omega arith) in
+            rw (alike-byte (rec t h) (rec (run t ss) h) a 3 (omega arith)) (q (rw (alike-kind (rec t h) (rec (run t ss) h) a) at z))
 
     all-cut : Hidden h (run t (mendStores t)) (run s (mendStores t))
     all-cut = rw (take-length (mendStores t)) at (cut-hidden (length (mendStores t)))
 
     mends-t : mendable t ≡ passed
     unfolding mendable verdict
-    mends-t = rw (sized-t, clauses-sound (mended t) m .1)
+    mends-t = rw (sized-t, right-sound (mended t) m .1)
 
     mends-s : mendable s ≡ passed
     unfolding mendable verdict
-    mends-s = rw (sized-s, clauses-sound (mended s) m₁ .1)
+    mends-s = rw (sized-s, right-sound (mended s) m₁ .1)
 
     mend-agree : (j : ℕ) → Agree h (mending t j) (mending s j)
     unfolding mending

@@ -1,7 +1,7 @@
 -- Every request's plan is the same on two such tables, where the heading inhibits reading; or it reads the sealed text and is refused 13 on
 -- both, before anything of the text is asked.
 use mathlib.Core.Bool.{true}
-use mathlib.Core.List.{List, [], _∷_}
+use mathlib.Core.List.{List, [], _∷_, _++_}
 use mathlib.Core.Logic.{_≢_, by-cases}
 use mathlib.Core.Path.{_≡_, refl, ap}
 use Prim.Native.Nat.{ℕ, _≤_, _<_}
@@ -9,7 +9,7 @@ use native.Mathlib.Omega.{arith}
 use native.Mathlib.Decide.{ℕ-discrete}
 use lib.ListN.{length}
 use Rattle.paper.specs.Scan.{Found, at, nowhere, allBelow}
-use Rattle.paper.specs.Record.{byte, headingCode, entryCode, rewritten, blank}
+use Rattle.paper.specs.Record.{byte, level, headingCode, lifetime, entryCode, rewritten, blank}
 use Rattle.paper.specs.Table.{rooms, rec, room}
 use Rattle.paper.specs.Declaration.{Part, orElse}
 use Rattle.paper.specs.Line.{Word}
@@ -19,21 +19,20 @@ use Rattle.paper.specs.Code.{joined, noRead}
 use Rattle.paper.specs.Sound.{implies}
 use Rattle.paper.specs.Block.{blocksOf, fileText}
 use Rattle.paper.specs.Walk.{State, start, applies, file, Walked, reached, stopped, toDirectory, toLast, lastName, lastFrom, endFrom, ended}
-use Rattle.paper.specs.Store.{Store, puts, run}
-use Rattle.paper.specs.Effect.{Planned, onward, inward, chainOf, endOf, toHolder, toEnd, Making, borne, placing, displacing, readInhibited, linkTaken, making, filing, linking, newFile, crdPlan, wrsPlan, cpyPlan, dupPlan, chnPlan, dprPlan, delPlan, rdsPlan, lstPlan, lstBasePlan, lstTreePlan, lstBaseTreePlan, emptying, laying, rewriting, rewritePlan}
+use Rattle.paper.specs.Store.{Store, puts, clear, run}
+use Rattle.paper.specs.Effect.{Planned, onward, inward, chainOf, endOf, toHolder, toEnd, Making, borne, placing, displacing, readInhibited, linkTaken, making, filing, linking, newFile, withCounts, crdPlan, wrsPlan, cpyPlan, dupPlan, chnPlan, dprPlan, delPlan, rdsPlan, lstPlan, lstBasePlan, lstTreePlan, lstBaseTreePlan, emptying, laying, rewriting, rewritePlan}
 use Rattle.laws.proofs.Tests.{implies-use}
 use Rattle.laws.proofs.Scans.{all-true}
-use Rattle.laws.proofs.Lists.{Every, join-cong, every-each}
-use Rattle.laws.proofs.Fields.{length-entry}
+use Rattle.laws.proofs.Lists.{Every, every-append, join-cong, every-each}
+use Rattle.laws.proofs.Fields.{length-heading, length-entry}
 use Rattle.laws.proofs.Entries.{found-stands}
 use Rattle.laws.proofs.Rewritten.{length-rewritten}
 use Rattle.laws.proofs.Lay.{length-rec, length-blank, within}
-use Rattle.laws.proofs.Runs.{Lays}
 use Rattle.demands.proofs.Sound.Clauses.{Sound, entry-code}
 use Rattle.demands.proofs.Request.Ended.{Refused, checked}
 use Rattle.demands.proofs.Request.Walked.{Reached, walk-reached}
-use Rattle.demands.proofs.SoundKept.Freed.{text-found}
-use Rattle.histories.proofs.SealStays.Veils.{Veil, rooms-veil, named-veil, rec-veil, directory-veil, find-veil, full-veil, frees-veil, text-room-veil, run-veil}
+use Rattle.histories.proofs.Calls.Anywhere.{Fits, file-fits}
+use Rattle.histories.proofs.SealStays.Veils.{Veil, rooms-veil, named-veil, rec-veil, directory-veil, find-veil, full-veil, frees-veil, text-room-veil, run-veil, counts-veil}
 use Rattle.histories.proofs.SealStays.Walks.{to-directory-veil, to-last-veil, losing-veil, settled-veil, file-text-veil, directory-lines-veil, base-lines-veil, directory-tree-veil, base-tree-veil}
 
 -- one plan, or refused alike
@@ -103,7 +102,11 @@ module _ (h : ℕ) (t s : List ℕ) (v : Veil h t s) (c : Sound t) (seal : noRea
   room-same : (m : ℕ) → room s m ≡ room t m
   room-same m = rw (frees-veil h t s v, rooms-veil h t s v)
 
-  module _ (m : Making) (size : length (m .entry) ≡ 32) where
+  module _ (m : Making) (fits : Every Fits (m .first)) (size : length (m .entry) ≡ 32) where
+    -- the stores up to the entry's, with the counts
+    counted-same : (e : ℕ) → withCounts s (m .first ++ puts e (m .entry) ∷ []) ≡ withCounts t (m .first ++ puts e (m .entry) ∷ [])
+    counted-same e = rw (counts-veil h t s (c .whole) v (m .first ++ puts e (m .entry) ∷ []) (every-append Fits (m .first) _ fits (size, tt)))
+
     kind-at : (e : ℕ) → borne t m ≡ at e → (e < rooms t) × (byte (rec t e) 0 ≡ 2)
     kind-at e q = let f = found-stands t (m .directory .holder) (m .name) e q in (f .0, f .1 .kind)
 
@@ -118,8 +121,8 @@ module _ (h : ℕ) (t s : List ℕ) (v : Veil h t s) (c : Sound t) (seal : noRea
     placing-same = go (borne t m) refl
       where
         go : (x : Found) → borne t m ≡ x → placing s m x ≡ placing t m x
-        go (at e) q = let k = kind-at e q in rw (settled-veil h t s v c e (m .entry) (k .0) (k .1) size)
-        go nowhere q = rw (room-same (length (m .first)))
+        go (at e) q = let k = kind-at e q in rw (settled-veil h t s v c e (m .entry) (k .0) (k .1) size, counted-same e)
+        go nowhere q = rw (room-same (length (m .first)), counted-same (room t (length (m .first))))
 
     making-same : (a b e : List Check) → making s m a b e ≡ making t m a b e
     unfolding making
@@ -131,23 +134,25 @@ module _ (h : ℕ) (t s : List ℕ) (v : Veil h t s) (c : Sound t) (seal : noRea
   file-made head body = rw (frees-veil h t s v, rooms-veil h t s v)
 
   -- a new file under a name that fits its field
-  filing-same : (place : ℕ) (w : Word) (d : State) (code : ℕ) (head body : List ℕ) (a b e : List Check) → length (lastName (chainOf w)) ≤ 10
-      → making s (filing s place w d code head body) a b e ≡ making t (filing t place w d code head body) a b e
-  filing-same place w d code head body a b e l =
+  filing-same : (place : ℕ) (w : Word) (d : State) (code : ℕ) (head body : List ℕ) (a b e : List Check) → length head ≡ 32
+      → length (lastName (chainOf w)) ≤ 10 → making s (filing s place w d code head body) a b e ≡ making t (filing t place w d code head body) a b e
+  filing-same place w d code head body a b e n l =
       rw (file-made head body, room-same 0)
-      (making-same (filing t place w d code head body)
+      (making-same (filing t place w d code head body) (file-fits t head body n)
       (length-entry code (d .holder .heading) (room t 0) (d .holder .user) (lastName (chainOf w)) l) a b e)
 
   -- ---- each function
 
   pub crd-same : (u : ℕ) (name : Word) (lev code : Part) → length (lastName (chainOf name)) ≤ 10 → Same (crdPlan t u name lev code) (crdPlan s u name lev code)
   unfolding crdPlan
-  crd-same u name lev code l = holder-same u 1 name _ _ (λ d _. one (filing-same 1 name d (orElse code 0) _ [] [] [] [] l))
+  crd-same u name lev code l = holder-same u 1 name _ _ (λ d _. one (filing-same 1 name d (orElse code 0) _ [] [] [] []
+      (length-heading 0 (orElse lev 0) (orElse code 0) 1 0) l))
 
   pub wrs-same : (u : ℕ) (body : List ℕ) (life : ℕ) (lev code : Part) (name : Word) → length (lastName (chainOf name)) ≤ 10
       → Same (wrsPlan t u body life lev code name) (wrsPlan s u body life lev code name)
   unfolding wrsPlan
-  wrs-same u body life lev code name l = holder-same u 2 name _ _ (λ d _. one (filing-same 2 name d (orElse code 0) _ body [] [] [] l))
+  wrs-same u body life lev code name l = holder-same u 2 name _ _ (λ d _. one (filing-same 2 name d (orElse code 0) _ body [] [] []
+      (length-heading 1 (orElse lev 0) (orElse code 0) life (length body)) l))
 
   -- a give's 16
   taken-same : (to : Begin) (m : Making) → linkTaken s to m ≡ linkTaken t to m
@@ -161,7 +166,7 @@ module _ (h : ℕ) (t s : List ℕ) (v : Veil h t s) (c : Sound t) (seal : noRea
   dup-same a u to old new code l =
       end-same a 1 old _ _ (λ o f r. holder-same u 2 new _ _ (λ d _.
       one (rw (entry-same o f _ r, taken-same to (linking t f d new code))
-      (making-same _ (length-entry _ (d .holder .heading) (file t f) (d .holder .user) (lastName (chainOf new)) l) [] _ []))))
+      (making-same _ tt (length-entry _ (d .holder .heading) (file t f) (d .holder .user) (lastName (chainOf new)) l) [] _ []))))
 
   pub chn-same : (u : ℕ) (old link : Word) → Same (chnPlan t u old link) (chnPlan s u old link)
   unfolding chnPlan
@@ -178,7 +183,11 @@ module _ (h : ℕ) (t s : List ℕ) (v : Veil h t s) (c : Sound t) (seal : noRea
       end-same u place name _ _ (λ d f r.
       let k = r .looked .stands .kind in
       let l = r .looked .within in
-      one (rw (losing-veil h t s v c (f .entry) blank l k length-blank, settled-veil h t s v c (f .entry) blank l k length-blank)))
+      one (rw (
+        losing-veil h t s v c (f .entry) blank l k length-blank,
+        settled-veil h t s v c (f .entry) blank l k length-blank,
+        counts-veil h t s (c .whole) v (clear (f .entry) ∷ []) (length-blank, tt),
+      )))
 
   pub lst-same : (u : ℕ) (reply : List ℕ) (name : Word) → Same (lstPlan t u reply name) (lstPlan s u reply name)
   unfolding lstPlan
@@ -230,7 +239,10 @@ module _ (h : ℕ) (t s : List ℕ) (v : Veil h t s) (c : Sound t) (seal : noRea
       neither (no-reading (endOf 1 old)) (refused-making _ _ f [] _ _ t z) (refused-making _ _ f [] _ _ s z))
       (λ (q : file t f ≢ h).
       one (rw (file-same f, heading-same o f _ r, file-text-veil h t s v (c .whole) (file t f) q (r .heading))
-      (filing-same 2 new d (orElse code 0) _ (fileText t (file t f)) _ _ _ l)))))
+      (let source : List ℕ = rec t (file t f) in
+      let body : List ℕ = fileText t (file t f) in
+      filing-same 2 new d (orElse code 0) _ body _ _ _
+      (length-heading 1 (orElse lev (level source)) (orElse code 0) (orElse life (lifetime source)) (length body)) l)))))
 
   -- a file emptied: the same records cleared, whatever they hold
   emptying-same : (g : ℕ) → byte (rec t g) 0 ≡ 1 → rec s g ≡ rec t g → emptying s g ≡ emptying t g
@@ -239,16 +251,13 @@ module _ (h : ℕ) (t s : List ℕ) (v : Veil h t s) (c : Sound t) (seal : noRea
       rw e (ap (λ (x : List Store). puts g (rewritten (rec t g) 1 0) ∷ x) (join-cong _ _ (blocksOf t g) (λ p _. rw (text-room-veil h t s v g p))))
 
   emptied-veil : (g : ℕ) → byte (rec t g) 0 ≡ 1 → Veil h (run t (emptying t g)) (run s (emptying t g))
-  emptied-veil g k = run-veil h (λ _ _. Unit {0}) (emptying t g) t s (c .whole) each v
+  emptied-veil g k = run-veil h (emptying t g) t s (c .whole) fits v
     where
-      l : g < rooms t
-      l = within t g (c .whole) (omega arith)
-
-      each : Every (Lays (λ _ _. Unit {0}) (rooms t)) (emptying t g)
-      each =
+      fits : Every Fits (emptying t g)
+      fits =
           unfold emptying in (
-            record { within = l; size = length-rewritten (rec t g) 1 0 (length-rec t g l); holds = tt },
-            every-each _ _ (blocksOf t g) (λ p b. record { within = text-found 65535 t g c k p b .0; size = length-blank; holds = tt }),
+            length-rewritten (rec t g) 1 0 (length-rec t g (within t g (c .whole) (omega arith))),
+            every-each Fits _ (blocksOf t g) (λ p b. length-blank),
           )
 
   laying-same : (g : ℕ) → byte (rec t g) 0 ≡ 1 → (body : List ℕ) → laying (run s (emptying t g)) g body ≡ laying (run t (emptying t g)) g body

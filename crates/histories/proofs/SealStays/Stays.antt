@@ -1,5 +1,5 @@
 -- The same stores on two such tables keep them such: each lays one record in one place of both. And the seal stays while the heading is
--- one: only DPR lays it again with another code, with every bit that it had, and `WRS*` keeps its code.
+-- one: only DPR lays it again with another code, with every bit that it had, and `WRS*` and counts keep its code.
 use mathlib.Core.Bool.{true, false}
 use mathlib.Core.List.{List}
 use mathlib.Core.Logic.{_⊎_, inl, inr}
@@ -13,17 +13,17 @@ use Rattle.paper.specs.Record.{byte, headingCode, blank}
 use Rattle.paper.specs.Table.{rooms, rec}
 use Rattle.paper.specs.Code.{joined, noRead}
 use Rattle.paper.specs.Store.{Store, run}
-use Rattle.paper.specs.Effect.{recoded, freed}
-use Rattle.laws.proofs.Lists.{Every, every-take, every-append, every-imp}
+use Rattle.paper.specs.Effect.{recoded}
+use Rattle.laws.proofs.Lists.{every-take}
 use Rattle.laws.proofs.Rewritten.{rewritten-byte}
 use Rattle.laws.proofs.Lay.{ext-table, length-rec, within, kind-blank}
-use Rattle.laws.proofs.Runs.{Lays}
 use Rattle.demands.proofs.Sound.Clauses.{Sound, heading-fields}
 use Rattle.demands.proofs.Sound.Points.{text-points}
 use Rattle.demands.proofs.SoundKept.Retexted.{mine-not}
+use Rattle.demands.proofs.Mending.Counts.{but-byte}
 use Rattle.histories.specs.History.{heads}
-use Rattle.histories.proofs.Calls.Stores.{Put, heading, text, entry, cleared, recodes, rewrites, retexts, Puts, Kept, Of, Left, stored, rid, Shaped, plain, freeing, shaped-left}
-use Rattle.histories.proofs.Calls.Requests.{Clears, freed-clears}
+use Rattle.histories.proofs.Calls.Stores.{Put, heading, text, entry, cleared, recodes, rewrites, retexts, again, Kept, Of, Left, stored, rid, Shaped, shaped-left}
+use Rattle.histories.proofs.Calls.Requests.{shaped-fits}
 use Rattle.histories.proofs.SealStays.Veils as Veils
 use Rattle.histories.proofs.SealStays.Veils.{Veiled, Veil, run-veil}
 use Rattle.histories.proofs.SealStays.Plans.{joined-read}
@@ -51,17 +51,6 @@ gone-equal h t s v c n = sym (ext-table t s (sym (v .long)) (c .whole) (λ i l. 
 
 -- ---- stores
 
--- some store of 32 bytes
-abbrev Any : ℕ → List ℕ → Type 0
-Any i r = Unit {0}
-
-any-store : (t : List ℕ) → Sound t → (ss : List Store) → Shaped t ss → Every (Lays Any (rooms t)) ss
-any-store t c ss (plain h) = every-imp (Puts t) (Lays Any (rooms t)) ss (λ x l. record { within = l .within; size = l .size; holds = tt }) h
-any-store t c ss (freeing main g h k n e) =
-    rw e (every-append (Lays Any (rooms t)) main (freed t g)
-    (every-imp (Puts t) (Lays Any (rooms t)) main (λ x l. record { within = l .within; size = l .size; holds = tt }) h)
-    (every-imp (Clears t) (Lays Any (rooms t)) (freed t g) (λ x l. record { within = l .within; size = l .size; holds = tt }) (freed-clears t c g k)))
-
 code-recoded : (r : List ℕ) (code : ℕ) → length r ≡ 32 → headingCode (recoded r code) ≡ code
 unfolding recoded
 code-recoded r code e = getD-set-same r 3 code 0 (omega arith)
@@ -84,6 +73,7 @@ module _ (h : ℕ) (t : List ℕ) (c : Sound t) (k : byte (rec t h) 0 ≡ 1) (n 
       rw (q, code-recoded (rec t h) code (length-rec t h in-h)) (rw j at z)
   put-sealed r (rewrites mark m b a w q) = rw (q, rewritten-byte (rec t h) mark m 3 (omega arith, inl (omega arith))) n
   put-sealed r (retexts g a w x y) = absurd (mine-not g (rec t h) 1 x (omega arith) (omega arith) k)
+  put-sealed r (again b) = rw (but-byte (rec t h) r b 3 (omega arith)) n
 
   kept-sealed : (s : List ℕ) → Kept t s h → noRead (headingCode (rec s h)) ≡ true
   kept-sealed s (inl e) = rw e n
@@ -103,7 +93,7 @@ module _ (h : ℕ) (t : List ℕ) (c : Sound t) (k : byte (rec t h) 0 ≡ 1) (n 
   -- the first k stores of one list
   pub stores-hidden : (s : List ℕ) → Veil h t s → (ss : List Store) → Shaped t ss → (j : ℕ) → Hidden h (run t (take j ss)) (run s (take j ss))
   stores-hidden s v ss d j =
-      veiled (run-veil h Any (take j ss) t s (c .whole) (every-take _ j ss (any-store t c ss d)) v)
+      veiled (run-veil h (take j ss) t s (c .whole) (every-take _ j ss (shaped-fits t c ss d)) v)
       (left-sealed (run t (take j ss)) (shaped-left t c ss d j))
 
   pub all-hidden : (s : List ℕ) → Veil h t s → (ss : List Store) → Shaped t ss → Hidden h (run t ss) (run s ss)

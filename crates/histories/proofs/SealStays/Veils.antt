@@ -1,7 +1,7 @@
 -- Two tables that differ at most in the text bytes of heading h: every test that the definitions make of a record gives the same, since
 -- a text record is told by its first 8 bytes, and an entry, a heading and a free record are the same in both.
-use mathlib.Core.Bool.{Bool, false}
-use mathlib.Core.List.{List, [], _∷_}
+use mathlib.Core.Bool.{Bool, true, false, _&&_, not}
+use mathlib.Core.List.{List, [], _∷_, _++_, map}
 use mathlib.Core.Logic.{_≢_, by-cases}
 use mathlib.Core.Path.{_≡_, refl, sym, _∙_}
 use Prim.Native.Nat.{ℕ, _+_, _≤_, _<_}
@@ -9,20 +9,23 @@ use native.Mathlib.Omega.{arith}
 use native.Mathlib.Decide.{ℕ-discrete, decLt}
 use lib.ListN.{length, take}
 use lib.Seq.{getD-take}
+use borrow.Author.Tests.{eqb-true}
 use Rattle.paper.specs.Number.{numberAt}
-use Rattle.paper.specs.Scan.{Found, at, nowhere, firstBelow}
+use Rattle.paper.specs.Scan.{Found, at, nowhere, firstBelow, listBelow}
 use Rattle.paper.specs.Record.{byte, isKind, headingNamed, headingOf, directory, simple, names, textAt}
 use Rattle.paper.specs.Table.{rooms, rec, lay, frees, place, textRoom}
 use Rattle.paper.specs.Entry.{Holder, stands, bears, find, crowd, full, named, inDirectory, peopled}
-use Rattle.paper.specs.Store.{Store, run}
-use Rattle.paper.specs.Mend.{keepsText, orphan, stray, clears, mendFirst, mendSecond, mendStores}
+use Rattle.paper.specs.Store.{Store, puts, fills, clears, run}
+use Rattle.paper.specs.Count.{namings, countsRight, recounted, untrue, recounts}
+use Rattle.paper.specs.Mend.{keepsText, orphan, stray, mendFirst, mendSecond, clearStores, cleared, mendStores}
+use Rattle.laws.proofs.Tests.{and-left}
 use Rattle.laws.proofs.Numbers.{number-cong}
 use Rattle.laws.proofs.Scans.{any-cong, first-cong}
 use Rattle.laws.proofs.Counts.{count-cong}
-use Rattle.laws.proofs.Lists.{Every, list-cong}
-use Rattle.laws.proofs.Lay.{Whole, rec-past, lay-same, lay-other, rooms-lay, length-lay}
-use Rattle.laws.proofs.Runs.{Lays}
+use Rattle.laws.proofs.Lists.{Every, every-imp, every-append, every-below, list-cong}
+use Rattle.laws.proofs.Lay.{Whole, lay-same, length-lay}
 use Rattle.demands.proofs.Mending.Wipe.{Blanks, every-clears}
+use Rattle.histories.proofs.Calls.Anywhere.{Fits, lays-fit, lay-past, rec-apart}
 
 -- the same record, or text of h in both, of which all but the bytes 8-31 is the same
 pub data Veiled (h : ℕ) (a b : List ℕ) : Type 0 where
@@ -35,6 +38,17 @@ pub record Veil (h : ℕ) (t s : List ℕ) : Type 0 where
 
 front : (a b : List ℕ) → take 8 b ≡ take 8 a → (j : ℕ) → j < 8 → byte b j ≡ byte a j
 front a b e j l = sym (getD-take 8 b j 0 l) ∙ rw e (getD-take 8 a j 0 l)
+
+-- the same records pass, and the same is laid in each
+map-same : (f g : ℕ → Store) (xs : List ℕ) → Every (λ i. f i ≡ g i) xs → map f xs ≡ map g xs
+map-same f g [] h = refl
+map-same f g (x ∷ xs) h = rw (h .0, map-same f g xs (h .1))
+
+fills-cong : (p q : ℕ → Bool) (a b : ℕ → List ℕ) (m n : ℕ) → m ≡ n → ((i : ℕ) → p i ≡ q i) → ((i : ℕ) → q i ≡ true → a i ≡ b i) → fills p a m ≡ fills q b n
+unfolding fills
+fills-cong p q a b m n e f g =
+    rw (e, list-cong p q n (λ i _. f i))
+    (map-same (λ i. puts i (a i)) (λ i. puts i (b i)) (listBelow q n) (every-imp _ _ (listBelow q n) (λ i x. rw (g i (x .1))) (every-below q n)))
 
 module _ (h : ℕ) (t s : List ℕ) (v : Veil h t s) where
   pub rooms-veil : rooms s ≡ rooms t
@@ -107,11 +121,16 @@ module _ (h : ℕ) (t s : List ℕ) (v : Veil h t s) where
   unfolding find
   find-veil d n = rw rooms-veil (first-cong _ _ (rooms t) (λ i _. bears-veil d n i))
 
-  pub full-veil : (d : Holder) → full s d ≡ full t d
+  crowd-veil : (d : Holder) → crowd s d ≡ crowd t d
   unfolding crowd
-  full-veil d =
-      let e : crowd s d ≡ crowd t d = rw rooms-veil (count-cong _ _ (rooms t) (λ i _. stands-veil d i)) in
-      rw e
+  crowd-veil d = rw rooms-veil (count-cong _ _ (rooms t) (λ i _. stands-veil d i))
+
+  namings-veil : (g : ℕ) → namings s g ≡ namings t g
+  unfolding namings
+  namings-veil g = rw rooms-veil (count-cong _ _ (rooms t) (λ i _. names-veil g i))
+
+  pub full-veil : (d : Holder) → full s d ≡ full t d
+  full-veil d = rw (crowd-veil d)
 
   pub unnamed-veil : (g : ℕ) → named s g ≡ named t g
   unfolding named
@@ -138,45 +157,80 @@ module _ (h : ℕ) (t s : List ℕ) (v : Veil h t s) where
       one : (i : ℕ) → textAt g p (rec s i) ≡ textAt g p (rec t i)
       one i = rw (byte-veil i 0 (omega arith), number-veil 2 i 2 (omega arith), number-veil 2 i 4 (omega arith))
 
+  -- ---- counts: headings are the same, and as many entries name and stand in each
+
+  right-veil : (i : ℕ) (r : List ℕ) → countsRight s i r ≡ countsRight t i r
+  unfolding countsRight
+  right-veil i r = rw (namings-veil i, crowd-veil (inDirectory i))
+
+  untrue-veil : (i : ℕ) → untrue s i ≡ untrue t i
+  untrue-veil i = rw (kind-veil 1 i) (go (isKind 1 (rec t i)) refl)
+    where
+      go : (b : Bool) → isKind 1 (rec t i) ≡ b → (b && not (countsRight s i (rec s i))) ≡ (b && not (countsRight t i (rec t i)))
+      go false e = refl
+      go true e =
+          let k : byte (rec t i) 0 ≡ 1 = eqb-true _ _ e in
+          rw (rec-veil i (λ (z : byte (rec t i) 0 ≡ 3). omega arith), right-veil i (rec t i))
+
+  recounted-veil : (i : ℕ) → untrue t i ≡ true → recounted s i (rec s i) ≡ recounted t i (rec t i)
+  unfolding recounted
+  recounted-veil i e =
+      let k : byte (rec t i) 0 ≡ 1 = eqb-true _ _ (and-left (isKind 1 (rec t i)) _ e) in
+      rw (rec-veil i (λ (z : byte (rec t i) 0 ≡ 3). omega arith), namings-veil i, crowd-veil (inDirectory i))
+
+  pub recounts-veil : recounts s ≡ recounts t
+  recounts-veil = fills-cong (untrue s) (untrue t) _ _ (rooms s) (rooms t) rooms-veil untrue-veil recounted-veil
+
 -- ---- the same store on both
 
-pub lay-veil : (h : ℕ) (t s : List ℕ) → Whole t → Veil h t s → (a : ℕ) (r : List ℕ) → a < rooms t → length r ≡ 32 → Veil h (lay t a r) (lay s a r)
-lay-veil h t s w v a r l e = record { long = length-lay s a r ∙ v .long ∙ sym (length-lay t a r); each = each }
+pub lay-veil : (h : ℕ) (t s : List ℕ) → Whole t → Veil h t s → (a : ℕ) (r : List ℕ) → length r ≡ 32 → Veil h (lay t a r) (lay s a r)
+lay-veil h t s w v a r e = record { long = length-lay s a r ∙ v .long ∙ sym (length-lay t a r); each = each }
   where
-    rooms-s : rooms s ≡ rooms t
-    rooms-s = rooms-veil h t s v
+    whole-s : Whole s
+    whole-s = rw (v .long) w
+
+    at-a : a < rooms t → Veiled h (rec (lay t a r) a) (rec (lay s a r) a)
+    at-a l = same (rw (lay-same t a r e l, lay-same s a r e (rw (rooms-veil h t s v) l)))
 
     each : (i : ℕ) → Veiled h (rec (lay t a r) i) (rec (lay s a r) i)
     each i =
-        by-cases (ℕ-discrete i a)
-        (λ (q : i ≡ a). same (rw (q, lay-same t a r e l, lay-same s a r e (rw rooms-s l))))
-        (λ (q : i ≢ a).
-        by-cases (decLt i (rooms t))
-        (λ (m : i < rooms t). rw (lay-other t a r i e q m, lay-other s a r i e q (rw rooms-s m)) (v .each i))
-        (λ (m : ¬ (i < rooms t)). same (rw (
-          rec-past (lay t a r) i (rw (length-lay t a r) w) (rw (rooms-lay t a r) (omega arith)),
-          rec-past (lay s a r) i (rw (length-lay s a r, v .long) w) (rw (rooms-lay s a r, rooms-s) (omega arith)),
-        ))))
+        by-cases (decLt a (rooms t))
+        (λ (l : a < rooms t).
+        by-cases (ℕ-discrete i a) (λ (q : i ≡ a). rw q (at-a l)) (λ (q : i ≢ a). rw (rec-apart t w a r e i q, rec-apart s whole-s a r e i q) (v .each i)))
+        (λ (l : ¬ (a < rooms t)). rw (lay-past t a r w (omega arith), lay-past s a r whole-s (rw (rooms-veil h t s v) (omega arith))) (v .each i))
 
-pub run-veil : (h : ℕ) (P : ℕ → List ℕ → Type 0) (ss : List Store) (t s : List ℕ) → Whole t → Every (Lays P (rooms t)) ss → Veil h t s
-    → Veil h (run t ss) (run s ss)
+pub run-veil : (h : ℕ) (ss : List Store) (t s : List ℕ) → Whole t → Every Fits ss → Veil h t s → Veil h (run t ss) (run s ss)
 unfolding run
-run-veil h P [] t s w q v = v
-run-veil h P (x ∷ ss) t s w q v =
-    run-veil h P ss (lay t (x .at) (x .bytes)) (lay s (x .at) (x .bytes)) (rw (length-lay t (x .at) (x .bytes)) w)
-    (rw (rooms-lay t (x .at) (x .bytes)) (q .1)) (lay-veil h t s w v (x .at) (x .bytes) (q .0 .within) (q .0 .size))
+run-veil h [] t s w q v = v
+run-veil h (x ∷ ss) t s w q v =
+    run-veil h ss (lay t (x .at) (x .bytes)) (lay s (x .at) (x .bytes)) (rw (length-lay t (x .at) (x .bytes)) w) (q .1)
+    (lay-veil h t s w v (x .at) (x .bytes) (q .0))
 
--- ---- mending clears the same records of both
+-- the counts after them
+pub counts-veil : (h : ℕ) (t s : List ℕ) → Whole t → Veil h t s → (ss : List Store) → Every Fits ss → recounts (run s ss) ≡ recounts (run t ss)
+counts-veil h t s w v ss q = recounts-veil h (run t ss) (run s ss) (run-veil h ss t s w q v)
 
-clears-cong : (p q : ℕ → Bool) (m n : ℕ) → m ≡ n → ((i : ℕ) → p i ≡ q i) → clears p m ≡ clears q n
-unfolding clears
-clears-cong p q m n e f = rw (e, list-cong p q n (λ i _. f i))
+-- ---- mending clears the same records of both, and writes the same counts
+
+clears-fit : (p : ℕ → Bool) (n : ℕ) → Every Fits (clears p n)
+clears-fit p n = lays-fit (Blanks p) n (clears p n) (every-clears p n)
 
 pub mend-veil : (h : ℕ) (t s : List ℕ) → Whole t → Veil h t s → mendStores s ≡ mendStores t
-unfolding mendStores
+unfolding mendStores clearStores cleared
 mend-veil h t s w v =
-    rw (first, second (run t (mendFirst t)) (run s (mendFirst t)) (run-veil h (Blanks (orphan t)) (mendFirst t) t s w (every-clears (orphan t) (rooms t)) v))
+    rw (
+      first,
+      second (run t (mendFirst t)) (run s (mendFirst t)) v₁,
+      counts-veil h t s w v (mendFirst t ++ mendSecond (run t (mendFirst t)))
+          (every-append Fits (mendFirst t) _ (clears-fit (orphan t) (rooms t)) (clears-fit (stray (run t (mendFirst t))) (rooms (run t (mendFirst t))))),
+    )
   where
+    v₁ : Veil h (run t (mendFirst t)) (run s (mendFirst t))
+    v₁ = run-veil h (mendFirst t) t s w (clears-fit (orphan t) (rooms t)) v
+
+    clears-cong : (p q : ℕ → Bool) (m n : ℕ) → m ≡ n → ((i : ℕ) → p i ≡ q i) → clears p m ≡ clears q n
+    clears-cong p q m n e f = fills-cong p q _ _ m n e f (λ _ _. refl)
+
     first : mendFirst s ≡ mendFirst t
     first = clears-cong (orphan s) (orphan t) (rooms s) (rooms t) (rooms-veil h t s v) (λ i. rw (kind-veil h t s v 1 i, unnamed-veil h t s v i))
 

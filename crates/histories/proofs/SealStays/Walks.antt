@@ -73,7 +73,7 @@ module _ (h : ℕ) (t s : List ℕ) (v : Veil h t s) where
 
     lost-veil : lost s e r ≡ lost t e r
     unfolding lost
-    lost-veil = rw (named-veil h t s v e, unnamed-veil h (lay t e r) (lay s e r) (lay-veil h t s (c .whole) v e r l size) (headingNamed (rec t e)))
+    lost-veil = rw (named-veil h t s v e, unnamed-veil h (lay t e r) (lay s e r) (lay-veil h t s (c .whole) v e r size) (headingNamed (rec t e)))
 
     pub losing-veil : losing s e r ≡ losing t e r
     unfolding losing

@@ -1,55 +1,24 @@
--- The two tests in the order of their numbers.
--- Soundness is only asked of a sized table, as the passes need; clearing leaves its length.
-use mathlib.Core.Bool.{true, false}
-use mathlib.Core.Path.{_≡_, sym, _∙_}
-use borrow.Author.Tests.{not-true, not-false}
+-- With the counts not judged the number is that of the shape.
+-- The records that go are those of the called function.
+use mathlib.Core.Bool.{false}
+use mathlib.Core.Path.{_≡_, _∙_}
 use borrow.Author.Needs.{needs}
+use Rattle.judge.specs.Judged.{judgedShape, judgedBut}
 use Rattle.judge_laws.specs.Mask.{without}
-use Rattle.judge.specs.Judged.{judged}
-use Rattle.paper.specs.Sound.{sound}
-use Rattle.paper.specs.Table.{sized}
-use Rattle.judge_laws.proofs.Mask.{sized-without}
+use Rattle.judge_laws.proofs.Counts.{sound-uncounted}
 use Rattle.judge.proofs.judge_without.Statement.{statement}
 use Rattle.judge.proofs.judge_without.Tie as tie
 
-is-sized-requires : tie.Need-is-sized-requires
-is-sized-requires c κs = search needs
+number-of-requires : tie.Need-number-of-requires
+number-of-requires c κs = search needs
 
 returns : tie.Need-returns
-unfolding judged
+unfolding judgedShape judgedBut
 returns c =
-    let c3 = c .before .before .before in
-    let a = c3 .args in
-    let w = sized-without (a .gone .now) (a .table .now) in
-    let e : sized (without (a .gone .now) (a .table .now)) ≡ false = w ∙ sym (c .before .is-sized .ensures) ∙ not-true _ (c .if1 .taken) in
-    rw e
-
-is-sound-requires : tie.Need-is-sound-requires
-is-sound-requires c κs = sym (c .before .is-sized .ensures) ∙ not-false _ (c .if1 .left)
-
-returns-2 : tie.Need-returns-2
-unfolding judged
-returns-2 c =
-    let c3 = c .before .before .before in
-    let c5 = c3 .before .before in
-    let a = c5 .args in
-    let w = sized-without (a .gone .now) (a .table .now) in
-    let s = sym (c3 .is-sized .ensures) ∙ not-false _ (c .before .before .if1 .left) in
-    let e : sized (without (a .gone .now) (a .table .now)) ≡ true = w ∙ s in
-    let f : sound (without (a .gone .now) (a .table .now)) ≡ false = sym (c .before .is-sound .ensures) ∙ not-true _ (c .if2 .taken) in
-    rw (e, f)
-
-returns-3 : tie.Need-returns-3
-unfolding judged
-returns-3 c =
-    let c3 = c .before .before .before in
-    let c5 = c3 .before .before in
-    let a = c5 .args in
-    let w = sized-without (a .gone .now) (a .table .now) in
-    let s = sym (c3 .is-sized .ensures) ∙ not-false _ (c .before .before .if1 .left) in
-    let e : sized (without (a .gone .now) (a .table .now)) ≡ true = w ∙ s in
-    let f : sound (without (a .gone .now) (a .table .now)) ≡ true = sym (c .before .is-sound .ensures) ∙ not-false _ (c .if2 .left) in
-    rw (e, f)
+    let a = c .before .before .args in
+    let t = without (a .gone .now) (a .table .now) in
+    let e : judgedBut false t ≡ judgedShape t = rw (sound-uncounted t) in
+    c .number-of .ensures ∙ e
 
 pub judge-without-spec : {M : Type 1} → statement M
-judge-without-spec = tie.close (tie.spec is-sized-requires returns is-sound-requires returns-2 returns-3)
+judge-without-spec = tie.close (tie.spec number-of-requires returns)

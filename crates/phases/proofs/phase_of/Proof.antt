@@ -2,7 +2,7 @@
 -- The two kinds are read once, after the comparison, and each test is about what was read.
 use mathlib.Core.Path.{sym, _∙_}
 use borrow.Author.Needs.{needs}
-use Rattle.disk.proofs.Phases.{phase-still, phase-was, phase-is, phase-free, phase-freed, phase-held}
+use Rattle.disk.proofs.Phases.{phase-still, phase-was, phase-is, phase-free, phase-freed, phase-counts, phase-held}
 use Rattle.phases.proofs.phase_of.Statement.{statement}
 use Rattle.phases.proofs.phase_of.Tie as tie
 
@@ -60,16 +60,32 @@ returns-5 c =
     sym (phase-freed (a .before .now) (a .after .now) d (λ q. c .before .before .before .if2 .left (x ∙ q))
     (λ q. c .before .if4 .left (x ∙ q)) (sym r ∙ c .if5 .taken))
 
+is-recount-requires : tie.Need-is-recount-requires
+is-recount-requires c κs = search needs
+
 returns-6 : tie.Need-returns-6
 returns-6 c =
-    let b = c .before .before .before .before in
+    let i = c .before .before in
+    let b = i .before .before .before .before in
     let e = b .before .before .before in
     let a = e .before .before .before .args in
     let d = sym (e .are-same .ensures) ∙ b .before .before .if1 .left in
     let x = b .before .byte-at .ensures in
     let r = b .byte-at2 .ensures in
-    sym (phase-held (a .before .now) (a .after .now) d (λ q. c .before .before .before .if2 .left (x ∙ q)) (λ q. c .before .before .if3 .left (r ∙ q))
-    (λ q. c .before .if4 .left (x ∙ q)) (λ q. c .if5 .left (r ∙ q)))
+    sym (phase-counts (a .before .now) (a .after .now) d (λ q. i .before .before .before .if2 .left (x ∙ q)) (λ q. i .before .before .if3 .left (r ∙ q))
+    (λ q. i .before .if4 .left (x ∙ q)) (λ q. i .if5 .left (r ∙ q)) (sym (c .before .is-recount .ensures) ∙ c .if6 .taken))
+
+returns-7 : tie.Need-returns-7
+returns-7 c =
+    let i = c .before .before in
+    let b = i .before .before .before .before in
+    let e = b .before .before .before in
+    let a = e .before .before .before .args in
+    let d = sym (e .are-same .ensures) ∙ b .before .before .if1 .left in
+    let x = b .before .byte-at .ensures in
+    let r = b .byte-at2 .ensures in
+    sym (phase-held (a .before .now) (a .after .now) d (λ q. i .before .before .before .if2 .left (x ∙ q)) (λ q. i .before .before .if3 .left (r ∙ q))
+    (λ q. i .before .if4 .left (x ∙ q)) (λ q. i .if5 .left (r ∙ q)) (sym (c .before .is-recount .ensures) ∙ c .if6 .left))
 
 pub phase-of-spec : {M : Type 1} → statement M
 phase-of-spec =
@@ -83,4 +99,6 @@ phase-of-spec =
     returns-3
     returns-4
     returns-5
-    returns-6)
+    is-recount-requires
+    returns-6
+    returns-7)

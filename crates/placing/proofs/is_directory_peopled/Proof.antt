@@ -1,5 +1,5 @@
 -- The second test is made only where the first holds, as `&&` has it.
--- Assumes nothing.
+-- The count is read from the heading.
 use borrow.Author.Needs.{needs}
 use Rattle.placing.proofs.is_directory_peopled.Statement.{statement}
 use Rattle.placing.proofs.is_directory_peopled.Tie as tie
@@ -7,13 +7,13 @@ use Rattle.placing.proofs.is_directory_peopled.Tie as tie
 is-directory-requires : tie.Need-is-directory-requires
 is-directory-requires c κs = search needs
 
-is-peopled-requires : tie.Need-is-peopled-requires
-is-peopled-requires c κs = search needs
+held-count-requires : tie.Need-held-count-requires
+held-count-requires c κs = search needs
 
 returns : tie.Need-returns
 returns c =
-    let d = rw (c .before .before .is-directory .ensures) at (c .before .if1 .taken) in
-    rw d (c .is-peopled .ensures)
+    let d = rw (c .before .before .before .is-directory .ensures) at (c .before .before .if1 .taken) in
+    rw (d, c .before .held-count .ensures .0)
 
 returns-2 : tie.Need-returns-2
 returns-2 c =
@@ -22,4 +22,4 @@ returns-2 c =
 
 pub is-directory-peopled-spec : {M : Type 1} → statement M
 is-directory-peopled-spec =
-    tie.close (tie.spec is-directory-requires is-peopled-requires returns returns-2)
+    tie.close (tie.spec is-directory-requires held-count-requires returns returns-2)

@@ -67,7 +67,7 @@ pub fn sound(table: &[u8]) -> bool {
 /// A free record.
 pub const FREE: [u8; 32] = [0; 32];
 
-/// A heading record: type, level, code, lifetime, text length.
+/// A heading record: type, level, code, lifetime, text length; both its counts are 0.
 pub fn heading(file_type: u8, level: u8, code: u8, lifetime: u8, length: u16) -> [u8; 32] {
     let mut record = [0; 32];
     record[..5].copy_from_slice(&[1, file_type, level, code, lifetime]);
@@ -83,6 +83,39 @@ pub fn directory() -> [u8; 32] {
 /// The heading of a simple file, medium, U, code 0.
 pub fn simple(length: u16) -> [u8; 32] {
     heading(1, 0, 0, 1, length)
+}
+
+/// The heading with these counts: how many entries name it (bytes 12-13), and how many it holds (bytes 14-15).
+pub fn counts(mut heading: [u8; 32], named: u16, holding: u16) -> [u8; 32] {
+    heading[12..14].copy_from_slice(&named.to_le_bytes());
+    heading[14..16].copy_from_slice(&holding.to_le_bytes());
+    heading
+}
+
+/// The heading with the count of the entries that name it, and holding none.
+pub fn named(heading: [u8; 32], entries: u16) -> [u8; 32] {
+    counts(heading, entries, 0)
+}
+
+/// The records with true counts, told entry by entry, for tables whose counts are not the matter. A simple file's bytes 14-15
+/// are left.
+pub fn counted(records: &[[u8; 32]]) -> Vec<[u8; 32]> {
+    let mut counted = records.to_vec();
+    for (number, heading) in counted.iter_mut().enumerate() {
+        let say = |at: usize| {
+            let entries = records.iter().filter(|record| record[0] == 2);
+            let said = entries.map(|record| u16::from_le_bytes([record[at], record[at + 1]]));
+            let count = said.filter(|said| usize::from(*said) == number).count();
+            (count as u16).to_le_bytes()
+        };
+        if heading[0] == 1 {
+            heading[12..14].copy_from_slice(&say(4));
+        }
+        if heading[..2] == [1, 0] {
+            heading[14..16].copy_from_slice(&say(2));
+        }
+    }
+    counted
 }
 
 /// An entry record: code, directory, heading, user, name.

@@ -9,12 +9,13 @@ const ACROSS: usize = 64;
 /// What mending would clear.
 const CLEARED: char = 'x';
 
-/// The map of a table, and what the characters are; what differs from the mended table would be cleared.
+/// The map of a table, and what the characters are; what is free in the mended table alone would be cleared. A heading that mending would only
+/// count anew is drawn as it is.
 pub fn map(table: &[u8], mended: &[u8]) -> String {
     let goes = table
         .chunks_exact(RECORD_BYTES)
         .zip(mended.chunks_exact(RECORD_BYTES));
-    let goes = goes.map(|(is, would_be)| is != would_be);
+    let goes = goes.map(|(is, would_be)| is != would_be && *would_be == [0; RECORD_BYTES]);
     let drawn: Vec<char> = records(table)
         .iter()
         .zip(goes)

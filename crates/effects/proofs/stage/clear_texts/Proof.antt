@@ -8,7 +8,7 @@ use borrow.Author.Needs.{needs}
 use Rattle.paper.specs.Scan.{eachBelow}
 use Rattle.paper.specs.Record.{blank}
 use Rattle.paper.specs.Store.{clear}
-use Rattle.effects.specs.Stage.{Made, clearTexts}
+use Rattle.effects.specs.Stage.{Made}
 use Rattle.effects.proofs.Stages.{made-start, made-more}
 use Rattle.effects.proofs.stage.clear_texts.Statement.{statement}
 use Rattle.effects.proofs.stage.clear_texts.Tie as tie

@@ -65,15 +65,17 @@ file-requires c κs =
     let n = at-text-length .text-length in
     let f : Fit (a .table .now) = record { sized = p .0 .size; sound = p .0 .sound } in
     let x = text-copied (a .table .now) (a .source .0) f (p .1) _ _ (n .result .0) (rw (length-replicate {A = ℕ} 24000 0) (omega arith))
-    (at-copy-text .copy-text .ensures) (n .ensures .0) in
-    record {
-      size = p .0 .size;
-      sound = p .0 .sound;
-      short = p .0 .short;
-      brief = p .0 .brief;
-      few = rw (c .part .ensures ∙ x)
-          (text-few (a .table .now) (a .source .0) f (p .1));
-    }
+    (at-copy-text .copy-text .ensures) (n .ensures .0) in (
+      record {
+        size = p .0 .size;
+        sound = p .0 .sound;
+        short = p .0 .short;
+        brief = p .0 .brief;
+        few = rw (c .part .ensures ∙ x)
+            (text-few (a .table .now) (a .source .0) f (p .1));
+      },
+      record { held = p .2; type = _; lev = _; code = _; life = _; size = _; is = c .before .before .before .before .before .laid .ensures },
+    )
 
 same-length : tie.Need-same-length
 same-length c = search needs

@@ -2,7 +2,7 @@
 -- What follows there is the plan's making.
 use Rattle.paper.specs.Effect.{cpyPlan}
 use Rattle.elephant.proofs.Links.{both-near}
-use Rattle.elephant.proofs.Ends.{both-stops, both-reaches}
+use Rattle.elephant.proofs.Ends.{both-stops, both-reaches, both-there}
 use Rattle.words.specs.declared.begin.Begin.the-variants.{Own}
 use borrow.Author.Needs.{needs}
 use Rattle.elephant.proofs.copying.cpy.Statement.{statement}
@@ -30,7 +30,15 @@ end-of-requires : tie.Need-end-of-requires
 end-of-requires c κs = search needs
 
 cpy-in-requires : tie.Need-cpy-in-requires
-cpy-in-requires c κs = search needs
+cpy-in-requires c κs =
+    let at-to-both = c .before .before .before .before .before in
+    let start = at-to-both .before .before .before .before in
+    let a = start .args in
+    let g = c .before .before .before .both2 .given in
+    let p = start .pre in
+    let w = both-there (a .table .now) (a .line .now) (a .user) (a .from) (a .old) Own (a .new) _ (at-to-both .to-both .ensures)
+    (record { sized = p .size; sound = p .sound }) (g .0 .0) (g .0 .1 .0) (g .1) in
+    (p, w .0)
 
 same-length : tie.Need-same-length
 same-length c = search needs

@@ -67,7 +67,7 @@ copy-requires : tie.Need-copy-requires
 copy-requires c κs =
     let at-written = c .before .before .before .before .before .before .before .before in
     let start = at-written .before .before .before .before .before .before in
-    (start .pre, not-false _ (rw (c .before .before .is-simple .ensures) at (c .before .if3 .left)))
+    (start .pre .0, not-false _ (rw (c .before .before .is-simple .ensures) at (c .before .if3 .left)), start .pre .1)
 
 same-length-2 : tie.Need-same-length-2
 same-length-2 c = search needs

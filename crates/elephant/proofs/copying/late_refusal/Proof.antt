@@ -1,6 +1,5 @@
 -- Each return is one case of the two checks: 23, 25, or none.
 -- The tests are the checks' own.
-use mathlib.Core.Path.{sym, ap, _∙_}
 use borrow.Author.Tests.{lt-ltb, le-ltb}
 use Rattle.paper.specs.Check.{verdict}
 use borrow.Author.Needs.{needs}
@@ -24,7 +23,13 @@ returns-2 : tie.Need-returns-2
 unfolding verdict
 returns-2 c =
     let level = c .before .before in
-    rw (c .whole .ensures, ← level .before .before .is-marked .ensures, level .before .if1 .left, ← level .level-of .ensures, lt-ltb _ _ (c .before .if2 .taken))
+    rw (
+      c .whole .ensures,
+      ← level .before .before .is-marked .ensures,
+      level .before .if1 .left,
+      ← level .level-of .ensures,
+      lt-ltb _ _ (c .before .if2 .taken),
+    )
 
 none-requires : tie.Need-none-requires
 none-requires c κs = search needs

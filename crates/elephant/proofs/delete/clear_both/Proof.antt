@@ -1,6 +1,6 @@
--- The entry is one stage and its file the next: joined they are the entry cleared and the file freed. A sound table's file has at most
--- 1,000 blocks, whose rooms are listed before the first store.
-use Rattle.paper.specs.Record.{blank}
+-- Two stages: the entry with the counts that its clearing moves, and the file, whose rooms and length were read before any store.
+-- A sound table's file has at most 1,000 text records, and at most two counts move.
+use native.Mathlib.Omega.{arith}
 use Rattle.elephant.proofs.Clearings.{both-cleared}
 use borrow.Author.Needs.{needs}
 use Rattle.elephant.proofs.delete.clear_both.Statement.{statement}
@@ -15,32 +15,50 @@ text-length-requires c κs = search needs
 blocks-requires : tie.Need-blocks-requires
 blocks-requires c κs = search needs
 
-put-requires : tie.Need-put-requires
-put-requires c κs = search needs
+gone-requires : tie.Need-gone-requires
+gone-requires c κs = search needs
+
+count-moves-requires : tie.Need-count-moves-requires
+count-moves-requires c κs = search needs
+
+take-out-requires : tie.Need-take-out-requires
+take-out-requires c κs = search needs
 
 clear-file-requires : tie.Need-clear-file-requires
 clear-file-requires c κs = search needs
 
 add-result : tie.Need-add-result
-add-result c = search needs
+add-result c =
+    let at-blocks = c .before .before .before .before .before .before .before .before .before .before .before .before .before in
+    omega (arith, at-blocks .blocks2 .ensures, at-blocks .before .text-length .ensures .1)
+
+add-result-2 : tie.Need-add-result-2
+add-result-2 c =
+    omega (
+      arith,
+      c .before .before .before .before .before .before .before .before .before .before .before .before .before .blocks2 .ensures,
+      c .before .before .before .before .before .before .before .before .before .before .before .before .before .before .text-length .ensures .1,
+      c .before .before .before .before .before .before .before .before .before .count-moves .ensures .1,
+    )
 
 same-length : tie.Need-same-length
 same-length c = search needs
 
 returns : tie.Need-returns
-unfolding blank
 returns c =
-    let at-put = c .before .before .before .before .before .before .before in
-    let at-blocks2 = at-put .before .before in
-    let at-text-length = at-blocks2 .before in
-    let at-text-rooms = at-text-length .before .before in
-    let start = at-text-rooms .before .before .before .before in
+    let at-clear = c .before .before in
+    let at-take = at-clear .before .before .before .before .before in
+    let at-count = at-take .before .before in
+    let at-gone = at-count .before .before in
+    let at-blocks = at-gone .before .before in
+    let at-length = at-blocks .before in
+    let at-rooms = at-length .before .before in
+    let start = at-rooms .before .before .before .before in
     let a = start .args in
     let p = start .pre in
-    let n = at-text-length .text-length in
-    let b = at-blocks2 .blocks2 in
-    both-cleared (a .table .now) (a .entry .0) (a .heading .0) (p .0) (p .1) (p .2) _ (b .result .0) (n .result .0)
-    (at-text-rooms .text-rooms .ensures) (b .ensures) (n .ensures .0) _ _ _ _ _ (at-put .put .ensures) (c .before .before .clear-file .ensures)
+    rw (← at-gone .gone .ensures)
+    (both-cleared (a .table .now) (a .entry .0) _ (a .heading .0) (p .0) (p .1) (p .2) _ _ _ (at-rooms .text-rooms .ensures) (at-blocks .blocks2 .ensures)
+    (at-length .text-length .ensures .0) _ _ _ _ _ _ (at-count .count-moves .ensures .0) (at-take .take-out .ensures) (at-clear .clear-file .ensures))
 
 pub clear-both-spec : {M : Type 1} → statement M
 clear-both-spec =
@@ -49,8 +67,11 @@ clear-both-spec =
     text-rooms-requires
     text-length-requires
     blocks-requires
-    put-requires
+    gone-requires
+    count-moves-requires
+    take-out-requires
     clear-file-requires
     add-result
+    add-result-2
     same-length
     returns)

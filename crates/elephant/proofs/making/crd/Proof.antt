@@ -5,6 +5,9 @@ use native.Mathlib.Omega.{arith}
 use Rattle.words.specs.declared.begin.Begin.the-variants.{Own}
 use Rattle.elephant.proofs.Links.{walk-near}
 use Rattle.elephant.proofs.Makes.{crd-stops, crd-reaches}
+use Rattle.paper.specs.Effect.{chainOf}
+use Rattle.words.specs.Place.{wordAt}
+use Rattle.elephant.proofs.Ends.{walked-held}
 use borrow.Author.Needs.{needs}
 use Rattle.elephant.proofs.making.crd.Statement.{statement}
 use Rattle.elephant.proofs.making.crd.Tie as tie
@@ -42,8 +45,22 @@ part-requires c κs = search needs
 file-in-requires : tie.Need-file-in-requires
 file-in-requires c κs =
     let at-to-directory = c .before .before .before .before .before in
-    let p = at-to-directory .before .before .before .before .before .before .before .pre in
-    record { size = p .size; sound = p .sound; short = p .short; few = rw (c .part .ensures) (omega arith); brief = p .brief }
+    let start = at-to-directory .before .before .before .before .before .before .before in
+    let a = start .args in
+    let p = start .pre in
+    let g = c .before .before .before .walked2 .given in (
+      record { size = p .size; sound = p .sound; short = p .short; few = rw (c .part .ensures) (omega arith); brief = p .brief },
+      record {
+        held = walked-held (a .table .now) (record { sized = p .size; sound = p .sound }) (a .user) (chainOf (wordAt (a .line .now) (a .name))) (g .0 .0)
+            (sym (at-to-directory .to-directory .ensures) ∙ g .1);
+        type = _;
+        lev = _;
+        code = _;
+        life = _;
+        size = _;
+        is = at-to-directory .before .before .laid .ensures;
+      },
+    )
 
 same-length : tie.Need-same-length
 same-length c = search needs

@@ -2,7 +2,7 @@
 -- What follows there is the plan's making.
 use Rattle.paper.specs.Effect.{dupPlan}
 use Rattle.elephant.proofs.Links.{both-near}
-use Rattle.elephant.proofs.Ends.{both-stops, both-reaches}
+use Rattle.elephant.proofs.Ends.{both-stops, both-reaches, both-there}
 use borrow.Author.Needs.{needs}
 use Rattle.elephant.proofs.making.dup.Statement.{statement}
 use Rattle.elephant.proofs.making.dup.Tie as tie
@@ -26,7 +26,15 @@ enum-known-both-2 : tie.Need-enum-known-both-2
 enum-known-both-2 c = search needs
 
 dup-in-requires : tie.Need-dup-in-requires
-dup-in-requires c κs = search needs
+dup-in-requires c κs =
+    let at-to-both = c .before .before .before .before in
+    let start = at-to-both .before .before .before .before in
+    let a = start .args in
+    let g = c .before .before .both2 .given in
+    let p = start .pre .named in
+    let w = both-there (a .table .now) (a .line .now) (a .user) (a .from) (a .old) (a .to) (a .new) _ (at-to-both .to-both .ensures)
+    (record { sized = p .size; sound = p .sound }) (g .0 .0) (g .0 .1 .0) (g .1) in
+    (start .pre, w .0, w .1)
 
 same-length : tie.Need-same-length
 same-length c = search needs

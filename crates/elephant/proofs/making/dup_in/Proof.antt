@@ -1,8 +1,9 @@
 -- 14 is the plan's first check: it refuses, or the plan ends as without it.
 -- The entry followed is read before any store: the heading it names and its code are the plan's.
 use mathlib.Core.List.{[]}
-use mathlib.Core.Path.{sym, _∙_}
+use mathlib.Core.Path.{refl, sym, _∙_}
 use native.Mathlib.Omega.{arith}
+use Rattle.elephant.specs.Filing.{standing}
 use Rattle.elephant.proofs.Walking.{shut-refused, open-ends, late-ends, no-late}
 use borrow.Author.Needs.{needs}
 use Rattle.elephant.proofs.making.dup_in.Statement.{statement}
@@ -53,7 +54,7 @@ make-requires c κs =
     let at-free-rooms = c .before .before .before .before .before in
     let at-heading-named = at-free-rooms .before .before .before .before .before .before in
     let start = at-heading-named .before .before .before .before .before .before .before .before .before in
-    let p = start .pre .named in
+    let p = start .pre .0 .named in
     let h = at-heading-named .heading-named in
     record {
       size = p .size;
@@ -62,6 +63,8 @@ make-requires c κs =
       short = rw (c .before .before .before .last-name .ensures) (p .short);
       few = rw (c .before .before .part .ensures) (omega arith);
       small = h .ensures .1;
+      held = start .pre .1;
+      names = standing refl (rw (h .ensures .0) (start .pre .2));
     }
 
 same-length : tie.Need-same-length
@@ -84,7 +87,7 @@ returns-2 c =
     (rw (
       at-end-of .end-of .ensures,
       at-last-name .last-name .ensures
-          ∙ sym (start .pre .last),
+          ∙ sym (start .pre .0 .last),
       at-joined .joined .ensures,
       at-entry-code .entry-code .ensures,
       at-or-else .or-else .ensures,

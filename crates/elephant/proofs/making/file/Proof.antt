@@ -1,6 +1,8 @@
 -- The free records are listed before any store, and the first of them takes the heading, which the entry names.
 -- So the making is the filing of the last name.
+use mathlib.Core.Path.{refl}
 use native.Mathlib.Omega.{arith}
+use Rattle.elephant.specs.Filing.{fresh}
 use Rattle.effects.proofs.Papers.{free-room}
 use Rattle.elephant.proofs.Walking.{free-small, free-length}
 use borrow.Author.Needs.{needs}
@@ -28,7 +30,8 @@ make-requires : tie.Need-make-requires
 make-requires c κs =
     let at-free-rooms = c .before .before .before .before .before .before in
     let start = at-free-rooms .before .before .before .before .before .before in
-    let p = start .pre in
+    let p = start .pre .0 in
+    let h = start .pre .1 in
     let f = at-free-rooms .free-rooms in
     record {
       size = p .size;
@@ -37,6 +40,9 @@ make-requires c κs =
       short = rw (c .before .last-name .ensures) (p .short);
       few = p .few;
       small = rw (c .before .before .before .before .room-at .ensures, f .ensures) (free-small (start .args .table .now));
+      held = h .held;
+      names = fresh (h .type) (h .lev) (h .code) (h .life) (h .size) refl (h .is)
+          (rw (c .before .before .before .before .room-at .ensures, f .ensures) (free-room (start .args .table .now) 0 (p .size) (omega arith)));
     }
 
 same-length : tie.Need-same-length
@@ -47,7 +53,7 @@ returns c =
     let at-room-at = c .before .before .before .before .before .before .before in
     let at-free-rooms = at-room-at .before .before in
     let start = at-free-rooms .before .before .before .before .before .before in
-    let p = start .pre in
+    let p = start .pre .0 in
     rw (
       c .before .before .before .end-of .ensures,
       c .before .before .before .before .last-name .ensures,

@@ -38,7 +38,8 @@ returns-2 c =
     let at-inhibits-write = at-if1 .before in
     let start = at-inhibits-write .before .before .before .before .before in
     open-ends (start .args .table .now) (start .args .stop) _ own _ _ (rw (at-inhibits-write .inhibits-write .ensures) at (at-if1 .if1 .left))
-    (late-ends (start .args .table .now) (start .args .stop) _ own [] _ tt (no-late _ (c .before .before .before .none .ensures)) _ _ (c .before .before .file .ensures))
+    (late-ends (start .args .table .now) (start .args .stop) _ own [] _ tt (no-late _ (c .before .before .before .none .ensures)) _ _
+    (c .before .before .file .ensures))
 
 pub file-in-spec : {M : Type 1} → statement M
 file-in-spec =

@@ -4,6 +4,9 @@ use mathlib.Core.Path.{sym, _∙_}
 use Rattle.words.specs.declared.begin.Begin.the-variants.{Own}
 use Rattle.elephant.proofs.Links.{walk-near}
 use Rattle.elephant.proofs.Makes.{wrs-stops, wrs-reaches}
+use Rattle.paper.specs.Effect.{chainOf}
+use Rattle.words.specs.Place.{wordAt}
+use Rattle.elephant.proofs.Ends.{walked-held}
 use borrow.Author.Needs.{needs}
 use Rattle.elephant.proofs.making.wrs.Statement.{statement}
 use Rattle.elephant.proofs.making.wrs.Tie as tie
@@ -36,7 +39,24 @@ enum-known-walked-2 : tie.Need-enum-known-walked-2
 enum-known-walked-2 c = search needs
 
 file-in-requires : tie.Need-file-in-requires
-file-in-requires c κs = search needs
+file-in-requires c κs =
+    let at-to-directory = c .before .before .before .before in
+    let start = at-to-directory .before .before .before .before .before .before .before .before in
+    let a = start .args in
+    let p = start .pre in
+    let g = c .before .before .walked2 .given in (
+      p,
+      record {
+        held = walked-held (a .table .now) (record { sized = p .size; sound = p .sound }) (a .user) (chainOf (wordAt (a .line .now) (a .name))) (g .0 .0)
+            (sym (at-to-directory .to-directory .ensures) ∙ g .1);
+        type = _;
+        lev = _;
+        code = _;
+        life = _;
+        size = _;
+        is = at-to-directory .before .before .laid .ensures;
+      },
+    )
 
 same-length : tie.Need-same-length
 same-length c = search needs

@@ -1,6 +1,5 @@
 -- The two sides of the test are the check's: a table has no more free records than records, so that the sum fits.
 -- The old text's records are those of its heading's length.
-use mathlib.Core.Path.{sym, _∙_}
 use native.Mathlib.Omega.{arith}
 use borrow.Author.Needs.{needs}
 use Rattle.paper.specs.Record.{isKind}

@@ -1,6 +1,6 @@
 -- Each return is one case of `rewriteAt`: 14, 15, 19, 24, or the stores made.
 -- The heading is in the table, so that its record is whole; there are at most 2,002 stores.
-use mathlib.Core.Path.{_≡_, sym, _∙_}
+use mathlib.Core.Path.{sym, _∙_}
 use native.Mathlib.Omega.{arith}
 use borrow.Author.Tests.{eq-eqb, ne-eqb}
 use Rattle.answers.specs.Shown.{placeMeant}
@@ -20,7 +20,8 @@ returns c =
     let start = c .before .before .before .before .before .before in
     let a = start .args in
     rw (c .refused .ensures)
-    (rewrite-shut (a .table .now) (a .text .now) (placeMeant (a .place)) (a .stop) (a .f) (rw (c .before .before .inhibits-write .ensures) at (c .before .if1 .taken)))
+    (rewrite-shut (a .table .now) (a .text .now) (placeMeant (a .place)) (a .stop) (a .f)
+    (rw (c .before .before .inhibits-write .ensures) at (c .before .if1 .taken)))
 
 heading-named-requires : tie.Need-heading-named-requires
 heading-named-requires c κs = search needs

@@ -1,9 +1,6 @@
 -- The heading's two records are read before any store, and so are the records of the old text; those of the new text are listed once the old
 -- text is gone. The four stages one after the other are the rewriting.
-use mathlib.Core.Path.{_≡_, _∙_}
-use Prim.Native.Nat.{_≤_}
 use native.Mathlib.Omega.{arith}
-use Rattle.paper.specs.Block.{blocks}
 use Rattle.elephant.proofs.Rewrites.{rewrites}
 use borrow.Author.Needs.{needs}
 use Rattle.elephant.proofs.rewriting.rewrite_text.Statement.{statement}

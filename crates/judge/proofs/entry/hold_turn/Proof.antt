@@ -1,6 +1,6 @@
 -- An entry of a base file stands in no directory; any other makes one more in its own, and no other changes.
 -- A directory that holds 112 before it is crowded with it.
-use mathlib.Core.Bool.{true, false, true≢false}
+use mathlib.Core.Bool.{false, true≢false}
 use mathlib.Core.Path.{_≡_, refl, sym, _∙_}
 use Prim.Native.Nat.{_+_, _<_}
 use native.Mathlib.Omega.{arith}

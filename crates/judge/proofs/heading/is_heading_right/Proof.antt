@@ -72,23 +72,35 @@ returns-7 c =
     let r = rec (c14 .args .t .now) (c14 .args .i) in
     sym (heading-not r (λ (h : Heading r). true≢false (sym (h .gap) ∙ sym (c .before .are-zeros .ensures) ∙ not-true _ (c .if7 .taken))))
 
-are-twenty-zeros-requires : tie.Need-are-twenty-zeros-requires
-are-twenty-zeros-requires c κs = search needs
+is-bare-requires : tie.Need-is-bare-requires
+is-bare-requires c κs = search needs
 
 returns-8 : tie.Need-returns-8
 returns-8 c =
     let c8 = c .before .before .before .before .before .before .before .before in
     let c16 = c8 .before .before .before .before .before .before .before .before in
     let r = rec (c16 .args .t .now) (c16 .args .i) in
-    sym (heading-not r (λ (h : Heading r). true≢false (sym (h .rest) ∙ sym (c .before .are-twenty-zeros .ensures) ∙ not-true _ (c .if8 .taken))))
+    sym (heading-not r (λ (h : Heading r). true≢false (sym (h .bare) ∙ sym (c .before .is-bare .ensures) ∙ not-true _ (c .if8 .taken))))
+
+are-sixteen-zeros-requires : tie.Need-are-sixteen-zeros-requires
+are-sixteen-zeros-requires c κs = search needs
+
+returns-9 : tie.Need-returns-9
+returns-9 c =
+    let c8 = c .before .before .before .before .before .before .before .before in
+    let c16 = c8 .before .before .before .before .before .before .before .before in
+    let a = c16 .before .before .args in
+    let r = rec (a .t .now) (a .i) in
+    sym (heading-not r (λ (h : Heading r). true≢false (sym (h .rest) ∙ sym (c .before .are-sixteen-zeros .ensures) ∙ not-true _ (c .if9 .taken))))
 
 is-plain-requires : tie.Need-is-plain-requires
 is-plain-requires c κs = search needs
 
-returns-9 : tie.Need-returns-9
-returns-9 c =
+returns-10 : tie.Need-returns-10
+returns-10 c =
     let zeros2 = c .before .before in
-    let zeros1 = zeros2 .before .before in
+    let bare = zeros2 .before .before in
+    let zeros1 = bare .before .before in
     let mark = zeros1 .before .before in
     let most = mark .before in
     let some = most .before in
@@ -105,8 +117,9 @@ returns-9 c =
     (omega (arith, some .if4 .left, some .before .raw-of4 .ensures))
     (omega (arith, most .if5 .left, some .before .raw-of4 .ensures))
     (sym (mark .is-mark-right .ensures) ∙ not-false _ (zeros1 .before .if6 .left))
-    (sym (zeros1 .are-zeros .ensures) ∙ not-false _ (zeros2 .before .if7 .left))
-    (sym (zeros2 .are-twenty-zeros .ensures) ∙ not-false _ (c .before .if8 .left)))
+    (sym (zeros1 .are-zeros .ensures) ∙ not-false _ (bare .before .if7 .left))
+    (sym (bare .is-bare .ensures) ∙ not-false _ (zeros2 .before .if8 .left))
+    (sym (zeros2 .are-sixteen-zeros .ensures) ∙ not-false _ (c .before .if9 .left)))
 
 pub is-heading-right-spec : {M : Type 1} → statement M
 is-heading-right-spec =
@@ -125,7 +138,9 @@ is-heading-right-spec =
     returns-6
     are-zeros-requires
     returns-7
-    are-twenty-zeros-requires
+    is-bare-requires
     returns-8
+    are-sixteen-zeros-requires
+    returns-9
     is-plain-requires
-    returns-9)
+    returns-10)

@@ -1,4 +1,4 @@
--- The sum so far is where the next heading's slots start, and no other record asks for any; headings are counted as they are met.
+-- The sum so far is where the next heading's slots start, and no other record asks for any.
 -- Text is as much as is asked for in a sound table and no more than the records, and sums only grow, so too many slots refute soundness.
 use mathlib.Core.Bool.{true, false}
 use mathlib.Core.Logic.{_≢_, by-cases}
@@ -10,12 +10,10 @@ use lib.ListN.{length, getD, length-set}
 use lib.Seq.{getD-set-same, getD-set-other}
 use borrow.Author.Count.{below-none}
 use Rattle.judge_laws.specs.Mask.{without}
-use Rattle.judge_laws.specs.Naming.{headings}
 use Rattle.judge_laws.specs.Places.{starts}
 use Rattle.paper.specs.Record.{isKind}
 use Rattle.paper.specs.Table.{rooms, rec}
 use Rattle.judge_laws.proofs.Mask.{length-without, rooms-without, whole-without}
-use Rattle.judge_laws.proofs.Naming.{headings-none, headings-more}
 use Rattle.judge_laws.proofs.Pass.{refuted-slots}
 use Rattle.judge_laws.proofs.TextTurns.{starts-none, starts-more}
 use Rattle.laws.proofs.Tests.{not-both}
@@ -23,24 +21,22 @@ use Rattle.judge.proofs.text.lay_out.Statement.{statement}
 use Rattle.judge.proofs.text.lay_out.Tie as tie
 
 abbrev Inv-loop : tie.InvT-loop
-Inv-loop t gone start₀ n slots₀ headings₀ i₀ start slots count i =
+Inv-loop t gone start₀ n slots₀ i₀ start slots i =
     (slots ≡ starts (without gone t) i)
     × (slots ≤ n)
     × (i ≤ n)
     × (n ≡ rooms t)
     × (length start ≡ 2048)
-    × (count ≡ headings (without gone t) i)
-    × (count ≤ i)
     × ((h : ℕ) → h < i → isKind 1 (rec (without gone t) h) ≡ true → getD start h 0 ≡ starts (without gone t) h)
 
 abbrev μ-loop : tie.MeasureT-loop
-μ-loop t gone start₀ n slots₀ headings₀ i₀ start slots count i = n - i
+μ-loop t gone start₀ n slots₀ i₀ start slots i = n - i
 
 loop-holds : tie.Need-loop-holds Inv-loop μ-loop
 loop-holds c =
     let g = c .before .args in
     let t = without (g .gone .now) (g .t .now) in
-    (sym (starts-none t), omega arith, omega arith, refl, omega arith, sym (headings-none t), omega arith, below-none _)
+    (sym (starts-none t), omega arith, omega arith, refl, omega arith, below-none _)
 
 add-i : tie.Need-add-i Inv-loop μ-loop
 add-i c = omega arith
@@ -62,9 +58,6 @@ element-write-start c = omega arith
 
 add-slots : tie.Need-add-slots Inv-loop μ-loop
 add-slots c = omega arith
-
-add-headings : tie.Need-add-headings Inv-loop μ-loop
-add-headings c = omega arith
 
 returns : tie.Need-returns Inv-loop μ-loop
 returns c =
@@ -89,19 +82,16 @@ loop-again c =
     let s = l .loop .start in
     let k : isKind 1 (rec t i) ≡ true = sym (c .before .before .before .is-heading .ensures) ∙ c .before .before .if1 .taken in
     let m = starts-more t i in
-    let n : headings t (i + 1) ≡ headings t i + 1 = headings-more t i ∙ rw k in
     let z : i < length s = omega arith in (
       omega arith,
       omega arith,
       omega arith,
       refl,
       rw length-set (l .loop .inv .4),
-      omega arith,
-      omega arith,
       λ h b q.
           by-cases (ℕ-discrete h i)
           (λ (e : h ≡ i). rw e (getD-set-same s i (l .loop .slots) 0 z ∙ l .loop .inv .0))
-          (λ (e : h ≢ i). getD-set-other s i h (l .loop .slots) 0 e ∙ l .loop .inv .7 h (omega arith) q),
+          (λ (e : h ≢ i). getD-set-other s i h (l .loop .slots) 0 e ∙ l .loop .inv .5 h (omega arith) q),
     )
 
 loop-less-2 : tie.Need-loop-less-2 Inv-loop μ-loop
@@ -114,19 +104,16 @@ loop-again-2 c =
     let t = without (g .gone .now) (g .t .now) in
     let i = l .loop .i in
     let k : isKind 1 (rec t i) ≡ false = sym (c .before .is-heading .ensures) ∙ c .if1 .left in
-    let m : starts t (i + 1) ≡ starts t i + 0 = starts-more t i ∙ rw k in
-    let n : headings t (i + 1) ≡ headings t i = headings-more t i ∙ rw k in (
+    let m : starts t (i + 1) ≡ starts t i + 0 = starts-more t i ∙ rw k in (
       omega arith,
       omega arith,
       omega arith,
       refl,
       l .loop .inv .4,
-      omega arith,
-      omega arith,
       λ h b q.
           by-cases (ℕ-discrete h i)
           (λ (e : h ≡ i). absurd (not-both (rw e at q) k))
-          (λ (e : h ≢ i). l .loop .inv .7 h (omega arith) q),
+          (λ (e : h ≢ i). l .loop .inv .5 h (omega arith) q),
     )
 
 returns-2 : tie.Need-returns-2 Inv-loop μ-loop
@@ -143,10 +130,9 @@ returns-2 c =
           whole = whole-without (g .gone .now) (g .t .now) (omega arith);
           small = rw (length-without (g .gone .now) (g .t .now)) (omega arith);
           room = rw (q, ← x) (omega arith);
-          at = λ h k. l .inv .7 h (omega arith);
+          at = λ h k. l .inv .5 h (omega arith);
         },
         x,
-        rw (← e) (l .inv .5),
       ),
     )
 
@@ -164,7 +150,6 @@ lay-out-spec =
     mul-start
     element-write-start
     add-slots
-    add-headings
     returns
     loop-less
     loop-again

@@ -1,6 +1,6 @@
 -- The walk down a bucket has passed no twin, and all twins are in the bucket.
 -- So what it meets first is the last twin, and at the end there is none; where the steps do not last nothing is said.
-use mathlib.Core.Bool.{true, false, true≢false}
+use mathlib.Core.Bool.{true≢false}
 use mathlib.Core.Path.{sym, _∙_}
 use Prim.Native.Nat.{_≤_}
 use native.Mathlib.Omega.{arith}

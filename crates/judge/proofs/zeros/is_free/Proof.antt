@@ -6,7 +6,6 @@ use native.Mathlib.Omega.{arith}
 use native.Mathlib.Decide.{ℕ-discrete}
 use borrow.Author.Needs.{needs}
 use borrow.Author.Tests.{eq-eqb, ne-eqb}
-use Rattle.paper.specs.Record.{zeros}
 use Rattle.paper.specs.Table.{rec}
 use Rattle.judge_laws.proofs.Shapes.{zeros-none, zeros-more, zeros-refuted}
 use Rattle.judge.proofs.zeros.is_free.Statement.{statement}

@@ -1,6 +1,6 @@
 -- A lone point is known by its place,
 -- and decides which of the two is read.
-use mathlib.Core.List.{[], _∷_}
+use mathlib.Core.List.{[]}
 use mathlib.Core.Path.{_∙_}
 use Rattle.paper.specs.Request.{readTree}
 use Rattle.reader.specs.Asked.{treeName, treeBase}

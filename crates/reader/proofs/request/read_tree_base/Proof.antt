@@ -1,7 +1,7 @@
 -- The count comes first, then the digit: its number goes into the request,
 -- and where there is none the answer is 9.
 use mathlib.Core.List.{[], _∷_}
-use mathlib.Core.Path.{_≡_, sym, ap, _∙_}
+use mathlib.Core.Path.{sym, ap, _∙_}
 use Prim.Native.Nat.{ℕ}
 use Rattle.paper.specs.Line.{word}
 use Rattle.paper.specs.Request.{Request, lstBaseTree, needed, miscounted, depthGiven}

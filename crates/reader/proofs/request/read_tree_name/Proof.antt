@@ -1,6 +1,6 @@
 -- The count and the name come first, then the digit: its number goes into the request,
 -- and where there is none the answer is 9.
-use mathlib.Core.Path.{_≡_, sym, ap, _∙_}
+use mathlib.Core.Path.{sym, ap, _∙_}
 use Prim.Native.Nat.{ℕ}
 use Rattle.paper.specs.Line.{Word, word}
 use Rattle.paper.specs.Request.{Request, lstTree, needed, oldFrom, depthGiven}

@@ -3,7 +3,7 @@
 use mathlib.Core.Path.{_≡_, refl, _∙_}
 use Prim.Native.Nat.{_-_, _≤_}
 use native.Mathlib.Omega.{arith}
-use lib.ListN.{length, take}
+use lib.ListN.{take}
 use lib.Seq.{sets, take-all}
 use Rattle.records.proofs.Copies.{sets-more}
 use Rattle.records.proofs.text.with_block.Statement.{statement}

@@ -110,7 +110,8 @@ returns-10 c =
     let r = c .match .rest in
     let q = r .0 .0 .0 .0 in
     rw (no 67 82 68 (q .0 .0 .0 .0 .1), no 87 82 83 (q .0 .0 .0 .1), no 82 68 83 (q .0 .0 .1), no 67 80 89 (q .0 .1), no 68 85 80 (q .1))
-    (rw (no 67 72 78 (r .0 .0 .0 .1), no 68 69 76 (r .0 .0 .1), no 68 80 82 (r .0 .1), no 76 83 84 (r .1), no-four (s .a) (s .b) (s .c) 76 83 84 42, no-four (s .a) (s .b) (s .c) 87 82 83 42))
+    (rw (no 67 72 78 (r .0 .0 .0 .1), no 68 69 76 (r .0 .0 .1), no 68 80 82 (r .0 .1), no 76 83 84 (r .1))
+    (rw (no-four (s .a) (s .b) (s .c) 76 83 84 42, no-four (s .a) (s .b) (s .c) 87 82 83 42)))
 
 pub of-letters-spec : {M : Type 1} → statement M
 of-letters-spec =

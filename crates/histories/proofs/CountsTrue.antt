@@ -1,0 +1,69 @@
+-- "Soundness says that both are true": a call on a sound table that is not cut leaves a sound one, and so does every mend that is not cut, since
+-- every table of a history mends to a sound one. So the counts are true from a mend on until a call is cut.
+use mathlib.Core.Bool.{true, not}
+use mathlib.Core.List.{List, [], _∷_}
+use mathlib.Core.Path.{_≡_}
+use Prim.Native.Nat.{ℕ}
+use lib.Dec.{eqb}
+use borrow.Author.Tests.{not-true, eqb-false}
+use Rattle.paper.specs.Table.{sized}
+use Rattle.paper.specs.Sound.{countsTrue, sound}
+use Rattle.paper.specs.Mend.{mendStores, mended}
+use Rattle.paper.specs.Answer.{mending}
+use Rattle.laws.proofs.Tests.{not-both, and-left, and-right}
+use Rattle.laws.proofs.Runs.{length-run}
+use Rattle.demands.proofs.Sound.Right.{Right, sound-right, right-sound}
+use Rattle.demands.proofs.Stops.{Uncut}
+use Rattle.demands.proofs.SoundKept.{sound-kept}
+use Rattle.demands.proofs.MendAnswered.{MendCame, unsized, unsound, whole, cutOff, mend-came}
+use Rattle.histories.specs.History.{Call, asks, mends, called, after, uncut}
+use Rattle.histories.proofs.Calls.Mendable.{Mendable, sound-mendable, after-mendable}
+
+-- a table that a request takes, and what it says of its entries
+pub record Settled (s : List ℕ) : Type 0 where
+  pub sized : sized s ≡ true
+  pub sound : sound s ≡ true
+  pub counts : countsTrue s ≡ true
+
+settled : (s : List ℕ) → Right s → Settled s
+settled s r = let z = right-sound s r in record { sized = z .0; sound = z .1; counts = r .counts }
+
+-- a mend that is not cut, on any table of a history
+whole-mend : (t : List ℕ) (k : ℕ) → Mendable t → Uncut (mending t k) → Right (mending t k .table)
+unfolding mended
+whole-mend t k m n = go (mend-came t k)
+  where
+    size : sized t ≡ true
+    size = rw (length-run t (mendStores t)) at (right-sound (mended t) m .0)
+
+    go : MendCame t k (mending t k) → Right (mending t k .table)
+    go (unsized a e) = absurd (not-both size a)
+    go (unsound a b e) = absurd (not-both (right-sound (mended t) m .1) b)
+    go (whole a b l e) = rw e m
+    go (cutOff a b l e) = absurd (n (rw e))
+
+-- a call that is not cut, on a sound table
+called-right : (t : List ℕ) (c : Call) → Right t → Uncut (called t c) → Right (called t c .table)
+called-right t (mends k) r n = whole-mend t k (sound-mendable t r) n
+called-right t (asks line text reply u k) r n =
+    let z = right-sound t r in
+    let s = sound-kept t line text reply u k (z .0) (z .1) n in
+    sound-right _ (s .0) (s .1)
+
+after-right : (t : List ℕ) (cs : List Call) → Right t → uncut t cs ≡ true → Right (after t cs)
+unfolding after uncut
+after-right t [] r h = r
+after-right t (c ∷ cs) r h =
+    let n : Uncut (called t c) = eqb-false _ _ (not-true _ (and-left (not (eqb (called t c .answer .number) 22)) _ h)) in
+    after-right (called t c .table) cs (called-right t c r n) (and-right (not (eqb (called t c .answer .number) 22)) _ h)
+
+-- from a sound table, calls of which none is cut
+pub counts-after : (t : List ℕ) (cs : List Call) → sized t ≡ true → sound t ≡ true → uncut t cs ≡ true → Settled (after t cs)
+counts-after t cs a b h = settled (after t cs) (after-right t cs (sound-right t a b) h)
+
+-- from a sound table, any calls, cut or whole, a mend that is not cut, and then calls of which none is cut
+pub counts-mended : (t : List ℕ) (cs : List Call) (k : ℕ) (ds : List Call) → sized t ≡ true → sound t ≡ true → Uncut (mending (after t cs) k)
+    → uncut (mending (after t cs) k .table) ds ≡ true → Settled (after (mending (after t cs) k .table) ds)
+counts-mended t cs k ds a b n h =
+    let m = after-mendable t cs (sound-mendable t (sound-right t a b)) in
+    settled _ (after-right (mending (after t cs) k .table) ds (whole-mend (after t cs) k m n) h)
