@@ -124,7 +124,7 @@ module _ (t : List ℕ) (h : ℕ) (fit : sized t ≡ true) (right : sound t ≡ 
 
   -- a part needs its own text records alone: k bytes of the text from byte a on are in those from position a / 24 on
   pub text-part : (a k : ℕ) → a + k ≤ textLength (rec t h)
-      → take k (drop (a % 24) (gathered t (textRooms t h) (a / 24) (blocks (a + k)))) ≡ take k (drop a (fileText t h))
+      → take k (drop (a % 24) (gathered t (textRooms t h (blocks (a + k))) (a / 24) (blocks (a + k)))) ≡ take k (drop a (fileText t h))
   unfolding fileText
   text-part a k l =
       let f : ℕ → List ℕ = λ p. held (rec t (textRoom t h p)) in

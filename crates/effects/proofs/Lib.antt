@@ -4,3 +4,4 @@ pub mod Gathers
 pub mod Recounts
 pub mod Papers
 pub mod Lengths
+pub mod Blocks

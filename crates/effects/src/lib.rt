@@ -1,4 +1,5 @@
 // The stages of a request's stores, and the passes over a table that they stand on.
+mod block;
 pub mod counts;
 pub mod reading;
 pub mod rooms;

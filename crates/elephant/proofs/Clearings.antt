@@ -48,7 +48,7 @@ module _ (t : List ℕ) (e : ℕ) (m : Moves) where
     few : blocksOf t h ≤ 1000
     few = omega (arith, length-most (rec t h) (sound-clauses t (f .sized) (f .sound) .own h l .heading k))
 
-    module _ (r : List ℕ) (b n : ℕ) (p : r ≡ textRooms t h) (q : b ≡ blocks n) (o : n ≡ textLength (rec t h)) where
+    module _ (r : List ℕ) (b n : ℕ) (p : r ≡ textRooms t h b) (q : b ≡ blocks n) (o : n ≡ textLength (rec t h)) where
       freed-rooms : freed t h ≡ clearStores h r b
       freed-rooms = file-freed t h (f .sized) few ∙ rw (p, q, o)
 

@@ -55,6 +55,14 @@ file-count f text l = go (f .new)
     go true = omega arith
     go false = omega arith
 
+-- .. and one free record past them is listed
+file-listed : (f : File) (text : List ℕ) → fileCount f text < blocks (length text) + 2
+file-listed f text = go (f .new)
+  where
+    go : (b : Bool) → cond b (blocks (length text) + 1) 0 < blocks (length text) + 2
+    go true = omega arith
+    go false = omega arith
+
 pub stores-length : (f : File) (r text : List ℕ) → length (fileStores f r text) ≡ fileCount f text
 stores-length f r text = go (f .new)
   where
@@ -79,13 +87,15 @@ entry-length t m entry r = go (m .lost)
         (omega arith)
     go false = ap (λ (ss : List Store). length (puts (m .room .0) entry ∷ ss)) (append-nil (countStores u (m .moves))) ∙ omega (arith, counts)
 
-pub first-stores : (t : List ℕ) (f : File) (text : List ℕ) → sized t ≡ true → length text ≤ 24000
-    → fileStores f (freeRooms t) text ≡ cond (f .new) (newFile t (f .heading) text) []
-first-stores t f text z l = go (f .new)
+pub first-stores : (t r : List ℕ) (f : File) (text : List ℕ) → sized t ≡ true → length text ≤ 24000 → r ≡ freeRooms t (blocks (length text) + 2)
+    → fileStores f r text ≡ cond (f .new) (newFile t (f .heading) text) []
+first-stores t r f text z l e = go (f .new)
   where
-    go : (b : Bool) → cond b (puts (getD (freeRooms t) 0 0) (f .heading) ∷ textStores (getD (freeRooms t) 0 0) (freeRooms t) 1 text) []
-        ≡ cond b (newFile t (f .heading) text) []
-    go true = rw (free-room t 0 z (omega arith)) (sym (new-file t (f .heading) text z l))
+    k : ℕ
+    k = blocks (length text) + 2
+
+    go : (b : Bool) → cond b (puts (getD r 0 0) (f .heading) ∷ textStores (getD r 0 0) r 1 text) [] ≡ cond b (newFile t (f .heading) text) []
+    go true = rw (e, free-room t k 0 z (omega arith) (omega arith)) (sym (new-file t (f .heading) text k z l (omega arith)))
     go false = refl
 
 -- ---- the verdict
@@ -212,12 +222,13 @@ module _
   meets = met t (foundShown (borne t making)) (holderShown (d .holder)) named free
 
   first-length : length (making .first) ≡ fileCount f text
-  first-length = ap length (sym (first-stores t f text (w .size) (w .few))) ∙ stores-length f (freeRooms t) text
+  first-length = ap length (sym (first-stores t r f text (w .size) (w .few) (w .free))) ∙ stores-length f r text
 
   free-there : room t (length (making .first)) ≡ free
   free-there =
       rw first-length
-      (sym (isFree ∙ rw (w .free) (free-room t (fileCount f text) (w .size) (omega (arith, file-count f text (w .few))))))
+      (sym (isFree
+      ∙ rw (w .free) (free-room t (blocks (length text) + 2) (fileCount f text) (w .size) (file-listed f text) (omega (arith, file-count f text (w .few))))))
 
   abbrev checks : List Check
   checks = fullUp t making ∷ stillPeopled place (displacing t (borne t making) (making .entry)) ∷ noRoom t making ∷ lateChecks (f .late)
@@ -275,11 +286,11 @@ module _
         rw first-length (omega (arith, rw q at l))
 
     stores-met : placing t making (borne t making)
-        ≡ fileStores f r text ++ entryStores (run t (fileStores f r text)) meets (making .entry) (textRooms t (meets .heading .0))
+        ≡ fileStores f r text ++ entryStores (run t (fileStores f r text)) meets (making .entry) (textRooms t (meets .heading .0) (meets .count .0))
     stores-met =
         placed-settled t (w .size) (w .sound) code (holderShown (d .holder)) named name (w .short) (w .small) making refl (before enough) (w .held)
         (borne t making) refl left
-        ∙ rw (free-there, w .free, first-stores t f text (w .size) (w .few))
+        ∙ rw (free-there, first-stores t r f text (w .size) (w .few) (w .free))
 
   abbrev ends : Plan
   ends =
@@ -302,7 +313,7 @@ module _
         go (refused g) x y = rw y (did-refused t k ends g x)
 
     pub ends-stored : c .number ≡ 0 → (u entry : List ℕ) (l : ℕ) → entry ≡ making .entry
-        → Made t u k l (fileStores f r text ++ entryStores (run t (fileStores f r text)) m entry (textRooms t (m .heading .0)))
+        → Made t u k l (fileStores f r text ++ entryStores (run t (fileStores f r text)) m entry (textRooms t (m .heading .0) (m .count .0)))
         → Did t k (ending t (beginMeant to) making (lateChecks (f .late))) (shown (stored (storesBy (rooms t) (fileCount f text) m) k (m .displaced))) u
     unfolding ending
     ends-stored h u entry l x y =
@@ -312,8 +323,9 @@ module _
         let v : verdict (ends .checks) ≡ passed = rw (taken-met, ← e) z in
         let o : neededBy (fileCount f text) (meets .displaced) ≤ length (frees t) = ltb-false _ _ (rw e at (passes-all _ z .1 .1 .1 .0)) in
         let files : List Store = fileStores f r text in
-        let s : ends .stores ≡ files ++ entryStores (run t files) m entry (textRooms t (m .heading .0)) = rw (x, e) (stores-met o) in
+        let s : ends .stores ≡ files ++ entryStores (run t files) m entry (textRooms t (m .heading .0) (m .count .0)) = rw (x, e) (stores-met o) in
         let n : length (ends .stores) ≡ storesBy (rooms t) (fileCount f text) m =
-        ap length s ∙ rw (length-append, stores-length f r text, entry-length (run t files) m entry (textRooms t (m .heading .0)), rooms-run t files) in
+        ap length s
+        ∙ rw (length-append, stores-length f r text, entry-length (run t files) m entry (textRooms t (m .heading .0) (m .count .0)), rooms-run t files) in
         let b : ends .displaced ≡ m .displaced = rw e (is-displaced t (borne t making) (holderShown (d .holder)) named free) in
         rw (← n, ← b) (did-stored t u k l ends v refl (rw s y))

@@ -37,11 +37,14 @@ module _ (t : List ℕ) (h : ℕ) (text : List ℕ) (f : Fit t) (l : h < rooms t
   old-few : blocksOf t h ≤ 1000
   old-few = omega (arith, length-most (rec t h) (sound-clauses t (f .sized) (f .sound) .own h l .heading k))
 
-  -- the new text and the heading, on a table that is u
-  abbrev onward : List ℕ → List Store
-  onward u = textStores h (freeRooms u) 0 text ++ puts h (rewritten (rec t h) 0 (length text)) ∷ []
+  -- the new text, and it and the heading, on a table that is u
+  abbrev laid : List ℕ → List Store
+  laid u = textStores h (freeRooms u (blocks (length text))) 0 text
 
-  module _ (r : List ℕ) (b n : ℕ) (p : r ≡ textRooms t h) (q : b ≡ blocks n) (o : n ≡ textLength (rec t h)) where
+  abbrev onward : List ℕ → List Store
+  onward u = laid u ++ puts h (rewritten (rec t h) 0 (length text)) ∷ []
+
+  module _ (r : List ℕ) (b n : ℕ) (p : r ≡ textRooms t h b) (q : b ≡ blocks n) (o : n ≡ textLength (rec t h)) where
     abbrev front : List Store
     front = puts h (rewritten (rec t h) 1 0) ∷ clearTexts r b
 
@@ -64,14 +67,14 @@ module _ (t : List ℕ) (h : ℕ) (text : List ℕ) (f : Fit t) (l : h < rooms t
         ∙ omega (
           arith,
           clear-texts-length r b,
-          length-append (textStores h (freeRooms (run t front)) 0 text) (puts h (rewritten (rec t h) 0 (length text)) ∷ []),
-          text-stores-length h (freeRooms (run t front)) 0 text,
+          length-append (laid (run t front)) (puts h (rewritten (rec t h) 0 (length text)) ∷ []),
+          text-stores-length h (freeRooms (run t front) (blocks (length text))) 0 text,
         ))
 
     -- four stages
     pub rewrites : (marked unmarked free a c d v : List ℕ) (left i j m e : ℕ)
         → marked ≡ rewritten (padded 32 (rec t h)) 1 0 → unmarked ≡ rewritten (padded 32 (rec t h)) 0 (length text)
-        → Made t a left i (puts h marked ∷ []) → Made a c i j (clearTexts r b) → free ≡ freeRooms c
+        → Made t a left i (puts h marked ∷ []) → Made a c i j (clearTexts r b) → free ≡ freeRooms c (blocks (length text))
         → Made c d j m (textStores h free 0 text) → Made d v m e (puts h unmarked ∷ [])
         → Tried t left (rewriting t h text) (b + blocks (length text) + 2) v
     rewrites marked unmarked free a c d v left i j m e x y w z g u s =
@@ -79,7 +82,7 @@ module _ (t : List ℕ) (h : ℕ) (text : List ℕ) (f : Fit t) (l : h < rooms t
         let last : Made d v m e (puts h (rewritten (rec t h) 0 (length text)) ∷ []) = rw (y, whole-there t h l) at s in
         let made : Made t v left e (front ++ onward (run t front)) =
         made-onto t c v left j e front onward (made-both t a c left i j _ (clearTexts r b) first z)
-        (made-both c d v j m e (textStores h (freeRooms c) 0 text) _ (rw g at u) last) in
+        (made-both c d v j m e (laid c) _ (rw g at u) last) in
         record { number = all-length ∙ ap length all-is; table = made .table ∙ rw all-is }
 
 -- at most two of the heading, a thousand of the old text and a thousand of the new

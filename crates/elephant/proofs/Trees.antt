@@ -23,7 +23,7 @@ use Rattle.laws.proofs.Tests.{and-left, clash}
 use Rattle.laws.proofs.Counts.{count-mono}
 use Rattle.laws.proofs.Entries.{stands-true}
 use Rattle.demands.proofs.Sound.Clauses.{Sound, sound-clauses, entry-code}
-use Rattle.effects.proofs.Papers.{sized-most}
+use Rattle.effects.proofs.Places.{sized-most}
 use Rattle.answers.specs.Shown.{shown}
 use Rattle.listing.specs.Shown.{isListed}
 use Rattle.listing.specs.declared.Listed.{Listed}

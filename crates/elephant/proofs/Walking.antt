@@ -14,8 +14,9 @@ use Rattle.paper.specs.Code.{noWrite}
 use Rattle.paper.specs.Answer.{Outcome, plain, single, stores, done, cut}
 use Rattle.paper.specs.Request.{Begin, own}
 use Rattle.paper.specs.Effect.{Plan, Planned, plan, Making, making, linkTaken, borne, displacing, fullUp, stillPeopled, noRoom}
-use Rattle.laws.proofs.Lists.{Every, length-each, getD-each}
+use Rattle.laws.proofs.Lists.{Every, length-each}
 use Rattle.effects.specs.Listed.{freeRooms}
+use Rattle.effects.proofs.Places.{front-here}
 use Rattle.answers.specs.Shown.{shown}
 use Rattle.answers.specs.declared.Answer.{Answer}
 use Rattle.elephant.specs.Done.{did, Did}
@@ -105,8 +106,8 @@ module _ (t : List ℕ) (k : ℕ) (m : Making) (c e : Check) (last : List Check)
 -- ---- a new file
 
 -- the first free record's number is small
-pub free-small : (t : List ℕ) → getD (freeRooms t) 0 0 < 65536
-free-small t = rw (getD-each (λ m. room t m % 65536) 1002 0 0 (omega arith)) (omega arith)
+pub free-small : (t : List ℕ) (k : ℕ) → 0 < k → getD (freeRooms t k) 0 0 < 65536
+free-small t k l = rw (front-here (λ m. room t m % 65536) 0 1002 k 0 l (omega arith)) (omega arith)
 
-pub free-length : (t : List ℕ) → 1002 ≡ length (freeRooms t)
-free-length t = sym (length-each (λ m. room t m % 65536) 1002)
+pub free-length : (t : List ℕ) (k : ℕ) → 1002 ≡ length (freeRooms t k)
+free-length t k = sym (length-each _ 1002)

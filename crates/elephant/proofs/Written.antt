@@ -20,7 +20,7 @@ module _ (t : List ℕ) (h : ℕ) (f : Fit t) (s : simple (rec t h) ≡ true) wh
   text-few = rw (text-length t h (f .sized) (f .sound) s) (length-few t h (f .sized) (f .sound) s)
 
   -- the part gathered from its own rooms: b is one past the last
-  pub part-there : (r : List ℕ) (a k b : ℕ) → r ≡ textRooms t h → b ≡ blocks (a + k) → a + k ≤ textLength (rec t h)
+  pub part-there : (r : List ℕ) (a k b : ℕ) → r ≡ textRooms t h b → b ≡ blocks (a + k) → a + k ≤ textLength (rec t h)
       → take k (drop (a % 24) (gathered t r (a / 24) b)) ≡ take k (drop a (fileText t h))
   part-there r a k b p q l = rw (p, q) (text-part t h (f .sized) (f .sound) s a k l)
 

@@ -93,7 +93,7 @@ pub data Names (t : List ℕ) (f : File) (named : ℕ) : Type 0 where
 pub record Ready (t r name text : List ℕ) (named : ℕ) (d : Holder) (f : File) : Type 0 where
   pub size : sized t ≡ true
   pub sound : sound t ≡ true
-  pub free : r ≡ freeRooms t
+  pub free : r ≡ freeRooms t (blocks (length text) + 2)
   pub short : length name ≤ 10
   pub few : length text ≤ 24000
   pub small : named < 65536

@@ -106,8 +106,8 @@ fn clear_both(table: &mut [u8], entry: Room, heading: Room, left: usize) -> usiz
         (gone (holderOf (rec (now (table .entry)) (entry .0))) (heading .0)) ++ freed (now (table .entry)) (heading .0)) r (now (table .exit)) ⌝ }
 {
     let mut rooms = [0u16; Text::MOST];
-    text_rooms(table, heading, &mut rooms);
     let count = blocks(text_length(table, heading)).0;
+    text_rooms(table, heading, Room(count), &mut rooms);
     let moves = gone(table, entry, heading);
     let counts = count_moves(table, moves);
     let rest = take_out(table, entry, moves, left);

@@ -3,12 +3,12 @@ use answers::Answer;
 use answers::Place;
 use effects::counts::count_moves;
 use effects::rooms::room_at;
-use effects::rooms::text_rooms;
 use effects::stage::put;
 use effects::stage::put_texts;
 use placing::Meets;
 use placing::Refusal;
 use placing::entry_refusal;
+use placing::lost_texts;
 use placing::meet;
 use placing::place_entry;
 use records::block::blocks;
@@ -168,7 +168,7 @@ pub(crate) fn make(
     }.laid(name);
     let stores = count_stores(table, first, meets);
     let mut texts = [0u16; Text::MOST];
-    text_rooms(table, meets.heading, &mut texts);
+    lost_texts(table, meets, &mut texts);
     let rest = put_file(table, file, rooms, text, stop as usize);
     place_entry(table, entry, meets, &texts, rest);
     Answer::stored(stores, stop, meets.displaced)

@@ -9,6 +9,7 @@ use declarations::part::Level;
 use effects::rooms::free_rooms;
 use effects::rooms::room_at;
 use placing::Refusal;
+use records::block::blocks;
 use records::bytes::Bytes;
 use records::bytes::Room;
 use records::bytes::part;
@@ -60,7 +61,8 @@ pub(crate) fn file(
         (lateChecks late)) r (now (table .exit)) ⌝ }
 {
     let mut rooms = [0u16; Entry::MOST_NEW];
-    free_rooms(table, &mut rooms);
+    let most = blocks(Bytes(text.len())).0 + 2;
+    free_rooms(table, Room(most), &mut rooms);
     let named = room_at(&rooms, 0);
     let file = File {
         new: true,
@@ -215,7 +217,7 @@ fn dup_in(
     let named = heading_named(table, f.entry);
     let both = entry_code(table, f.entry).joined(code);
     let mut rooms = [0u16; Entry::MOST_NEW];
-    free_rooms(table, &mut rooms);
+    free_rooms(table, Room(2), &mut rooms);
     let file = File {
         new: false,
         late: Refusal::none(),

@@ -59,11 +59,11 @@ fn copy_part(table: &[u8], heading: Room, first: Bytes, count: Bytes, reply: &mu
         (take (count .0) (drop (first .0) (fileText (now (table .entry)) (heading .0)))) ⌝ }
 {
     let mut rooms = [0u16; Text::MOST];
-    text_rooms(table, heading, &mut rooms);
     let a = first.0;
     let end = a + count.0;
     let from = Room(a / Text::MOST_HELD);
     let last = blocks(Bytes(end));
+    text_rooms(table, heading, last, &mut rooms);
     let skip = Bytes(a % Text::MOST_HELD);
     read_text(table, &rooms, from, last, skip, count, reply);
 }

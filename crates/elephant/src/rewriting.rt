@@ -51,17 +51,18 @@ fn rewrite_text(table: &mut [u8], heading: Room, text: &[u8], left: usize) -> us
     ensures { λ r. ⌜ Tried (now (table .entry)) left (rewriting (now (table .entry)) (heading .0) (now (text .entry))) r (now (table .exit)) ⌝ }
 {
     let mut old = [0u16; Text::MOST];
-    text_rooms(table, heading, &mut old);
     let count = blocks(text_length(table, heading)).0;
+    text_rooms(table, heading, Room(count), &mut old);
     let marked = rewritten(table, heading, Heading::MARKED, Bytes(0));
     let unmarked = rewritten(table, heading, Heading::UNMARKED, Bytes(text.len()));
     let first = put(table, heading, marked, left);
     let second = clear_texts(table, &old, Room(count), first);
     let mut new = [0u16; Entry::MOST_NEW];
-    free_rooms(table, &mut new);
+    let most = blocks(Bytes(text.len())).0;
+    free_rooms(table, Room(most), &mut new);
     let third = put_texts(table, heading, &new, 0, text, second);
     put(table, heading, unmarked, third);
-    count + blocks(Bytes(text.len())).0 + 2
+    count + most + 2
 }
 
 // The text of the file f, whose name is at this place: 14, 15, 19 and 24, and the stores.

@@ -34,12 +34,13 @@ use Rattle.scans.specs.declared.Found.the-variants.{At, Nowhere}
 use Rattle.records.specs.Counts.{heldCount}
 use Rattle.records.specs.declared.bytes.Room.{Room}
 use Rattle.effects.specs.Listed.{textRooms}
-use Rattle.effects.specs.Stage.{Made}
+use Rattle.effects.specs.Stage.{Made, clearStores}
 use Rattle.effects.specs.Counts.{countStores}
 use Rattle.effects.specs.declared.counts.Moves.{Moves}
 use Rattle.effects.proofs.Stages.{made-onto}
 use Rattle.effects.proofs.Papers.{file-freed}
-use Rattle.placing.specs.Placing.{lastBy, lostBy, instead, gone, met, Held, fullBy, peopledBy, losingBy, entryStores}
+use Rattle.placing.specs.Placing.{lastBy, lostBy, instead, gone, met, Held, fullBy, peopledBy, losingBy, lostTexts, entryStores}
+use Rattle.placing.specs.declared.Meets.{Meets}
 use Rattle.placing.proofs.Holding.{Before}
 use Rattle.placing.proofs.Entering.{eqb-turn, names-entry, over-enters, over-counts, free-counts, cleared-counts}
 
@@ -156,7 +157,7 @@ module _ (t : List ℕ) (fit : sized t ≡ true) (right : sound t ≡ true) wher
     pub placed-settled : (m : Making) → m .entry ≡ r → Before t (m .first) k → Held t hd → (f : F.Found) → find t hd n ≡ f
         → (f ≡ F.nowhere → length (m .first) < length (frees t))
         → placing t m f ≡ (let x = met t (foundShown f) hd k (room t (length (m .first))) in
-        m .first ++ entryStores (run t (m .first)) x (m .entry) (textRooms t (x .heading .0)))
+        m .first ++ entryStores (run t (m .first)) x (m .entry) (textRooms t (x .heading .0) (x .count .0)))
     unfolding settled
     placed-settled m z b h (F.at e) q l =
         let first : List Store = m .first in
@@ -178,3 +179,15 @@ module _ (t : List ℕ) (fit : sized t ≡ true) (right : sound t ≡ true) wher
     pub met-few : (f : F.Found) (free : ℕ) → find t hd n ≡ f → met t (foundShown f) hd k free .count .0 ≤ 1000
     met-few (F.at e) free q = found-few hd n e q
     met-few F.nowhere free q = omega arith
+
+-- the list of a lost file's text is asked for where one is lost, and of no other
+pub lost-listed : (t u : List ℕ) (m : Meets) (entry r : List ℕ)
+    → entryStores u m entry (lostTexts t m r) ≡ entryStores u m entry (textRooms t (m .heading .0) (m .count .0))
+lost-listed t u m entry r = ap (λ (ss : List Store). puts (m .room .0) entry ∷ (countStores (lay u (m .room .0) entry) (m .moves) ++ ss)) (go (m .lost))
+  where
+    texts : List ℕ
+    texts = textRooms t (m .heading .0) (m .count .0)
+
+    go : (b : Bool) → cond b (clearStores (m .heading .0) (cond b texts r) (m .count .0)) [] ≡ cond b (clearStores (m .heading .0) texts (m .count .0)) []
+    go true = refl
+    go false = refl

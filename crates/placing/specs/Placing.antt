@@ -17,6 +17,7 @@ use Rattle.answers.specs.Shown.{placeShown}
 use Rattle.scans.specs.declared.Found.{Found}
 use Rattle.scans.specs.declared.Found.the-variants.{At, Nowhere}
 use Rattle.records.specs.Counts.{namedCount, heldCount}
+use Rattle.effects.specs.Listed.{textRooms}
 use Rattle.effects.specs.Stage.{clearStores}
 use Rattle.effects.specs.Counts.{countStores}
 use Rattle.effects.specs.declared.counts.Moves.{Moves}
@@ -95,6 +96,10 @@ entryChecks t place d m needed =
 abbrev pub refusalShown : Verdict → Refusal
 refusalShown passed = record { number = 0; place = placeShown (whole 0) }
 refusalShown (refused f) = record { number = f .number; place = placeShown (f .place) }
+
+-- the text records of the file that is lost, by position, in the list r; where no file is lost the list stays
+abbrev pub lostTexts : List ℕ → Meets → List ℕ → List ℕ
+lostTexts t m r = cond (m .lost) (textRooms t (m .heading .0) (m .count .0)) r
 
 -- the entry, then the counts that it moves, and "if its file is now named by no entry: its heading cleared, then its text by position",
 -- whose records are listed in r. The paper's `placing` after the new file's stores, which leave table t

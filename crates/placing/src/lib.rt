@@ -2,6 +2,7 @@
 use answers::Place;
 use effects::counts::Moves;
 use effects::counts::recount;
+use effects::rooms::text_rooms;
 use effects::stage::clear_file;
 use effects::stage::put;
 use records::block::blocks;
@@ -15,7 +16,7 @@ use records::heading::named_count;
 use records::heading::text_length;
 use records::text::Text;
 use scans::Found;
-use scans::count_free;
+use scans::has_fewer_free;
 use scans::is_full;
 ghost use mathlib.Core.Bool.{_&&_, not};
 ghost use mathlib.Core.Path.{_≡_};
@@ -23,7 +24,7 @@ ghost use Rattle.paper.specs.Check.{whole, refusalAt, passed, refused, verdict}
 ghost use Rattle.records.specs.Shown.{holderShown};
 ghost use Rattle.answers.specs.Shown.{placeMeant};
 ghost use Rattle.effects.specs.Stage.{Made};
-ghost use Rattle.placing.specs.Placing.{lastBy, lostBy, met, fullBy, peopledBy, losingBy, entryChecks, refusalShown, entryStores};
+ghost use Rattle.placing.specs.Placing.{lastBy, lostBy, met, fullBy, peopledBy, losingBy, entryChecks, refusalShown, lostTexts, entryStores};
 
 // What a new entry meets: whether an entry bears its name; the record it goes to; whether the file that the entry names is lost
 // with it; that file's heading and how many text records it has; and the headings whose counts move.
@@ -176,10 +177,19 @@ pub fn entry_refusal(
     if is_losing(table, meets) {
         return Refusal { number: 18, place };
     }
-    if count_free(table).0 < needed {
+    if has_fewer_free(table, needed) {
         return Refusal::whole(19, 0);
     }
     Refusal::none()
+}
+
+// The text records, by position, of the file that is lost; where none is, none is looked for.
+pub fn lost_texts(table: &[u8], meets: Meets, texts: &mut [u16; Text::MOST])
+    ensures { λ _. ⌜ now (texts .exit) ≡ lostTexts (now (table .entry)) meets (now (texts .entry)) ⌝ }
+{
+    if meets.lost {
+        text_rooms(table, meets.heading, meets.count, texts);
+    }
 }
 
 // The entry's store, then the counts that it moves, and then the file lost with the entry that it displaces: its text records are

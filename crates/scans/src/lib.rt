@@ -7,6 +7,7 @@ use records::entry::bears;
 use records::entry::stands;
 ghost use mathlib.Core.Path.{_≡_};
 ghost use Prim.Native.Nat.{_<_};
+ghost use lib.Dec.{ltb};
 ghost use lib.ListN.{length};
 ghost use Rattle.paper.specs.Record.{isKind};
 ghost use Rattle.paper.specs.Table.{rooms, rec, frees};
@@ -101,6 +102,25 @@ pub fn count_free(table: &[u8]) -> Room
         i += 1;
     }
     Room(count)
+}
+
+// Whether fewer records are free than a request needs; no more than it needs are counted.
+pub fn has_fewer_free(table: &[u8], needed: usize) -> bool
+    ensures { λ r. ⌜ r ≡ ltb (length (frees (now (table .entry)))) needed ⌝ }
+{
+    let n = rooms(table).0;
+    let mut count: usize = 0;
+    let mut i: usize = 0;
+    while i < n {
+        if needed <= count {
+            return false;
+        }
+        if is_kind(table, i, Room::FREE) {
+            count += 1;
+        }
+        i += 1;
+    }
+    count < needed
 }
 
 // The lowest free record from a record on, or one past the last.

@@ -238,14 +238,25 @@ fn counted(library: &Library, row: &Row, table: &mut [u8], reply: &mut [u8]) {
     }
 }
 
+/// The table as a library takes it: one from before the headings had counts takes it without them.
+fn fitted(library: &Library, table: &[u8]) -> Vec<u8> {
+    let mut fitted = table.to_vec();
+    if library.number(&Call::Judge, &mut fitted, &mut []) != 0 {
+        let headings = fitted.chunks_mut(32).filter(|record| record[0] == 1);
+        headings.for_each(|heading| heading[12..16].fill(0));
+    }
+    fitted
+}
+
 /// The least nanoseconds of the row in each library, in turns.
 fn least(libraries: &[Library; 2], row: &Row, turns: usize) -> [f64; 2] {
-    let before = (row.table)(&libraries[0]);
-    let (mut table, mut reply) = (before.clone(), vec![0; LONG]);
+    let made = (row.table)(&libraries[1]);
+    let tables = libraries.each_ref().map(|library| fitted(library, &made));
+    let (mut table, mut reply) = (made, vec![0; LONG]);
     let mut times = [f64::MAX; 2];
     for _ in 0..turns.min(row.turns) {
-        for (time, library) in times.iter_mut().zip(libraries) {
-            table.copy_from_slice(&before);
+        for (time, (library, before)) in times.iter_mut().zip(libraries.iter().zip(&tables)) {
+            table.copy_from_slice(before);
             *time = time.min(nanoseconds(|| {
                 counted(library, row, &mut table, &mut reply)
             }));

@@ -32,20 +32,14 @@ loop-holds c =
 room-at-requires : tie.Need-room-at-requires Inv-loop μ-loop
 room-at-requires c κs = search needs
 
-held-at-requires : tie.Need-held-at-requires Inv-loop μ-loop
-held-at-requires c κs = search needs
+sub-read-record : tie.Need-sub-read-record Inv-loop μ-loop
+sub-read-record c = omega (arith, c .before .before .before .before .loop .inv .2)
 
-part-requires : tie.Need-part-requires Inv-loop μ-loop
-part-requires c κs = search needs
-
-sub-copy-in : tie.Need-sub-copy-in Inv-loop μ-loop
-sub-copy-in c = omega arith
-
-copy-in-requires : tie.Need-copy-in-requires Inv-loop μ-loop
-copy-in-requires c κs = search needs
+read-record-requires : tie.Need-read-record-requires Inv-loop μ-loop
+read-record-requires c κs = search needs
 
 sub-left : tie.Need-sub-left Inv-loop μ-loop
-sub-left c = part-most _ _ _ (c .before .before .before .before .part .ensures)
+sub-left c = rw (c .before .before .before .read-record .ensures .1) (part-most _ _ _ refl)
 
 less-requires : tie.Need-less-requires Inv-loop μ-loop
 less-requires c κs = search needs
@@ -58,18 +52,16 @@ loop-less c = omega arith
 
 loop-again : tie.Need-loop-again Inv-loop μ-loop
 loop-again c =
-    let k = c .before .before .before in
-    let at-part = k .before .before in
-    let at-held = at-part .before in
-    let at-room = at-held .before in
-    let turn = at-room .before .before .before in
-    let a = turn .before .before .before .args in
-    let l = turn .loop in
+    let at-read = c .before .before .before .before in
+    let at-room = at-read .before .before in
+    let l = at-room .before .before .before .loop in
+    let a = at-room .before .before .before .before .before .before .args in
     let f : ℕ → List ℕ = λ i. held (rec (a .table .now) (getD (a .rooms .now) i 0)) in
-    let x = rw (at-room .room-at .ensures) at (at-held .held-at .ensures) in
+    let r = rw (at-room .room-at .ensures) at (at-read .read-record .ensures) in
+    let s : List ℕ = take (l .left) (drop (l .skip) (f (l .p))) in
     let m =
-    part-more f _ _ _ _ (a .most .0) (l .left) (l .skip) (l .p) (a .end .0) (omega arith) (l .inv .2) x (at-part .part .ensures) (k .copy-in .ensures) in
-    (rw (c .less .ensures) (m ∙ l .inv .0), omega arith, omega arith)
+    part-more f _ _ s (f (l .p)) (a .most .0) (l .left) (l .skip) (l .p) (a .end .0) (omega arith) (l .inv .2) refl refl (r .2) in
+    (rw (c .less .ensures, r .0, r .1) (m ∙ l .inv .0), omega arith, omega (arith, r .1))
 
 same-length : tie.Need-same-length Inv-loop μ-loop
 same-length c = c .before .loop .inv .1
@@ -89,10 +81,8 @@ read-text-spec =
     μ-loop
     loop-holds
     room-at-requires
-    held-at-requires
-    part-requires
-    sub-copy-in
-    copy-in-requires
+    sub-read-record
+    read-record-requires
     sub-left
     less-requires
     add-p

@@ -1,10 +1,15 @@
--- A record that is no text, or text of another heading, changes nothing; text of this heading is written at its position.
--- A position past the list changes nothing, as a store past the end does by definition.
-use mathlib.Core.Path.{sym, _∙_}
+-- A record that is no text of this heading, or whose position is past the first or has a record, changes nothing of what is known.
+-- Else its position had none among the records before it, so this record is the lowest there, and one position fewer is without.
+use mathlib.Core.Bool.{true}
+use mathlib.Core.Path.{_≡_, sym, ap, _∙_}
+use Prim.Native.Nat.{ℕ, _<_}
 use native.Mathlib.Omega.{arith}
-use lib.Seq.{set-out}
+use lib.ListN.{getD}
 use borrow.Author.Needs.{needs}
-use Rattle.effects.proofs.Places.{text-by, wrong-kind, wrong-heading}
+use Rattle.paper.specs.Record.{position}
+use Rattle.paper.specs.Table.{rooms, rec}
+use Rattle.effects.specs.Listed.{textOf}
+use Rattle.effects.proofs.Places.{text-by, wrong-kind, wrong-heading, placed-off, placed-past, placed-had, placed-some, placed-new}
 use Rattle.effects.proofs.rooms.place_text.Statement.{statement}
 use Rattle.effects.proofs.rooms.place_text.Tie as tie
 
@@ -16,19 +21,44 @@ shared-slice-read-if1 c = search needs
 
 returns : tie.Need-returns
 returns c =
-    let s = c .before .before .before .args in
-    rw (wrong-kind (s .table .now) (s .heading .0) (s .i) (c .if1 .taken))
+    let s = c .before .before .before in
+    let a = s .args in
+    placed-off _ _ _ _ _ _ (s .pre .3) (wrong-kind (a .table .now) (a .heading .0) (a .i) (c .if1 .taken))
 
 heading-of-requires : tie.Need-heading-of-requires
 heading-of-requires c κs = search needs
 
 returns-2 : tie.Need-returns-2
 returns-2 c =
-    let s = c .before .before .before .before .before .before .before .args in
-    rw (wrong-heading (s .table .now) (s .heading .0) (s .i) (λ x. c .if2 .taken (c .before .before .before .heading-of .ensures .0 ∙ x)))
+    let at-heading = c .before .before .before in
+    let s = at-heading .before .before .before .before in
+    let a = s .args in
+    placed-off _ _ _ _ _ _ (s .pre .3)
+    (wrong-heading (a .table .now) (a .heading .0) (a .i) (λ x. c .if2 .taken (at-heading .heading-of .ensures .0 ∙ x)))
 
 position-of-requires : tie.Need-position-of-requires
 position-of-requires c κs = search needs
+
+returns-3 : tie.Need-returns-3
+returns-3 c =
+    let s = c .before .before .before .before .before .before .before .before .before in
+    placed-past _ _ _ _ _ _ (s .pre .3) (omega (arith, c .before .position-of .ensures .0))
+
+mul-if4 : tie.Need-mul-if4
+mul-if4 c = search needs
+
+element-copy-out-if4 : tie.Need-element-copy-out-if4
+element-copy-out-if4 c = search needs
+
+returns-4 : tie.Need-returns-4
+returns-4 c =
+    let at-position = c .before .before .before in
+    let s = at-position .before .before .before .before .before .before .before .before in
+    let a = s .args in
+    let p : ℕ = position (rec (a .table .now) (a .i)) in
+    placed-had _ _ _ _ _ _ (s .pre .3)
+    (λ (x : getD (a .places .now) p 0 ≡ rooms (a .table .now)).
+    c .if4 .taken (ap (λ (j : ℕ). getD (a .places .now) j 0) (at-position .position-of .ensures .0) ∙ x ∙ sym (s .pre .1)))
 
 short-requires : tie.Need-short-requires
 short-requires c κs = search needs
@@ -39,26 +69,39 @@ mul-places c = search needs
 element-write-places : tie.Need-element-write-places
 element-write-places c = search needs
 
-returns-3 : tie.Need-returns-3
-returns-3 c =
-    let c3 = c .before .before .before in
-    let c6 = c3 .before .before .before in
-    let c7 = c6 .before in
-    let c10 = c7 .before .before .before in
-    let s = c10 .args in
-    rw (text-by (s .table .now) (s .heading .0) (s .i) (c7 .if1 .left)
-    (sym (c6 .heading-of .ensures .0) ∙ c3 .if2 .left))
-    (rw (← (c .before .before .position-of .ensures .0), ← (c .short .ensures)))
+sub-result : tie.Need-sub-result
+sub-result c =
+    let at-position = c .before .before .before .before in
+    let at-heading = at-position .before .before .before .before in
+    let at-kind = at-heading .before in
+    let s = at-kind .before .before .before in
+    let a = s .args in
+    let t = a .table .now in
+    let q = at-position .position-of .ensures .0 in
+    let x : textOf (a .heading .0) (rec t (a .i)) ≡ true =
+    text-by t (a .heading .0) (a .i) (at-kind .if1 .left) (sym (at-heading .heading-of .ensures .0) ∙ at-position .before .if2 .left) in
+    let m : position (rec t (a .i)) < a .most = omega (arith, q) in
+    let none : getD (a .places .now) (position (rec t (a .i))) 0 ≡ rooms t =
+    ap (λ (j : ℕ). getD (a .places .now) j 0) (sym q) ∙ c .before .if4 .left ∙ s .pre .1 in
+    let v : c .short .result ≡ a .i = omega (arith, c .short .ensures) in
+    placed-some t (a .heading .0) (a .most) (a .places .now) (a .left) (a .i) (s .pre .3) (c .short .result) v (s .pre .0) (s .pre .2) x m none
 
-returns-4 : tie.Need-returns-4
-returns-4 c =
-    let c5 = c .before .before .before .before .before in
-    let c6 = c5 .before in
-    let c9 = c6 .before .before .before in
-    let s = c9 .args in
-    rw (text-by (s .table .now) (s .heading .0) (s .i) (c6 .if1 .left)
-    (sym (c5 .heading-of .ensures .0) ∙ c .before .before .if2 .left))
-    (sym (set-out _ _ _ (omega (arith, c .before .position-of .ensures .0))))
+returns-5 : tie.Need-returns-5
+returns-5 c =
+    let at-position = c .before .before .before .before in
+    let at-heading = at-position .before .before .before .before in
+    let at-kind = at-heading .before in
+    let s = at-kind .before .before .before in
+    let a = s .args in
+    let t = a .table .now in
+    let q = at-position .position-of .ensures .0 in
+    let x : textOf (a .heading .0) (rec t (a .i)) ≡ true =
+    text-by t (a .heading .0) (a .i) (at-kind .if1 .left) (sym (at-heading .heading-of .ensures .0) ∙ at-position .before .if2 .left) in
+    let m : position (rec t (a .i)) < a .most = omega (arith, q) in
+    let none : getD (a .places .now) (position (rec t (a .i))) 0 ≡ rooms t =
+    ap (λ (j : ℕ). getD (a .places .now) j 0) (sym q) ∙ c .before .if4 .left ∙ s .pre .1 in
+    let v : c .short .result ≡ a .i = omega (arith, c .short .ensures) in
+    rw q (placed-new t (a .heading .0) (a .most) (a .places .now) (a .left) (a .i) (s .pre .3) (c .short .result) v (s .pre .0) (s .pre .2) x m none)
 
 pub place-text-spec : {M : Type 1} → statement M
 place-text-spec =
@@ -70,8 +113,12 @@ place-text-spec =
     heading-of-requires
     returns-2
     position-of-requires
+    returns-3
+    mul-if4
+    element-copy-out-if4
+    returns-4
     short-requires
     mul-places
     element-write-places
-    returns-3
-    returns-4)
+    sub-result
+    returns-5)

@@ -29,17 +29,18 @@ clear-file-requires c κs = search needs
 
 add-result : tie.Need-add-result
 add-result c =
-    let at-blocks = c .before .before .before .before .before .before .before .before .before .before .before .before .before in
+    let at-take = c .before .before .before .before .before .before .before in
+    let at-rooms = at-take .before .before .before .before .before .before in
+    let at-blocks = at-rooms .before .before .before in
     omega (arith, at-blocks .blocks2 .ensures, at-blocks .before .text-length .ensures .1)
 
 add-result-2 : tie.Need-add-result-2
 add-result-2 c =
-    omega (
-      arith,
-      c .before .before .before .before .before .before .before .before .before .before .before .before .before .blocks2 .ensures,
-      c .before .before .before .before .before .before .before .before .before .before .before .before .before .before .text-length .ensures .1,
-      c .before .before .before .before .before .before .before .before .before .count-moves .ensures .1,
-    )
+    let at-take = c .before .before .before .before .before .before .before in
+    let at-count = at-take .before .before in
+    let at-rooms = at-count .before .before .before .before in
+    let at-blocks = at-rooms .before .before .before in
+    omega (arith, at-blocks .blocks2 .ensures, at-blocks .before .text-length .ensures .1, at-count .count-moves .ensures .1)
 
 same-length : tie.Need-same-length
 same-length c = search needs
@@ -50,10 +51,10 @@ returns c =
     let at-take = at-clear .before .before .before .before .before in
     let at-count = at-take .before .before in
     let at-gone = at-count .before .before in
-    let at-blocks = at-gone .before .before in
+    let at-rooms = at-gone .before .before in
+    let at-blocks = at-rooms .before .before .before in
     let at-length = at-blocks .before in
-    let at-rooms = at-length .before .before in
-    let start = at-rooms .before .before .before .before in
+    let start = at-length .before .before .before in
     let a = start .args in
     let p = start .pre in
     rw (← at-gone .gone .ensures)
@@ -64,9 +65,9 @@ pub clear-both-spec : {M : Type 1} → statement M
 clear-both-spec =
     tie.close
     (tie.spec
-    text-rooms-requires
     text-length-requires
     blocks-requires
+    text-rooms-requires
     gone-requires
     count-moves-requires
     take-out-requires

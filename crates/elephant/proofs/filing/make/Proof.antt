@@ -6,7 +6,7 @@ use Rattle.effects.specs.Listed.{textRooms}
 use Rattle.effects.proofs.Stages.{made-onto}
 use Rattle.placing.specs.Placing.{entryStores}
 use Rattle.elephant.proofs.Ending.{file-count, ends-refused, ends-stored}
-use Rattle.placing.proofs.Meeting.{met-few}
+use Rattle.placing.proofs.Meeting.{met-few, lost-listed}
 use Rattle.answers.specs.Shown.{placeMeant}
 use borrow.Author.Needs.{needs}
 use Rattle.elephant.proofs.filing.make.Statement.{statement}
@@ -73,8 +73,8 @@ count-stores-requires c κs =
           (start .pre .small) _ _ refl),
     )
 
-text-rooms-requires : tie.Need-text-rooms-requires
-text-rooms-requires c κs = search needs
+lost-texts-requires : tie.Need-lost-texts-requires
+lost-texts-requires c κs = search needs
 
 put-file-requires : tie.Need-put-file-requires
 put-file-requires c κs = search needs
@@ -92,8 +92,8 @@ returns-2 : tie.Need-returns-2
 returns-2 c =
     let at-place-entry = c .before .before .before in
     let at-put-file = at-place-entry .before .before .before .before .before in
-    let at-text-rooms = at-put-file .before .before in
-    let at-count = at-text-rooms .before .before .before in
+    let at-lost-texts = at-put-file .before .before in
+    let at-count = at-lost-texts .before .before .before in
     let at-laid = at-count .before .before in
     let at-if1 = at-laid .before in
     let at-refusal = at-if1 .before .before in
@@ -116,8 +116,8 @@ returns-2 c =
     (r .result) (rw (at-needed .needed .ensures, n .ensures) at (r .ensures))
     (at-if1 .if1 .left) (p .last .0) (e .result) (p .result)
     (rw (take-all 10 (a .name .now) (start .pre .short)) at (e .ensures))
-    (made-onto _ _ _ _ _ _ _ (λ u. entryStores u (m .result) (e .result) (textRooms (a .table .now) (m .result .heading .0)))
-    (at-put-file .put-file .ensures) (rw (at-text-rooms .text-rooms .ensures) at (p .ensures))))
+    (made-onto _ _ _ _ _ _ _ (λ u. entryStores u (m .result) (e .result) (textRooms (a .table .now) (m .result .heading .0) (m .result .count .0)))
+    (at-put-file .put-file .ensures) (rw (at-lost-texts .lost-texts .ensures, lost-listed) at (p .ensures))))
 
 pub make-spec : {M : Type 1} → statement M
 make-spec =
@@ -134,7 +134,7 @@ make-spec =
     returns
     laid-requires
     count-stores-requires
-    text-rooms-requires
+    lost-texts-requires
     put-file-requires
     place-entry-requires
     stored-requires

@@ -59,7 +59,7 @@ make-requires c κs =
     record {
       size = p .size;
       sound = p .sound;
-      free = at-free-rooms .free-rooms .ensures;
+      free = rw (c .before .before .part .ensures) (at-free-rooms .free-rooms .ensures);
       short = rw (c .before .before .before .last-name .ensures) (p .short);
       few = rw (c .before .before .part .ensures) (omega arith);
       small = h .ensures .1;

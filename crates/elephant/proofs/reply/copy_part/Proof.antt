@@ -12,7 +12,7 @@ text-rooms-requires c κs = search needs
 
 add-end : tie.Need-add-end
 add-end c =
-    let start = c .before .before .before .before .before in
+    let start = c .before .before .before in
     let a = start .args in
     let p = start .pre in
     omega (arith, p .2, length-few (a .table .now) (a .heading .0) (p .0 .sized) (p .0 .sound) (p .1))
@@ -28,9 +28,9 @@ same-length c = search needs
 
 returns : tie.Need-returns
 returns c =
-    let at-blocks2 = c .before .before .before .before .before in
-    let at-text-rooms = at-blocks2 .before .before in
-    let start = at-text-rooms .before .before .before .before in
+    let at-text-rooms = c .before .before .before .before .before in
+    let at-blocks2 = at-text-rooms .before .before in
+    let start = at-blocks2 .before .before .before .before in
     let a = start .args in
     let p = start .pre in
     rw (← (part-there (a .table .now) (a .heading .0) (p .0) (p .1) _ (a .first .0) (a .count .0) (at-blocks2 .blocks2 .result .0)
@@ -40,9 +40,9 @@ pub copy-part-spec : {M : Type 1} → statement M
 copy-part-spec =
     tie.close
     (tie.spec
-    text-rooms-requires
     add-end
     blocks-requires
+    text-rooms-requires
     read-text-requires
     same-length
     returns)

@@ -9,7 +9,7 @@ use Rattle.paper.specs.Listing.{listed, lines}
 use Rattle.listing.specs.Shown.{isListed}
 use Rattle.listing.proofs.Promised.{reply-after}
 use Rattle.elephant.proofs.Verdicts.{none-left, wrote-short, wrote-out}
-use Rattle.effects.proofs.Papers.{sized-most}
+use Rattle.effects.proofs.Places.{sized-most}
 use borrow.Author.Needs.{needs}
 use Rattle.elephant.proofs.reply.list.Statement.{statement}
 use Rattle.elephant.proofs.reply.list.Tie as tie

@@ -41,55 +41,59 @@ blocks-requires-2 c κs = search needs
 
 add-result : tie.Need-add-result
 add-result c =
-    let at-length = c .before .before .before .before .before .before .before .before .before .before .before .before .before .before .before .before .before .before .before .before .before .before .before .before .before .before .before .before in
-    let at-blocks = c .before .before .before .before .before .before .before .before .before .before .before .before .before .before .before .before .before .before .before .before .before .before .before .before .before .before .before in
-    omega (arith, c .before .blocks3 .ensures, at-blocks .blocks2 .ensures, at-length .text-length .ensures .1)
+    let at-new = c .before .before .before .before .before .before .before .before .before .before .before .before in
+    let at-first = at-new .before .before .before .before .before .before .before .before in
+    let at-blocks = at-first .before .before .before .before .before .before .before .before .before in
+    omega (arith, at-new .blocks3 .ensures, at-blocks .blocks2 .ensures, at-blocks .before .text-length .ensures .1)
 
 add-result-2 : tie.Need-add-result-2
 add-result-2 c =
-    let at-length = c .before .before .before .before .before .before .before .before .before .before .before .before .before .before .before .before .before .before .before .before .before .before .before .before .before .before .before .before in
-    let at-blocks = c .before .before .before .before .before .before .before .before .before .before .before .before .before .before .before .before .before .before .before .before .before .before .before .before .before .before .before in
-    omega (arith, c .before .blocks3 .ensures, at-blocks .blocks2 .ensures, at-length .text-length .ensures .1)
+    let at-new = c .before .before .before .before .before .before .before .before .before .before .before .before in
+    let at-first = at-new .before .before .before .before .before .before .before .before in
+    let at-blocks = at-first .before .before .before .before .before .before .before .before .before in
+    omega (arith, at-new .blocks3 .ensures, at-blocks .blocks2 .ensures, at-blocks .before .text-length .ensures .1)
 
 same-length : tie.Need-same-length
 same-length c = search needs
 
 returns : tie.Need-returns
 returns c =
-    let at-last = c .before .before .before .before in
+    let at-last = c .before .before in
     let at-texts = at-last .before .before .before .before in
     let at-free = at-texts .before .before .before in
-    let at-clear = at-free .before .before .before .before .before in
+    let at-new = at-free .before .before .before in
+    let at-clear = at-new .before .before .before in
     let at-first = at-clear .before .before .before .before .before in
     let at-unmarked = at-first .before .before in
     let at-marked = at-unmarked .before .before in
-    let at-blocks = at-marked .before .before in
+    let at-rooms = at-marked .before .before in
+    let at-blocks = at-rooms .before .before .before in
     let at-length = at-blocks .before in
-    let at-rooms = at-length .before .before in
-    let start = at-rooms .before .before .before .before .before in
+    let start = at-length .before .before .before .before in
     let a = start .args in
     let p = start .pre in
-    rw (c .before .blocks3 .ensures)
+    rw (at-new .blocks3 .ensures)
     (rewrites (a .table .now) (a .heading .0) (a .text .now) (p .0) (p .1) (p .2) (p .3)
     _ _ _ (at-rooms .text-rooms .ensures) (at-blocks .blocks2 .ensures) (at-length .text-length .ensures .0)
     _ _ _ _ _ _ _ _ _ _ _ _ (at-marked .rewritten .ensures) (at-unmarked .rewritten2 .ensures)
-    (at-first .put .ensures) (at-clear .clear-texts .ensures) (at-free .free-rooms .ensures) (at-texts .put-texts .ensures) (at-last .put2 .ensures))
+    (at-first .put .ensures) (at-clear .clear-texts .ensures) (rw (at-new .blocks3 .ensures) at (at-free .free-rooms .ensures))
+    (at-texts .put-texts .ensures) (at-last .put2 .ensures))
 
 pub rewrite-text-spec : {M : Type 1} → statement M
 rewrite-text-spec =
     tie.close
     (tie.spec
-    text-rooms-requires
     text-length-requires
     blocks-requires
+    text-rooms-requires
     rewritten-requires
     rewritten-requires-2
     put-requires
     clear-texts-requires
+    blocks-requires-2
     free-rooms-requires
     put-texts-requires
     put-requires-2
-    blocks-requires-2
     add-result
     add-result-2
     same-length
