@@ -15,11 +15,11 @@ const NO_STOP: u32 = 65535;
 const USER: u32 = 1;
 const LONG: usize = 24_000;
 
-/// As many numbers as an answer ever had: a library writes those that it knows, the first one always.
-#[repr(C)]
+/// As many bytes as an answer ever had: a library writes those that it knows, the number first.
+#[repr(C, align(8))]
 struct Answer {
     number: u32,
-    rest: [u32; 7],
+    rest: [u32; 9],
 }
 
 type Judge = unsafe extern "C" fn(*const u8, usize) -> u8;
