@@ -1,8 +1,8 @@
 /*
- * The file box: nine functions and mending over a table that the caller lends (document 01, "Records, requests and replies of the file
- * box") with gives and takes between users (document 02, request g) and counts in its headings (request c), and the lamp, which files the
- * sheets of a job and reads each back (request m). Link with libfilebox_c.a, which `rt staticlib filebox_c` writes for x86-64; it keeps
- * nothing between calls, allocates nothing, and needs of the C library at most memcpy, memmove and memset.
+ * The file box: requests and mending over a table that the caller lends (document 01, "Records, requests and replies of the file box"),
+ * with parts of a sheet, trees, rewrites, gives and takes, files destroyed everywhere, and counts in the headings (document 02), and the
+ * lamp, which files the sheets of a job and reads each back (its request m). Link with libfilebox_c.a, which `rt staticlib filebox_c`
+ * writes for x86-64; it keeps nothing between calls, allocates nothing, and needs of the C library at most memcpy, memmove and memset.
  *
  * The functions are proved for every table, line, text, reply buffer, sheets, texts, read-back buffer, chain, user and stop number:
  * whatever the bytes are, a call returns, with one of the numbers below. The proof begins where C hands its arguments over, so these the
@@ -111,20 +111,25 @@ struct filebox_answer {
  * old text. While it is under way the file is marked (byte 5 of its heading is 1) and has length 0. A file that a cut left marked is
  * refused by RDS and CPY (23) and is otherwise a file as any; another WRS* repairs it.
  *
+ * DST takes 1 to 8 names and destroys each file everywhere: its heading is cleared, then its text by position, then every entry that names
+ * it, of whatever user and in whatever directory, by record number; then the counts of the directories that held one are corrected. It
+ * needs write on the file, and asks nothing of the directories, nor of those who hold the other entries. A directory with entries, its own
+ * included, gets 18. A name of a file that a name before it destroyed gets 11.
+ *
  * Granted (0): the whole job is done, exactly as the documents have it, in table and reply.
- * Refused (1 to 21, 23 to 25, 27, 28): table and reply are as lent, byte for byte. Only a DEL of several names keeps what the names before
- *   the refused one did: names says how many, stores how many stores that took.
+ * Refused (1 to 21, 23 to 25, 27, 28): table and reply are as lent, byte for byte. Only a DEL or a DST of several names keeps what the names
+ *   before the refused one did: names says how many, stores how many stores that took.
  * Stopped (22): exactly the first stop stores of the request were made, and reply is as lent. filebox_mend then gives, byte for byte, the
- *   table before the request or the table after it (for a DEL: after some first part of its names; for a WRS* cut between its first and its
- *   last store: the table after it with that one file marked and empty). So a stop number stands for a power cut between two stores.
+ *   table before the request or the table after it (for a DEL or a DST: after some first part of its names; for a WRS* cut between its first
+ *   and its last store: the table after it with that one file marked and empty). So a stop number stands for a power cut between two stores.
  */
 struct filebox_answer filebox_request(uint8_t *table, size_t table_length, const uint8_t *line, size_t line_length, const uint8_t *text,
                                       size_t text_length, uint8_t *reply, size_t reply_length, uint32_t user, uint32_t stop);
 
 /*
- * Mending, after a power cut: clears every heading that no entry names, then every text record whose heading is not a simple file's, or is
- * marked; then corrects the counts of the headings that are left, a store for each that has an untrue one. A mark stays. A sound table is
- * left as it is. A table of document 01, which has no counts, is brought up to date by one mend.
+ * Mending, after a power cut: clears every entry that names no heading, then every heading that no entry names, then every text record whose
+ * heading is not a simple file's, or is marked; then corrects the counts of the headings that are left, a store for each that has an untrue
+ * one. A mark stays. A sound table is left as it is. A table of document 01, which has no counts, is brought up to date by one mend.
  *
  * Done (0): the table is sound. Refused (1, 2): it is as lent. Stopped (22): the first stop stores stand, and a mend cut anywhere and run
  * again ends as an uncut one. place, link, names, displaced and bytes are 0.
@@ -203,6 +208,11 @@ struct filebox_lamp filebox_lamp(uint8_t *table, size_t table_length, const uint
  * and gives, byte for byte, the table before the request or the table after it: after it once the record of phase 2 is there. A phase
  * without records needs no flush. A DEL of several names is written name by name; a mend writes what it clears and counts in any order.
  * Counts need no flush of their own: a heading of which they alone are others may be written at any time.
+ *
+ * A DST has two phases, which the tables before and after do not tell, since it is the heading that counts: write the records that differ
+ * between the table before and the one at stop number 1 (the heading, cleared), a flush, then all others that differ between that and the
+ * table after, in any order, a flush. Of several names it is written name by name, the table before a name being the one at the least stop
+ * number at which the names before it are done. What is on the disk is mended to the table before, or after once the heading is cleared.
  *
  * A WRS* has phases of its own, which the tables before and after do not tell, since old and new text may share a record. With n the stores
  * of its answer, write the records that differ between the table before and the one at stop number 1 (the heading, marked), a flush, those

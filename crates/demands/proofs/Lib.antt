@@ -17,12 +17,14 @@ pub mod PowerCut
 pub mod Listed
 -- the tree: `depth-one`, `first-line`, `shallower`
 pub mod Tree
--- where entries stand: `entry-stood`, `others-stay`
+-- where entries stand: `entry-stood`, `others-stay`, `destroyed-entries`
 pub mod Standing
 -- give and take: `nobody-more`, `never-displaces`
 pub mod Received
 -- parts of a sheet: `parts-join`, `part-shown`, `part-read`, `dashes-whole`, `octal-asked`
 pub mod Parts
+-- a file destroyed: `destroyed-everywhere`
+pub mod Destroyed
 -- a file rewritten: `rewrite-stores`, `rewrite-when`, `rewrite-read`
 pub mod Rewrites
 -- lines and texts longer than any that is read: `requested-cut`

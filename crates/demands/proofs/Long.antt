@@ -12,7 +12,7 @@ use lib.Seq.{take-all, length-take-le}
 use borrow.Author.Tests.{lt-ltb, lt-leb, ltb-true, ltb-false}
 use Rattle.paper.specs.Line.{legalLine}
 use Rattle.paper.specs.Check.{Verdict, passed, refused, verdict}
-use Rattle.paper.specs.Request.{Read, request, unread, read, asked, withText, crd, wrs, rds, cpy, dup, chn, del, dpr, lst, lstBase, lstTree, lstBaseTree, rewrite}
+use Rattle.paper.specs.Request.{Read, request, unread, read, asked, withText, crd, wrs, rds, cpy, dup, chn, del, dst, dpr, lst, lstBase, lstTree, lstBaseTree, rewrite}
 use Rattle.paper.specs.Answer.{requested, entrance, admitted, acted, granted}
 use Rattle.laws.proofs.Tests.{truth}
 
@@ -49,6 +49,7 @@ module _ (t reply : List ℕ) (u k : ℕ) (text : List ℕ) (l : 24000 < length 
   acted-long (request (dup from old to new code)) = refl
   acted-long (request (chn old link)) = refl
   acted-long (request (del names)) = refl
+  acted-long (request (dst names)) = refl
   acted-long (request (dpr name code)) = refl
   acted-long (request (lst from name)) = refl
   acted-long (request lstBase) = refl

@@ -4,6 +4,8 @@
 pub mod Formed
 pub mod Fair
 pub mod Begun
+-- DEL and DST, said once
+pub mod Several
 pub mod Chains
 pub mod Spoken
 pub mod Read

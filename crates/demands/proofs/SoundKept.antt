@@ -51,6 +51,6 @@ sound-kept t line text reply u k s e a = right-sound (requested t line text repl
     go : Tried t line text reply u → Right (requested t line text reply u k .table)
     go (lent f q) = rw (q k) c
     go (by-plan x safe keeps q) = rw (q k) (single-sound t reply k c x keeps (rw (q k) at a))
-    go (by-names names d q) = rw (q k) (deleting-sound names t u reply k 0 0 c (rw (q k) at a))
+    go (by-names s names d q) = rw (q k) (deleting-sound s names t u reply k 0 0 c (rw (q k) at a))
     go (by-rewrite name d b q) =
         rw (q k) (single-sound t reply k c (rewritePlan t u text name) (rewrite-keeps t (c .clauses) u text name b (c .counts)) (rw (q k) at a))

@@ -1,6 +1,8 @@
 -- The one entry that a plan lays, changes or clears stands where its own walk ended, before and after: every other store is of a heading or
--- of text. A walk of user u ends in the base list of u or in a directory, a give in a directory; so another user's base list stays.
-use mathlib.Core.Bool.{true}
+-- of text. A walk of user u ends in the base list of u or in a directory, a give in a directory; so another user's base list stays, but for
+-- what a DST clears there with the file that it named.
+pub mod Razed
+use mathlib.Core.Bool.{true, true≢false}
 use mathlib.Core.List.{List, [], _∷_, _++_}
 use mathlib.Core.Logic.{_⊎_, inl, inr, _≢_, by-cases}
 use mathlib.Core.Path.{_≡_, refl, sym, ap, _∙_}
@@ -8,6 +10,7 @@ use Prim.Native.Nat.{ℕ, suc, _+_, _-_, _≤_, _<_}
 use native.Mathlib.Omega.{arith}
 use native.Mathlib.Decide.{ℕ-discrete}
 use lib.ListN.{length, take, drop}
+use lib.Seq.{take-all}
 use borrow.Author.Tests.{ltb-false}
 use Rattle.paper.specs.Scan.{Found, at, nowhere}
 use Rattle.paper.specs.Record.{byte, headingNamed, blank, level, lifetime, entryCode, headingRecord, rewritten}
@@ -16,14 +19,14 @@ use Rattle.paper.specs.Name.{dotG, pointed, chain}
 use Rattle.paper.specs.Declaration.{Part, orElse}
 use Rattle.paper.specs.Line.{Word}
 use Rattle.paper.specs.Check.{Check, passed, verdict}
-use Rattle.paper.specs.Request.{Begin, own, takeOf, giveTo, Request, crd, wrs, rds, cpy, dup, chn, del, dpr, lst, lstBase, lstTree, lstBaseTree, rewrite, request, asked}
+use Rattle.paper.specs.Request.{Begin, own, takeOf, giveTo, Request, crd, wrs, rds, cpy, dup, chn, del, dst, dpr, lst, lstBase, lstTree, lstBaseTree, rewrite, request, asked}
 use Rattle.paper.specs.Code.{joined}
 use Rattle.paper.specs.Entry.{Holder, baseList, stands}
 use Rattle.paper.specs.Block.{blocksOf, fileText}
 use Rattle.paper.specs.Walk.{State, start, file, reached, toDirectory, lastName}
 use Rattle.paper.specs.Store.{Store, puts, clear, run}
 use Rattle.paper.specs.Count.{recounts}
-use Rattle.paper.specs.Effect.{listOf, begun, Plan, Planned, plan, halted, chainOf, Making, borne, placing, needed, freed, lost, settled, writeInhibited, linking, making, entryIn, filing, recoded, crdPlan, wrsPlan, cpyPlan, dupPlan, chnPlan, dprPlan, delPlan, rdsPlan, lstPlan, lstBasePlan, lstTreePlan, lstBaseTreePlan, rewriting, rewritePlan}
+use Rattle.paper.specs.Effect.{listOf, begun, Plan, Planned, plan, halted, chainOf, Making, borne, placing, needed, freed, lost, settled, writeInhibited, linking, making, entryIn, filing, recoded, crdPlan, wrsPlan, cpyPlan, dupPlan, chnPlan, dprPlan, delPlan, dstPlan, rdsPlan, lstPlan, lstBasePlan, lstTreePlan, lstBaseTreePlan, rewriting, rewritePlan}
 use Rattle.paper.specs.Answer.{Outcome, ran, single, oneName, deleting, granted, requested}
 use Rattle.laws.proofs.Tests.{either}
 use Rattle.laws.proofs.Lists.{Every, every-append, every-each, every-imp, every-parts, every-take}
@@ -47,7 +50,7 @@ use Rattle.demands.proofs.SoundKept.Filed.{roomy, length-file}
 use Rattle.demands.proofs.SoundKept.Freed.{text-found}
 use Rattle.demands.proofs.SoundKept.Recoded.{recoded-like, length-recoded}
 use Rattle.demands.proofs.SoundKept.Renamed.{renamed-like, length-renamed}
-use Rattle.demands.proofs.SoundKept.Kept.{passed-sound, del-keeps}
+use Rattle.demands.proofs.SoundKept.Kept.{passed-sound, del-keeps, dst-keeps}
 use Rattle.demands.proofs.SoundKept.Keeping.{entered}
 use Rattle.demands.proofs.SoundKept.Retexted.{Mine, mine-not}
 use Rattle.demands.proofs.SoundKept.Emptied.{Medium, head-kind}
@@ -56,6 +59,8 @@ use Rattle.demands.proofs.Mending.Debris as loose
 use Rattle.demands.proofs.Mending.Debris.{Loose}
 use Rattle.demands.proofs.PowerCut.Cut.{Litters, counted, rooms-counted, counted-is, counted-stores}
 use Rattle.demands.proofs.PowerCut.Littering.{littering}
+use Rattle.demands.proofs.Standing.Razed.{Destroys, destroys-none, destroys-more, passed-razes, dst-razes}
+use Rattle.demands.proofs.Answered.Ways.{isDel}
 
 -- ---- what a store may do
 
@@ -452,7 +457,7 @@ single-shows t reply k x h =
     empty : (p : Plan) → Passed x p → p .stores ≡ []
     empty p v = let s : Shows (plan p) = rw (v .plan) at h in s
 
-del-steps : (u : ℕ) → u ≤ 999999 → (ws : List Word) (t reply : List ℕ) (k n made : ℕ) → Sound t → Steps u ws t (deleting t u reply k n made ws .table)
+del-steps : (u : ℕ) → u ≤ 999999 → (ws : List Word) (t reply : List ℕ) (k n made : ℕ) → Sound t → Steps u ws t (deleting delPlan t u reply k n made ws .table)
 unfolding deleting
 del-steps u l [] t reply k n made c = refl
 del-steps u l (w ∷ ws) t reply k n made c = one (λ t₁. del-steps u l ws t₁ reply)
@@ -464,7 +469,7 @@ del-steps u l (w ∷ ws) t reply k n made c = one (λ t₁. del-steps u l ws t�
     sets = del-sets t c u l (n + 1) w
 
     rest : List ℕ → ℕ → ℕ → ℕ → Outcome
-    rest t₁ k₁ n₁ made₁ = deleting t₁ u reply k₁ n₁ made₁ ws
+    rest t₁ k₁ n₁ made₁ = deleting delPlan t₁ u reply k₁ n₁ made₁ ws
 
     one : ((t₁ : List ℕ) (k₁ n₁ made₁ : ℕ) → Sound t₁ → Steps u ws t₁ (rest t₁ k₁ n₁ made₁ .table))
         → Steps u (w ∷ ws) t (oneName t reply k n made rest (ran k x) .table)
@@ -488,6 +493,31 @@ del-steps u l (w ∷ ws) t reply k n made c = one (λ t₁. del-steps u l ws t�
           ),
         ))
 
+-- a DST, name by name
+pub dst-steps : (u : ℕ) (ws : List Word) (t reply : List ℕ) (k n made : ℕ) → Sound t → Destroys t (deleting dstPlan t u reply k n made ws .table)
+unfolding deleting
+dst-steps u [] t reply k n made c = destroys-none t
+dst-steps u (w ∷ ws) t reply k n made c = one (λ t₁. dst-steps u ws t₁ reply)
+  where
+    x : Planned
+    x = dstPlan t u (n + 1) w
+
+    rest : List ℕ → ℕ → ℕ → ℕ → Outcome
+    rest t₁ k₁ n₁ made₁ = deleting dstPlan t₁ u reply k₁ n₁ made₁ ws
+
+    cut-at : (p : Plan) → Passed x p → (j : ℕ) → Destroys t (run t (take j (p .stores)))
+    cut-at p v = passed-razes t x p (dst-razes t c u (n + 1) w) v
+
+    one : ((t₁ : List ℕ) (k₁ n₁ made₁ : ℕ) → Sound t₁ → Destroys t₁ (rest t₁ k₁ n₁ made₁ .table))
+        → Destroys t (oneName t reply k n made rest (ran k x) .table)
+    one again =
+        ran-by (λ y. Destroys t (oneName t reply k n made rest y .table)) k x
+        (λ _ _. destroys-none t)
+        (λ p v _.
+        destroys-more t (run t (p .stores)) _ (rw (take-all (length (p .stores)) (p .stores) (omega arith)) at (cut-at p v (length (p .stores))))
+        (again (run t (p .stores)) (k - length (p .stores)) (n + 1) (made + length (p .stores)) (passed-sound t x p (dst-keeps t u (n + 1) w c) v .clauses)))
+        (λ p v _. cut-at p v k)
+
 -- the name by which a request lays, changes or clears an entry: its own walk
 abbrev pub By : Request → Aim → Type 0
 By (crd name lev code) w = w ≡ mine name
@@ -497,6 +527,7 @@ By (cpy from old new life lev code) w = w ≡ mine new
 By (dup from old to new code) w = w ≡ aim to new
 By (chn old link) w = w ≡ mine old
 By (del ws) w = ⊥
+By (dst ws) w = ⊥
 By (dpr name code) w = w ≡ mine name
 By (lst from name) w = ⊥
 By lstBase w = ⊥
@@ -504,11 +535,12 @@ By (lstTree from name depth) w = ⊥
 By (lstBaseTree depth) w = ⊥
 By (rewrite name) w = w ≡ mine name
 
--- as lent; or a step by the request's one name; or a DEL, name by name
+-- as lent; or a step by the request's one name; or a DEL, name by name; or a DST
 pub data Stood (t line body : List ℕ) (u : ℕ) (s : List ℕ) : Type 0 where
   lent : s ≡ t → Stood t line body u s
   once : (r : Request) (w : Aim) → asked line body ≡ request r → By r w → Step t u w s → Stood t line body u s
   names : (ws : List Word) → asked line body ≡ request (del ws) → Steps u ws t s → Stood t line body u s
+  destroyed : (ws : List Word) → asked line body ≡ request (dst ws) → Destroys t s → Stood t line body u s
 
 -- the theorem: every table, line, text, reply, user and stop number
 pub entry-stood : (t line body reply : List ℕ) (u k : ℕ) → Stood t line body u (requested t line body reply u k .table)
@@ -544,6 +576,7 @@ entry-stood t line body reply u k = go (course t line body reply u)
         (dup-sets t c u l (listOf u from) to (begun from old) new code h)
     grants c l (chn old link) q h = one _ q (mine old) refl (chnPlan t u old link) c (chn-sets t c u l old link h)
     grants c l (del ws) q h = names ws q (del-steps u l ws t reply k 0 0 c)
+    grants c l (dst ws) q h = destroyed ws q (dst-steps u ws t reply k 0 0 c)
     grants c l (dpr name code) q h = one _ q (mine name) refl (dprPlan t u name code) c (dpr-sets t c u l name code)
     grants c l (lst from name) q h =
         shows (lstPlan t (listOf u from) reply (begun from name))
@@ -621,11 +654,27 @@ steps-apart [] t u v s n e = apart-none v t s e
 steps-apart (w ∷ ws) t u v s n (inl e) = apart-none v t s e
 steps-apart (w ∷ ws) t u v s n (inr (m, (x, y))) = apart-more v t m s (step-apart t u v (mine w) m n x) (steps-apart ws m u v s n y)
 
--- the theorem: a request of user u, cut or not, and the base list of every other user
-pub others-stay : (t line body reply : List ℕ) (u k v : ℕ) → v ≢ u → Apart v t (requested t line body reply u k .table)
-others-stay t line body reply u k v n = go (entry-stood t line body reply u k)
+-- the request is no DST
+abbrev pub NoDst : List ℕ → List ℕ → Type 0
+NoDst line body = (ws : List Word) → asked line body ≡ request (dst ws) → ⊥
+
+-- the theorem: a request of user u, cut or not, that is no DST, and the base list of every other user
+pub others-stay : (t line body reply : List ℕ) (u k v : ℕ) → v ≢ u → NoDst line body → Apart v t (requested t line body reply u k .table)
+others-stay t line body reply u k v n d = go (entry-stood t line body reply u k)
   where
     go : Stood t line body u (requested t line body reply u k .table) → Apart v t (requested t line body reply u k .table)
     go (lent e) = apart-none v t _ e
     go (once r w q b x) = step-apart t u v w _ n x
     go (names ws q x) = steps-apart ws t u v _ n x
+    go (destroyed ws q x) = absurd (d ws q)
+
+-- .. and a DST, cut or not: an entry, whoever's, is as it was, or is cleared and the heading that it named with it; and no entry comes
+pub destroyed-entries : (t line body reply : List ℕ) (u k : ℕ) (ws : List Word) → asked line body ≡ request (dst ws)
+    → Destroys t (requested t line body reply u k .table)
+destroyed-entries t line body reply u k ws q = go (entry-stood t line body reply u k)
+  where
+    go : Stood t line body u (requested t line body reply u k .table) → Destroys t (requested t line body reply u k .table)
+    go (lent e) = rw e (destroys-none t)
+    go (once r w z b x) = let c : r ≡ dst ws = cc in absurd (rw c at b)
+    go (names vs z x) = let c : del vs ≡ dst ws = cc in absurd (true≢false (ap isDel c))
+    go (destroyed vs z x) = x

@@ -10,8 +10,9 @@ use lib.ListN.{length}
 use Rattle.paper.specs.Line.{Word}
 use Rattle.paper.specs.Check.{Refusal}
 use Rattle.paper.specs.Store.{run}
-use Rattle.paper.specs.Effect.{Plan, Planned, delPlan}
-use Rattle.paper.specs.Answer.{Outcome, Ran, refusedBy, done, cut, ran, single, oneName, deleting, requested}
+use Rattle.paper.specs.Effect.{Plan, Planned}
+use Rattle.paper.specs.Answer.{Outcome, Ran, refusedBy, done, cut, ran, NamePlan, single, oneName, deleting, requested}
+use Rattle.demands.proofs.Request.Several.{planOf}
 use Rattle.demands.proofs.Request.Ended.{ran-by, refuses, passes, cuts}
 use Rattle.demands.proofs.Answered.Ways.{Came, lent, planned, deletes, came}
 
@@ -36,21 +37,21 @@ single-same : (t reply : List ℕ) (k j : ℕ) (x : Planned) → Uncut (single t
     → single t reply k (ran k x) ≡ single t reply j (ran j x)
 single-same t reply k j x = both (single t reply) (λ _ _. refl) k j x (λ _. refl) (λ _ _ _. refl)
 
-pub deleting-same : (ws : List Word) (t : List ℕ) (u : ℕ) (reply : List ℕ) (k j n made : ℕ)
-    → Uncut (deleting t u reply k n made ws) → Uncut (deleting t u reply j n made ws)
-    → deleting t u reply k n made ws ≡ deleting t u reply j n made ws
+pub deleting-same : (one : NamePlan) (ws : List Word) (t : List ℕ) (u : ℕ) (reply : List ℕ) (k j n made : ℕ)
+    → Uncut (deleting one t u reply k n made ws) → Uncut (deleting one t u reply j n made ws)
+    → deleting one t u reply k n made ws ≡ deleting one t u reply j n made ws
 unfolding deleting
-deleting-same [] t u reply k j n made = λ _ _. refl
-deleting-same (w ∷ ws) t u reply k j n made = go (λ t. deleting-same ws t u reply)
+deleting-same one [] t u reply k j n made = λ _ _. refl
+deleting-same one (w ∷ ws) t u reply k j n made = go (λ t. deleting-same one ws t u reply)
   where
     more : List ℕ → ℕ → ℕ → ℕ → Outcome
-    more t₁ k₁ n₁ made₁ = deleting t₁ u reply k₁ n₁ made₁ ws
+    more t₁ k₁ n₁ made₁ = deleting one t₁ u reply k₁ n₁ made₁ ws
 
     go : ((t : List ℕ) (k j n made : ℕ) → Uncut (more t k n made) → Uncut (more t j n made) → more t k n made ≡ more t j n made)
-        → Uncut (deleting t u reply k n made (w ∷ ws)) → Uncut (deleting t u reply j n made (w ∷ ws))
-        → deleting t u reply k n made (w ∷ ws) ≡ deleting t u reply j n made (w ∷ ws)
+        → Uncut (deleting one t u reply k n made (w ∷ ws)) → Uncut (deleting one t u reply j n made (w ∷ ws))
+        → deleting one t u reply k n made (w ∷ ws) ≡ deleting one t u reply j n made (w ∷ ws)
     go r =
-        both (λ i. oneName t reply i n made more) (λ _ _. refl) k j (delPlan t u (n + 1) w) (λ _. refl)
+        both (λ i. oneName t reply i n made more) (λ _ _. refl) k j (one t u (n + 1) w) (λ _. refl)
         (λ p. r (run t (p .stores)) (k - length (p .stores)) (j - length (p .stores)) (n + 1) (made + length (p .stores)))
 
 -- two outcomes of one request that are not 22 are one
@@ -61,4 +62,4 @@ stop-same t line text reply u k j a b = go (came t line text reply u)
     go : Came t line text reply u → requested t line text reply u k ≡ requested t line text reply u j
     go (lent f h q) = q k ∙ sym (q j)
     go (planned r e d x h q) = q k ∙ single-same t reply k j x (rw (q k) at a) (rw (q j) at b) ∙ sym (q j)
-    go (deletes names e _ q) = q k ∙ deleting-same names t u reply k j 0 0 (rw (q k) at a) (rw (q j) at b) ∙ sym (q j)
+    go (deletes s names e _ q) = q k ∙ deleting-same (planOf s) names t u reply k j 0 0 (rw (q k) at a) (rw (q j) at b) ∙ sym (q j)

@@ -1,17 +1,18 @@
--- A request that is tried on a sound table is one plan, which keeps soundness and has the shape of the power cut, or DEL, a plan for
--- each name, or `WRS*`, whose shape is its own: each function is told what it needs, and a name that was read fits its field.
+-- A request that is tried on a sound table is one plan, which keeps soundness and has the shape of the power cut, or DEL or
+-- DST, a plan for each name, or `WRS*`, whose shape is its own: each function is told what it needs, and a name that was read fits its field.
 use mathlib.Core.List.{List}
 use mathlib.Core.Path.{_≡_}
 use Prim.Native.Nat.{ℕ, _≤_}
 use lib.ListN.{length}
 use Rattle.paper.specs.Line.{Word}
 use Rattle.paper.specs.Check.{Refusal}
-use Rattle.paper.specs.Request.{Request, crd, wrs, rds, cpy, dup, chn, del, dpr, lst, lstBase, lstTree, lstBaseTree, rewrite, request, asked}
+use Rattle.paper.specs.Request.{Request, crd, wrs, rds, cpy, dup, chn, del, dst, dpr, lst, lstBase, lstTree, lstBaseTree, rewrite, request, asked}
 use Rattle.paper.specs.Effect.{listOf, begun, Planned, crdPlan, wrsPlan, rdsPlan, cpyPlan, dupPlan, chnPlan, dprPlan, lstPlan, lstBasePlan, lstTreePlan, lstBaseTreePlan, rewritePlan}
 use Rattle.paper.specs.Answer.{refusing, ran, single, deleting, granted, requested}
 use Rattle.laws.proofs.Entries.{link-short}
 use Rattle.demands.proofs.Sound.Right.{Right, sound-right}
 use Rattle.demands.proofs.Request.Formed.{named-last}
+use Rattle.demands.proofs.Request.Several.{Several, deletion, destruction, asking, planOf}
 use Rattle.demands.proofs.Request.Begun.{list-most}
 use Rattle.demands.proofs.Request.Read.{Told}
 use Rattle.demands.proofs.Request.Course.{Course, untried, tried, course}
@@ -23,8 +24,8 @@ pub data Tried (t line text reply : List ℕ) (u : ℕ) : Type 0 where
   lent : (f : Refusal) → ((k : ℕ) → requested t line text reply u k ≡ refusing t reply f) → Tried t line text reply u
   by-plan : (x : Planned) → Safe t x → Keeps t x
       → ((k : ℕ) → requested t line text reply u k ≡ single t reply k (ran k x)) → Tried t line text reply u
-  by-names : (names : List Word) → asked line text ≡ request (del names)
-      → ((k : ℕ) → requested t line text reply u k ≡ deleting t u reply k 0 0 names) → Tried t line text reply u
+  by-names : (s : Several) (names : List Word) → asked line text ≡ request (asking s names)
+      → ((k : ℕ) → requested t line text reply u k ≡ deleting (planOf s) t u reply k 0 0 names) → Tried t line text reply u
   by-rewrite : (name : Word) → asked line text ≡ request (rewrite name) → length text ≤ 24000
       → ((k : ℕ) → requested t line text reply u k ≡ single t reply k (ran k (rewritePlan t u text name))) → Tried t line text reply u
 
@@ -53,7 +54,8 @@ module _ (t line text reply : List ℕ) (u : ℕ) where
   tries c m (chn old link) a h =
       by-plan (chnPlan t u old link) (chn-safe t (c .clauses) u old link (link-short _ (h .link) .1))
       (chn-kept t (c .clauses) (c .counts) u old link h)
-  tries c m (del names) a h = by-names names a
+  tries c m (del names) a h = by-names deletion names a
+  tries c m (dst names) a h = by-names destruction names a
   tries c m (dpr name code) a h =
       by-plan (dprPlan t u name code) (dpr-safe t (c .clauses) u name code) (dpr-keeps t u name code c (h .code))
   tries c m (lst from name) a h =

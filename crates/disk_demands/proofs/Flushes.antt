@@ -1,5 +1,5 @@
--- Each flush is needed, because a table is computed that mending cannot mend: a request's table with one record as it was before, which is
--- what a disk may hold where the flush between that record's phase and a later one is left out.
+-- Each flush is needed, because a table is computed that does not mend to the table before or the table after: one of the two with one record of
+-- the other, which is what a disk may hold where the flush between that record's phase and the others' is left out.
 use mathlib.Core.Bool.{Bool, true, _&&_, not}
 use mathlib.Core.List.{List, [], _∷_}
 use mathlib.Core.Path.{_≡_, refl}
@@ -7,13 +7,14 @@ use Prim.Native.Nat.{ℕ}
 use lib.Dec.{eqb}
 use lib.ListN.{replicate}
 use Rattle.paper.specs.Table.{rec, lay}
+use Rattle.paper.specs.Name.{same}
 use Rattle.paper.specs.Sound.{sound}
 use Rattle.paper.specs.Mend.{mended}
 use Rattle.paper.specs.Answer.{requested}
 use Rattle.paper.proofs.Cases.{hold}
-use Rattle.disk.specs.Phase.{first, entry, phaseOf, phase}
+use Rattle.disk.specs.Phase.{first, entry, last, phaseOf, phase}
 
--- `WRS M .R`, `WRS* M .R` and `DEL .R`
+-- `WRS M .R`, `WRS* M .R`, `DEL .R`, `DST .R` and `DUP .R .G`
 abbrev wrs : List ℕ
 wrs = 87 ∷ 82 ∷ 83 ∷ 32 ∷ 77 ∷ 32 ∷ 46 ∷ 82 ∷ []
 
@@ -23,31 +24,52 @@ rewrite = 87 ∷ 82 ∷ 83 ∷ 42 ∷ 32 ∷ 77 ∷ 32 ∷ 46 ∷ 82 ∷ []
 abbrev del : List ℕ
 del = 68 ∷ 69 ∷ 76 ∷ 32 ∷ 46 ∷ 82 ∷ []
 
+abbrev dst : List ℕ
+dst = 68 ∷ 83 ∷ 84 ∷ 32 ∷ 46 ∷ 82 ∷ []
+
+abbrev dup : List ℕ
+dup = 68 ∷ 85 ∷ 80 ∷ 32 ∷ 46 ∷ 82 ∷ 32 ∷ 46 ∷ 71 ∷ []
+
 -- the table after a line of user 1, with one byte of text
 abbrev after : List ℕ → List ℕ → List ℕ
 after t line = requested t line (65 ∷ []) [] 1 9 .table
 
--- record i is of phase p; with it alone as before, the table is not to be mended. Every definition is open, as in the cases marked P
-unfoldable pub torn : List ℕ → List ℕ → ℕ → ℕ → Bool
+-- x, mended, is neither the table before a line nor the table after it
+abbrev neither : List ℕ → List ℕ → List ℕ → Bool
+neither t line x = not (same (mended x) t) && not (same (mended x) (after t line))
+
+-- record i is of phase p; with it alone as before, or it alone as after, the table mends to neither. Every definition is open, as in the
+-- cases marked P
+abbrev granted : List ℕ → List ℕ → ℕ → ℕ → Bool
+granted t line i p = eqb (requested t line (65 ∷ []) [] 1 9 .answer .number) 0 && eqb (phase t (after t line) i) p
+
+unfoldable pub late : List ℕ → List ℕ → ℕ → ℕ → Bool
 unfolding hold phaseOf phase
-torn t line i p =
-    eqb (requested t line (65 ∷ []) [] 1 9 .answer .number) 0 && eqb (phase t (after t line) i) p
-    && not (sound (mended (lay (after t line) i (rec t i))))
+late t line i p = granted t line i p && neither t line (lay (after t line) i (rec t i))
+
+unfoldable pub early : List ℕ → List ℕ → ℕ → ℕ → Bool
+unfolding hold phaseOf phase
+early t line i p = granted t line i p && neither t line (lay t i (rec (after t line) i))
 
 -- the first phase and the entry together: a new file's heading and entry without its text
-pub first-flush : torn (replicate 96 0) wrs 1 first ≡ true
-unfolding torn
+pub first-flush : late (replicate 96 0) wrs 1 first ≡ true
+unfolding late
 first-flush = refl
 
 -- the entry and the last phase together: the file displaced is cleared, and its entry still there
-pub entry-flush : torn (after (replicate 160 0) wrs) wrs 2 entry ≡ true
-unfolding torn
+pub entry-flush : late (after (replicate 160 0) wrs) wrs 2 entry ≡ true
+unfolding late
 entry-flush = refl
 
--- the same of a DEL
-pub del-flush : torn (after (replicate 96 0) wrs) del 2 entry ≡ true
-unfolding torn
+-- the same of a DEL: its text is cleared, and its entry still there
+pub del-flush : early (after (replicate 96 0) wrs) del 1 last ≡ true
+unfolding early
 del-flush = refl
+
+-- a DST, the heading and the entries together: one entry is cleared, and the heading is still there with the other
+pub dst-flush : early (after (after (replicate 128 0) wrs) dup) dst 3 entry ≡ true
+unfolding early
+dst-flush = refl
 
 -- a rewrite of the file in the records 0 and 1, cut after its text is cleared; the table after the stop number k, with record i of
 -- another: not to be mended

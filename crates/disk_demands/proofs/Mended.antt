@@ -13,7 +13,7 @@ use Rattle.laws.proofs.Lay.{kind-blank}
 use Rattle.demands.proofs.Sound.Right.{Right}
 use Rattle.demands.proofs.Mending.Part.{Alike, equal}
 use Rattle.demands.proofs.Mending.Counts.{alike-sym}
-use Rattle.demands.proofs.Mending.Debris.{sound-keeps, Left, ours, litter, left-mends}
+use Rattle.demands.proofs.Mending.Debris.{sound-keeps, laid, Left, ours, litter, left-mends}
 use Rattle.demands.proofs.PowerCut.Cut.{Counts}
 use Rattle.disk.specs.Phase.{first, entry, phase}
 use Rattle.disk.specs.Disk.{Agrees, None, NoneLast, All, InOrder, inFirst, atEntry, inLast}
@@ -57,18 +57,19 @@ module _ (t u : List ℕ) (long : length u ≡ length t) (d : Turns t u) where
     before : Agrees t u x → None t u x entry → NoneLast t u x → mended x ≡ t
     before a n o = left-mends t x (sound-keeps t ct) (a .long) (λ i l. go i l (d .each i l) (a .each i l)) (ct .clauses .whole)
       where
-        same : (i : ℕ) → Alike (rec t i) (rec u i) → (rec x i ≡ rec t i) ⊎ (rec x i ≡ rec u i) → Left t (rec t i) (rec x i)
+        same : (i : ℕ) → Alike (rec t i) (rec u i) → (rec x i ≡ rec t i) ⊎ (rec x i ≡ rec u i) → Left t x (rec t i) (rec x i)
         same i y (inl z) = ours (equal z)
         same i y (inr z) = ours (rw z y)
 
-        at : (i : ℕ) → i < rooms t → (phase t u i ≡ entry) ⊎ Alike (rec t i) (rec u i) → (rec x i ≡ rec t i) ⊎ (rec x i ≡ rec u i) → Left t (rec t i) (rec x i)
+        at : (i : ℕ) → i < rooms t → (phase t u i ≡ entry) ⊎ Alike (rec t i) (rec u i) → (rec x i ≡ rec t i) ⊎ (rec x i ≡ rec u i)
+            → Left t x (rec t i) (rec x i)
         at i l (inl p) y = ours (equal (n i l p))
         at i l (inr e) y = same i e y
 
-        go : (i : ℕ) → i < rooms t → Turn t u (d .at) i → (rec x i ≡ rec t i) ⊎ (rec x i ≡ rec u i) → Left t (rec t i) (rec x i)
+        go : (i : ℕ) → i < rooms t → Turn t u (d .at) i → (rec x i ≡ rec t i) ⊎ (rec x i ≡ rec u i) → Left t x (rec t i) (rec x i)
         go i l (kept e) y = same i e y
         go i l (laid b g) (inl z) = ours (equal z)
-        go i l (laid b g) (inr z) = litter b (rw z g)
+        go i l (laid b g) (inr z) = litter b (laid (rw z g))
         go i l (counts q c) y = at i l (by-phase i l c) y
         go i l (gone b g) y = ours (equal (o i l (gone-phase t u long i l b g) (not-only (rec t i) (rec u i) (omega (arith, kind-blank (rec u i) b)))))
 
@@ -77,22 +78,23 @@ module _ (t u : List ℕ) (long : length u ≡ length t) (d : Turns t u) where
     after : Agrees t u x → All t u x first → All t u x entry → mended x ≡ u
     after a f n = left-mends u x (sound-keeps u cu) (a .long ∙ sym long) (λ i l. one i (rw long at l)) (cu .clauses .whole)
       where
-        same : (i : ℕ) → Alike (rec t i) (rec u i) → (rec x i ≡ rec t i) ⊎ (rec x i ≡ rec u i) → Left u (rec u i) (rec x i)
+        same : (i : ℕ) → Alike (rec t i) (rec u i) → (rec x i ≡ rec t i) ⊎ (rec x i ≡ rec u i) → Left u x (rec u i) (rec x i)
         same i y (inl z) = ours (rw z (alike-sym (rec t i) (rec u i) y))
         same i y (inr z) = ours (equal z)
 
-        at : (i : ℕ) → i < rooms t → (phase t u i ≡ entry) ⊎ Alike (rec t i) (rec u i) → (rec x i ≡ rec t i) ⊎ (rec x i ≡ rec u i) → Left u (rec u i) (rec x i)
+        at : (i : ℕ) → i < rooms t → (phase t u i ≡ entry) ⊎ Alike (rec t i) (rec u i) → (rec x i ≡ rec t i) ⊎ (rec x i ≡ rec u i)
+            → Left u x (rec u i) (rec x i)
         at i l (inl p) y = ours (equal (n i l p))
         at i l (inr e) y = same i e y
 
-        go : (i : ℕ) → i < rooms t → Turn t u (d .at) i → (rec x i ≡ rec t i) ⊎ (rec x i ≡ rec u i) → Left u (rec u i) (rec x i)
+        go : (i : ℕ) → i < rooms t → Turn t u (d .at) i → (rec x i ≡ rec t i) ⊎ (rec x i ≡ rec u i) → Left u x (rec u i) (rec x i)
         go i l (kept e) y = same i e y
         go i l (laid b g) y = ours (equal (f i l (laid-phase t u long i l b g)))
         go i l (counts q c) y = at i l (by-phase i l c) y
-        go i l (gone b g) (inl z) = litter b (rw z g)
+        go i l (gone b g) (inl z) = litter b (laid (rw z g))
         go i l (gone b g) (inr z) = ours (equal z)
 
-        one : (i : ℕ) → i < rooms t → Left u (rec u i) (rec x i)
+        one : (i : ℕ) → i < rooms t → Left u x (rec u i) (rec x i)
         one i l = go i l (d .each i l) (a .each i l)
 
     -- ---- in order

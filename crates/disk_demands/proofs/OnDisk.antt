@@ -16,6 +16,7 @@ use Rattle.paper.specs.Mend.{mendStores, mended}
 use Rattle.paper.specs.Answer.{Outcome, Ran, ran, single, oneName, deleting, requested, mending}
 use Rattle.laws.proofs.Runs.{length-run}
 use Rattle.demands.proofs.Sound.Right.{Right, sound-right, right-sound}
+use Rattle.demands.proofs.Request.Several.{deletion, destruction}
 use Rattle.demands.proofs.Request.Ended.{Passed, ran-by}
 use Rattle.demands.proofs.SoundKept.Kept.{Keeps, passed-sound, del-keeps}
 use Rattle.demands.proofs.Mending.{mendedWhole, mend-whole}
@@ -53,8 +54,8 @@ single-turned t reply k c x safe keeps =
     ran-by (λ y. single t reply k y .answer .number ≡ 0 → Turned t (single t reply k y .table)) k x
     (λ _ _ _. unturned t t c refl) (λ p v _ _. plan-turned t x p safe keeps v) (λ p v l z. let n : ⊥ = omega (arith, z) in absurd n)
 
-name-turned : (t : List ℕ) (u k n made : ℕ) (w : Word) → Right t → deleting t u [] k n made (w ∷ []) .answer .number ≡ 0
-    → Turned t (deleting t u [] k n made (w ∷ []) .table)
+name-turned : (t : List ℕ) (u k n made : ℕ) (w : Word) → Right t → deleting delPlan t u [] k n made (w ∷ []) .answer .number ≡ 0
+    → Turned t (deleting delPlan t u [] k n made (w ∷ []) .table)
 unfolding deleting
 name-turned t u k n made w c =
     ran-by (λ y. after y .answer .number ≡ 0 → Turned t (after y .table)) k (delPlan t u (n + 1) w)
@@ -63,16 +64,17 @@ name-turned t u k n made w c =
     (λ p v l z. let b : ⊥ = omega (arith, z) in absurd b)
   where
     after : Ran → Outcome
-    after y = oneName t [] k n made (λ t₁ k₁ n₁ made₁. deleting t₁ u [] k₁ n₁ made₁ []) y
+    after y = oneName t [] k n made (λ t₁ k₁ n₁ made₁. deleting delPlan t₁ u [] k₁ n₁ made₁ []) y
 
 pub granted-turned : (t u : List ℕ) → Right t → Granted t u → Turned t u
 granted-turned t u c (name user stop n made w z e) = rw e (name-turned t user stop n made w c z)
-granted-turned t u c (whole line text reply user stop alone whole-file z e) = rw e (go (ways t line text reply user))
+granted-turned t u c (whole line text reply user stop alone all whole-file z e) = rw e (go (ways t line text reply user))
   where
     go : Tried t line text reply user → Turned t (requested t line text reply user stop .table)
     go (lent f q) = rw (q stop) (unturned t t c refl)
     go (by-plan x safe keeps q) = rw (q stop) (single-turned t reply stop c x safe keeps (rw (q stop) at z))
-    go (by-names names a q) = absurd (alone names a)
+    go (by-names deletion names a q) = absurd (alone names a)
+    go (by-names destruction names a q) = absurd (all names a)
     go (by-rewrite w a b q) = absurd (whole-file w a)
 
 -- "mending x answers 0 and gives t or" u, "byte for byte, and it is" u "once the entry is there"

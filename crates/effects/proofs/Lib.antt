@@ -5,3 +5,6 @@ pub mod Recounts
 pub mod Papers
 pub mod Lengths
 pub mod Blocks
+pub mod Counted
+pub mod Corrected
+pub mod Namings

@@ -1,3 +1,5 @@
 pub mod Listed
 pub mod Stage
 pub mod Counts
+pub mod Counted
+pub mod Corrected

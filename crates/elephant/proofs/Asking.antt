@@ -8,7 +8,7 @@ use denote.Enum.Declared.{tagOf}
 use types.Run.{OneOf, miss}
 use Rattle.paper.specs.Declaration.{Part, given, notGiven}
 use Rattle.paper.specs.Request as asked
-use Rattle.paper.specs.Request.{crd, wrs, rds, cpy, dup, chn, del, dpr, lst, lstBase, lstTree, lstBaseTree, rewrite, request, unread, read, textTooLong}
+use Rattle.paper.specs.Request.{crd, wrs, rds, cpy, dup, chn, del, dst, dpr, lst, lstBase, lstTree, lstBaseTree, rewrite, request, unread, read, textTooLong}
 use Rattle.paper.specs.Request.{own, takeOf, giveTo}
 use Rattle.laws.proofs.Tests.{clash}
 use Rattle.words.specs.Shown.{beginShown, beginMeant, shownPart, meantPart}
@@ -17,7 +17,7 @@ use Rattle.reader.specs.Asked.{shownRequest, shownRead}
 use Rattle.reader.specs.Tied.{Tied, TiedRead}
 use Rattle.reader.specs.declared.request.Request.{Request}
 use Rattle.reader.proofs.request.Request.{the-type}
-use Rattle.reader.specs.declared.request.Request.the-variants.{Crd, Wrs, Rds, Cpy, Dup, Chn, Del, Dpr, Lst, LstBase, LstTree, LstBaseTree, Rewrite}
+use Rattle.reader.specs.declared.request.Request.the-variants.{Crd, Wrs, Rds, Cpy, Dup, Chn, Del, Dst, Dpr, Lst, LstBase, LstTree, LstBaseTree, Rewrite}
 use Rattle.reader.specs.declared.request.Read.the-variants as answers
 use Rattle.reader.proofs.Ties.{tied}
 use Rattle.elephant.specs.Meant.{requestMeant}
@@ -42,6 +42,7 @@ request-back line (dup b o e n d) t =
     rw (begin-back b, begin-back e, word-there line 1 o (t .0), word-there line 2 n (t .1), digit-back d)
 request-back line (chn o l) t = rw (word-there line 1 o (t .0), word-there line 2 l (t .1))
 request-back line (del ws) t = ap del (sym t)
+request-back line (dst ws) t = ap dst (sym t)
 request-back line (dpr w d) t = rw (word-there line 1 w t)
 request-back line (lst b w) t = rw (begin-back b, word-there line 1 w t)
 request-back line lstBase t = refl
@@ -61,18 +62,19 @@ read-granted line r e = go (read line) (tied line) e
     go (unread f) t z = clash (cc)
 
 -- only a WRS or a WRS* has a text that may be too long
-pub no-text : (r : Request) → OneOf (0 ∷ 2 ∷ 3 ∷ 4 ∷ 5 ∷ 6 ∷ 7 ∷ 8 ∷ 9 ∷ 10 ∷ 11 ∷ []) (tagOf the-type r)
+pub no-text : (r : Request) → OneOf (0 ∷ 2 ∷ 3 ∷ 4 ∷ 5 ∷ 6 ∷ 7 ∷ 8 ∷ 9 ∷ 10 ∷ 11 ∷ 12 ∷ []) (tagOf the-type r)
     → (line text : List ℕ) → textTooLong (requestMeant line r) text ≡ false
 no-text (Crd n v d) h line text = refl
-no-text (Wrs f v d n) h line text = absurd (miss (0 ∷ 2 ∷ 3 ∷ 4 ∷ 5 ∷ 6 ∷ 7 ∷ 8 ∷ 9 ∷ 10 ∷ 11 ∷ []) 1 tt h)
+no-text (Wrs f v d n) h line text = absurd (miss (0 ∷ 2 ∷ 3 ∷ 4 ∷ 5 ∷ 6 ∷ 7 ∷ 8 ∷ 9 ∷ 10 ∷ 11 ∷ 12 ∷ []) 1 tt h)
 no-text (Rds b n f c) h line text = refl
 no-text (Cpy b o n f v d) h line text = refl
 no-text (Dup b o e n d) h line text = refl
 no-text (Chn o l) h line text = refl
 no-text (Del f n) h line text = refl
+no-text (Dst f n) h line text = refl
 no-text (Dpr n d) h line text = refl
 no-text (Lst b n) h line text = refl
 no-text LstBase h line text = refl
 no-text (LstTree b n d) h line text = refl
 no-text (LstBaseTree d) h line text = refl
-no-text (Rewrite n) h line text = absurd (miss (0 ∷ 2 ∷ 3 ∷ 4 ∷ 5 ∷ 6 ∷ 7 ∷ 8 ∷ 9 ∷ 10 ∷ 11 ∷ []) 12 tt h)
+no-text (Rewrite n) h line text = absurd (miss (0 ∷ 2 ∷ 3 ∷ 4 ∷ 5 ∷ 6 ∷ 7 ∷ 8 ∷ 9 ∷ 10 ∷ 11 ∷ 12 ∷ []) 13 tt h)

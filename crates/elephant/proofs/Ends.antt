@@ -13,7 +13,7 @@ use Rattle.paper.specs.Walk as W
 use Rattle.paper.specs.Walk.{start, toDirectory, ended}
 use Rattle.paper.specs.Check.{atLink, refusalAt}
 use Rattle.paper.specs.Answer.{plain}
-use Rattle.paper.specs.Effect.{Planned, halted, chainOf, onward, inward, toHolder, toEnd, listOf, begun}
+use Rattle.paper.specs.Effect.{Planned, halted, chainOf, endOf, onward, inward, toHolder, toEnd, listOf, begun, delPlan, dstPlan}
 use Rattle.demands.proofs.Sound.Clauses.{sound-clauses}
 use Rattle.demands.proofs.Request.Walked as Walked
 use Rattle.demands.proofs.Request.Walked.{walk-reached, walk-ends}
@@ -35,9 +35,11 @@ use Rattle.placing.specs.Placing.{Held}
 use Rattle.answers.specs.Shown.{placeShown, shown}
 use Rattle.answers.specs.declared.Answer.{Answer}
 use Rattle.elephant.specs.Done.{Fit, Filed, Did, Wrote}
-use Rattle.elephant.specs.Deleted.{Came}
-use Rattle.elephant.specs.declared.delete.Deleted.{Deleted}
-use Rattle.elephant.specs.declared.delete.Deleted.the-variants.{Refused}
+use Rattle.elephant.specs.Removed.{removalAt, removalPlan, Came}
+use Rattle.elephant.specs.declared.removal.Removal.{Removal}
+use Rattle.elephant.specs.declared.removal.Removal.the-variants.{Delete, Destroy}
+use Rattle.elephant.specs.declared.removal.Removed.{Removed}
+use Rattle.elephant.specs.declared.removal.Removed.the-variants.{Ended}
 
 -- ---- to a directory
 
@@ -52,6 +54,13 @@ module _ (t : List ℕ) (u argument k : ℕ) (w : Word) (f : W.State → Planned
 
 -- ---- to a file
 
+-- one name of a DEL or of a DST is done at its end
+pub removal-end : (a : Removal) (t : List ℕ) (u argument : ℕ) (w : Word)
+    → removalPlan a t u argument w ≡ toEnd t u argument w (removalAt a t (endOf argument w))
+unfolding delPlan dstPlan
+removal-end Delete t u argument w = refl
+removal-end Destroy t u argument w = refl
+
 module _ (t line : List ℕ) (u p : ℕ) (b : Begin) (argument : ℕ) (g : W.State → W.State → Planned)
     (r : End) (e : r ≡ endShown (ended t (begins u b) (chainAt line p b))) where
   abbrev end : Planned
@@ -64,7 +73,7 @@ module _ (t line : List ℕ) (u p : ℕ) (b : Begin) (argument : ℕ) (g : W.Sta
     pub end-off : (k : ℕ) → Did t k (end) (shown (plain n (atLink argument l) 0 0)) t
     end-off k = rw stops (record { answer = refl; table = refl })
 
-    pub name-off : (k : ℕ) → Came t k (end) (Refused n (placeShown (atLink argument l))) t
+    pub name-off : (k : ℕ) → Came t k (end) (Ended n (placeShown (atLink argument l)) k) t
     name-off k = rw stops (record { answer = refl; table = refl })
 
     pub read-off : (reply : List ℕ) → Wrote t reply (end) (shown (plain n (atLink argument l) 0 0)) reply
@@ -77,7 +86,7 @@ module _ (t line : List ℕ) (u p : ℕ) (b : Begin) (argument : ℕ) (g : W.Sta
     pub end-at : (k : ℕ) (a : Answer) (v : List ℕ) → Did t k (g (meant d) (meant f)) a v → Did t k (end) a v
     end-at k a v w = rw arrives w
 
-    pub name-at : (k : ℕ) (a : Deleted) (v : List ℕ) → Came t k (g (meant d) (meant f)) a v → Came t k (end) a v
+    pub name-at : (k : ℕ) (a : Removed) (v : List ℕ) → Came t k (g (meant d) (meant f)) a v → Came t k (end) a v
     name-at k a v w = rw arrives w
 
     pub read-at : (reply : List ℕ) (a : Answer) (v : List ℕ) → Wrote t reply (g (meant d) (meant f)) a v

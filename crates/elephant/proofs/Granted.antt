@@ -12,7 +12,7 @@ use Rattle.paper.specs.Name.{dotG, pointed, chain}
 use Rattle.paper.specs.Request.{request, asked}
 use Rattle.paper.specs.Effect.{Planned, crdPlan, wrsPlan, rdsPlan, cpyPlan, dupPlan, chnPlan, dprPlan, lstPlan, lstBasePlan, lstTreePlan, lstBaseTreePlan, rewritePlan, chainOf, listOf, begun}
 use Rattle.paper.specs.Walk.{lastName}
-use Rattle.paper.specs.Answer.{Outcome, granted, requested, ran, single}
+use Rattle.paper.specs.Answer.{Outcome, granted, requested, ran, single, deleting}
 use Rattle.laws.proofs.Tests.{truth}
 use Rattle.words.specs.Place.{joined, namesFrom, wordAt}
 use Rattle.words.specs.Shown.{beginMeant, meantPart}
@@ -24,7 +24,7 @@ use Rattle.declarations.specs.declared.part.Lifetime.{Lifetime}
 use Rattle.declarations.specs.declared.part.Level.{Level}
 use Rattle.declarations.specs.declared.part.Digit.{Digit}
 use Rattle.reader.specs.declared.request.Request.{Request}
-use Rattle.reader.specs.declared.request.Request.the-variants.{Crd, Wrs, Rds, Cpy, Dup, Chn, Del, Dpr, Lst, LstBase, LstTree, LstBaseTree, Rewrite}
+use Rattle.reader.specs.declared.request.Request.the-variants.{Crd, Wrs, Rds, Cpy, Dup, Chn, Dpr, Lst, LstBase, LstTree, LstBaseTree, Rewrite}
 use Rattle.reader.specs.declared.request.Read.the-variants.{Granted}
 use Rattle.demands.proofs.Request.Read.{Told}
 use Rattle.demands.proofs.Request.Begun.{Gives}
@@ -34,10 +34,12 @@ use Rattle.walk.specs.Shown.{chainAt}
 use Rattle.walk.proofs.Chains.{rest-one, last-instead}
 use Rattle.elephant.specs.Done.{Did, Wrote}
 use Rattle.elephant.specs.Filing.{Named, Linked}
-use Rattle.elephant.specs.Deleted.{CameAll}
+use Rattle.elephant.specs.Removed.{removalPlan, CameAll}
+use Rattle.elephant.specs.declared.removal.Removal.{Removal}
+use Rattle.elephant.specs.declared.removal.Removal.the-variants.{Delete, Destroy}
 use Rattle.elephant.specs.Reading.{reading}
 use Rattle.elephant.specs.declared.reply.Sheet.the-variants.{Text, Lines, Deep}
-use Rattle.elephant.specs.Meant.{requestMeant}
+use Rattle.elephant.specs.Meant.{requestMeant, removalAsked}
 use Rattle.elephant.specs.Admitted.{Admitted}
 use Rattle.elephant.specs.Promised.{Promised}
 use Rattle.answers.specs.declared.Answer.{Answer}
@@ -45,7 +47,7 @@ use Rattle.elephant.proofs.Grants.{Silent, Storeless, crd-silent, wrs-s
 use Rattle.elephant.proofs.Promises.{promised-storing, promised-writing, promised-names}
 use Rattle.elephant.proofs.Asking.{read-granted}
 use Rattle.elephant.proofs.Places.{read-short}
-use Rattle.elephant.proofs.Requests.{requested-granted, asked-granted, del-read, told, link-short, names-first}
+use Rattle.elephant.proofs.Requests.{requested-granted, asked-granted, names-read, told, link-short, names-first}
 
 -- a give has one link, the last name that is written
 give-last : (line : List ℕ) (to : Begin) (p : ℕ) → Gives (beginMeant to) (begun (beginMeant to) (wordAt line p))
@@ -110,10 +112,11 @@ module _ {t line text : List ℕ} {u : ℕ} {r : Request} (a : Admitted t line t
   pub chn-ready : (o l : ℕ) → r ≡ Chn o l → length (lastName (namesFrom line l)) ≤ 10
   chn-ready o l e = link-short line text (wordAt line o) (wordAt line l) (asks (Chn o l) e)
 
-  pub del-ready : (p n : ℕ) → r ≡ Del p n → (p ≡ word line 1 .start) × (n ≡ length (drop 1 (words line))) × (n ≤ 8)
-  del-ready p n e =
-      let d = del-read line p n (sym (ap Granted e) ∙ a .read) in
-      let w = names-first line text (asks (Del p n) e) in
+  pub remove-ready : (x : Removal) (p n : ℕ) → r ≡ removalAsked x p n
+      → (p ≡ word line 1 .start) × (n ≡ length (drop 1 (words line))) × (n ≤ 8)
+  remove-ready x p n e =
+      let d = names-read x line p n (sym (ap Granted e) ∙ a .read) in
+      let w = names-first x line text p n (asks (removalAsked x p n) e) in
       (d .0 ∙ w .0, d .1, rw (d .1) (w .1))
 
   pub rewrite-ready : (p : ℕ) → r ≡ Rewrite p → length text ≤ 24000
@@ -183,10 +186,16 @@ module _ {t line text : List ℕ} {u : ℕ} {r : Request} (a : Admitted t line t
     unfolding granted
     rewrite-done p e h = storing-done (Rewrite p) e (rewritePlan t u text (wordAt line p)) refl (rewrite-silent t u text (wordAt line p)) h
 
-    pub del-done : (p n : ℕ) → r ≡ Del p n → CameAll t u k (drop 1 (words line)) z v → Promised (requested t line text reply u k) z v reply
-    unfolding granted
-    del-done p n e h =
-        subst (λ (o : Outcome). Promised o z v reply) (sym (comes (Del p n) e reply k)) (promised-names t u reply k (drop 1 (words line)) z v h)
+    pub remove-done : (x : Removal) (p n : ℕ) → r ≡ removalAsked x p n → CameAll x t u k (drop 1 (words line)) z v
+        → Promised (requested t line text reply u k) z v reply
+    remove-done x p n e h =
+        subst (λ (o : Outcome). Promised o z v reply) (sym (comes (removalAsked x p n) e reply k ∙ by x))
+        (promised-names (removalPlan x) t u reply k (drop 1 (words line)) z v (h .answer) (h .table))
+      where
+        by : (x : Removal) → granted t text reply u k (requestMeant line (removalAsked x p n))
+            ≡ deleting (removalPlan x) t u reply k 0 0 (drop 1 (words line))
+        by Delete = unfold granted in refl
+        by Destroy = unfold granted in refl
 
     pub rds-done : (b : Begin) (p : ℕ) (f n : Part) → r ≡ Rds b p f n → Wrote t reply (reading (Text f n) t (list b) reply (from b p)) z v
         → Promised (requested t line text reply u k) z t v

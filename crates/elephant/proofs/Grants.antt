@@ -12,8 +12,8 @@ use Rattle.paper.specs.Check.{Check, Verdict, passed, refused, verdict}
 use Rattle.paper.specs.Declaration.{Part}
 use Rattle.paper.specs.Line.{Word, word}
 use Rattle.paper.specs.Request.{Begin}
-use Rattle.paper.specs.Effect.{Planned, plan, halted, Making, making, crdPlan, wrsPlan, cpyPlan, dupPlan, chnPlan, dprPlan, delPlan, rdsPlan, lstPlan, lstBasePlan, lstTreePlan, lstBaseTreePlan, rewritePlan}
-use Rattle.paper.specs.Answer.{Outcome, Ran, refusedBy, done, cut, stores, ran, single, oneName, deleting}
+use Rattle.paper.specs.Effect.{Planned, plan, halted, Making, making, crdPlan, wrsPlan, cpyPlan, dupPlan, chnPlan, dprPlan, rdsPlan, lstPlan, lstBasePlan, lstTreePlan, lstBaseTreePlan, rewritePlan}
+use Rattle.paper.specs.Answer.{Outcome, Ran, refusedBy, done, cut, stores, ran, single, oneName, NamePlan, deleting}
 use Rattle.paper.specs.Store.{run}
 use Rattle.words.specs.Place.{wordAt}
 use Rattle.words.proofs.Words.{word-here}
@@ -134,22 +134,23 @@ table-kept t reply (plan p) h = go (verdict (p .checks))
     go passed = let z : length (p .stores) ≡ 0 = rw h in rw (le-leb (length (p .stores)) 0 (omega arith), h)
     go (refused f) = refl
 
--- ---- DEL
+-- ---- DEL and DST
 
--- a DEL with one reply and with none
+-- one of them with one reply and with none
 pub record Same (kept : List ℕ) (a b : Outcome) : Type 0 where
   pub answer : a .answer ≡ b .answer
   pub table : a .table ≡ b .table
   pub reply : a .reply ≡ kept
 
-pub deleting-same : (ws : List Word) (t : List ℕ) (u : ℕ) (reply : List ℕ) (k n m : ℕ) → Same reply (deleting t u reply k n m ws) (deleting t u [] k n m ws)
+pub deleting-same : (one : NamePlan) (ws : List Word) (t : List ℕ) (u : ℕ) (reply : List ℕ) (k n m : ℕ)
+    → Same reply (deleting one t u reply k n m ws) (deleting one t u [] k n m ws)
 unfolding deleting
-deleting-same [] t u reply k n m = record { answer = refl; table = refl; reply = refl }
-deleting-same (w ∷ ws) t u reply k n m = go (ran k (delPlan t u (n + 1) w)) (deleting-same ws)
+deleting-same one [] t u reply k n m = record { answer = refl; table = refl; reply = refl }
+deleting-same one (w ∷ ws) t u reply k n m = go (ran k (one t u (n + 1) w)) (deleting-same one ws)
   where
-    go : (x : Ran) → ((t : List ℕ) (u : ℕ) (reply : List ℕ) (k n m : ℕ) → Same reply (deleting t u reply k n m ws) (deleting t u [] k n m ws))
-        → Same reply (oneName t reply k n m (λ t₁ k₁ n₁ made₁. deleting t₁ u reply k₁ n₁ made₁ ws) x)
-        (oneName t [] k n m (λ t₁ k₁ n₁ made₁. deleting t₁ u [] k₁ n₁ made₁ ws) x)
+    go : (x : Ran) → ((t : List ℕ) (u : ℕ) (reply : List ℕ) (k n m : ℕ) → Same reply (deleting one t u reply k n m ws) (deleting one t u [] k n m ws))
+        → Same reply (oneName t reply k n m (λ t₁ k₁ n₁ made₁. deleting one t₁ u reply k₁ n₁ made₁ ws) x)
+        (oneName t [] k n m (λ t₁ k₁ n₁ made₁. deleting one t₁ u [] k₁ n₁ made₁ ws) x)
     go (refusedBy f) h = record { answer = refl; table = refl; reply = refl }
     go (done p) h = h _ u reply _ _ _
     go (cut p) h = record { answer = refl; table = refl; reply = refl }

@@ -10,6 +10,7 @@ pub mod Rewrites
 pub mod Written
 pub mod Readings
 pub mod Clearings
+pub mod Destroying
 pub mod Turns
 pub mod Grants
 pub mod Asking

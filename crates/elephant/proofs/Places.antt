@@ -13,7 +13,7 @@ use Rattle.paper.specs.Line.{Word, words, word, inLine, legalLine}
 use Rattle.paper.specs.Check.{whole, Refusal, refusalAt, Check, Verdict, passed, refused, verdict}
 use Rattle.paper.specs.Declaration.{Part, wrsLifetime, dprCode}
 use Rattle.paper.specs.Declaration as part
-use Rattle.paper.specs.Request.{Request, del, Read, request, unread, after, needed, readAs, counted, miscounted, malformed, illegal, each, between, misnamed, declaredAt, readCrd, readWrs, readRds, readLst, readCpy, readDup, readChn, readDpr, readDel, depthGiven, readTree, readRewrite, isFunction, isTree, isRewrite, readFunction, read, asked}
+use Rattle.paper.specs.Request.{Request, del, dst, Read, request, unread, after, needed, readAs, counted, miscounted, malformed, illegal, each, between, misnamed, declaredAt, readCrd, readWrs, readRds, readLst, readCpy, readDup, readChn, readDpr, readNames, depthGiven, readTree, readRewrite, isFunction, isTree, isRewrite, readFunction, read, asked}
 use Rattle.laws.proofs.Tests.{and-left, and-right, either, clash}
 use Rattle.laws.proofs.Lists.{Every, every-append}
 use Rattle.demands.proofs.Request.Chains.{namesAt}
@@ -126,22 +126,22 @@ module _ (line : List ℕ) where
   unfolding readDpr
   near-dpr = near-after _ 2 2 1 2 (omega arith) (near-needed 2 (dprCode (declaredAt line 2)) _ (omega arith))
 
-  -- "DEL 1 to 8 names"
+  -- "DEL 1 to 8 names", and DST
   few-words : counted 1 8 line ≡ true → length (words line) - 1 ≤ 8
   unfolding counted
   few-words e = leb-true _ _ (and-right (leb 1 (length (words line) - 1)) _ e)
 
-  near-del : Near (readDel line)
-  unfolding readDel verdict
-  near-del = go (not (counted 1 8 line)) refl
+  near-several : (r : List Word → Request) → Near (readNames r line)
+  unfolding readNames verdict
+  near-several r = go (not (counted 1 8 line)) refl
     where
       go : (b : Bool) → not (counted 1 8 line) ≡ b
-          → Near (readAs (del (drop 1 (words line)))
+          → Near (readAs (r (drop 1 (words line)))
           (cond b (refused (refusalAt 6 (whole 0))) (verdict (misnamed 1 (length (words line)) line))))
       go true e = omega arith
       go false e =
           let l = few-words (not-false (counted 1 8 line) e) in
-          near-as (del (drop 1 (words line))) (misnamed 1 (length (words line)) line) (misnamed-near 1 (length (words line)) line (omega arith))
+          near-as (r (drop 1 (words line))) (misnamed 1 (length (words line)) line) (misnamed-near 1 (length (words line)) line (omega arith))
 
   near-function : Near (readFunction line)
   unfolding readFunction
@@ -152,12 +152,13 @@ module _ (line : List ℕ) where
       (either Near (isFunction 67 80 89 line) _ _ near-cpy
       (either Near (isFunction 68 85 80 line) _ _ near-dup
       (either Near (isFunction 67 72 78 line) _ _ near-chn
-      (either Near (isFunction 68 69 76 line) _ _ near-del
+      (either Near (isFunction 68 69 76 line) _ _ (near-several del)
+      (either Near (isFunction 68 83 84 line) _ _ (near-several dst)
       (either Near (isFunction 68 80 82 line) _ _ near-dpr
       (either Near (isFunction 76 83 84 line) _ _ near-lst
       (either Near (isTree line) _ _ near-tree
       (either Near (isRewrite line) _ _ near-rewrite
-      (omega arith)))))))))))
+      (omega arith))))))))))))
 
   near : Near (read line)
   unfolding read

@@ -1,15 +1,14 @@
 -- A refusal's promise, and a function's: made without the reply or without the stop number, it is `granted`'s for each of three kinds of
--- request, those that store, those that write, and DEL.
-use mathlib.Core.List.{List}
+-- request, those that store, those that write, and those of several names.
+use mathlib.Core.List.{List, []}
 use mathlib.Core.Path.{_≡_, sym, ap, _∙_}
 use Prim.Native.Nat.{ℕ}
 use Rattle.paper.specs.Line.{Word}
 use Rattle.paper.specs.Effect.{Planned}
 use Rattle.paper.specs.Check.{Refusal}
-use Rattle.paper.specs.Answer.{Outcome, plain, refusing, ran, single, deleting}
+use Rattle.paper.specs.Answer.{Outcome, plain, refusing, ran, single, NamePlan, deleting}
 use Rattle.answers.specs.Shown.{shown}
 use Rattle.elephant.specs.Done.{Did, Wrote}
-use Rattle.elephant.specs.Deleted.{CameAll}
 use Rattle.elephant.specs.Promised.{Promised}
 use Rattle.answers.specs.declared.Answer.{Answer}
 use Rattle.elephant.proofs.Grants.{Silent, Storeless, same-answer, same-table, reply-kept, any-stop, table-kept, deleting-same}
@@ -43,8 +42,8 @@ promised-writing t reply k x r w s d =
       reply = d .reply ∙ sym (ap (λ (o : Outcome). o .reply) e);
     }
 
-pub promised-names : (t : List ℕ) (u : ℕ) (reply : List ℕ) (k : ℕ) (ws : List Word) (r : Answer) (v : List ℕ) → CameAll t u k ws r v
-    → Promised (deleting t u reply k 0 0 ws) r v reply
-promised-names t u reply k ws r v d =
-    let e = deleting-same ws t u reply k 0 0 in
-    record { answer = d .answer ∙ sym (ap shown (e .answer)); table = d .table ∙ sym (e .table); reply = sym (e .reply) }
+pub promised-names : (one : NamePlan) (t : List ℕ) (u : ℕ) (reply : List ℕ) (k : ℕ) (ws : List Word) (r : Answer) (v : List ℕ)
+    → r ≡ shown (deleting one t u [] k 0 0 ws .answer) → v ≡ deleting one t u [] k 0 0 ws .table → Promised (deleting one t u reply k 0 0 ws) r v reply
+promised-names one t u reply k ws r v a b =
+    let e = deleting-same one ws t u reply k 0 0 in
+    record { answer = a ∙ sym (ap shown (e .answer)); table = b ∙ sym (e .table); reply = sym (e .reply) }

@@ -1,5 +1,5 @@
 -- A request by the tests that `request` makes: the entrance, what the reader answers, the length of the text, and then its function.
--- What was read tells each function what it needs: a link name is short, and the first name of a DEL is word 1.
+-- What was read tells each function what it needs: a link name is short, and the first name of a DEL or of a DST is word 1.
 use mathlib.Core.Bool.{true, false, _&&_}
 use mathlib.Core.List.{List, [], _∷_}
 use mathlib.Core.Path.{_≡_, refl, sym, ap, _∙_, subst}
@@ -11,20 +11,20 @@ use borrow.Author.Tests.{leb-true}
 use Rattle.paper.specs.Check.{atLink, whole, Refusal, refusalAt, passed, refused, check}
 use Rattle.paper.specs.Line.{Word, words, word}
 use Rattle.paper.specs.Request as paper
-use Rattle.paper.specs.Request.{crd, wrs, rds, cpy, dup, chn, del, dpr, lst, lstBase, lstTree, lstBaseTree, rewrite, request, unread, read, textTooLong, readAs, withText, asked}
+use Rattle.paper.specs.Request.{chn, del, dst, request, unread, read, textTooLong, readAs, withText, asked}
 use Rattle.paper.specs.Answer.{refusing, acted, granted, requested, entrance}
 use Rattle.paper.specs.Name.{all, inName, linkName}
 use Rattle.paper.specs.Walk.{lastName}
 use Rattle.laws.proofs.Tests.{and-left, and-right, clash}
 use Rattle.demands.proofs.Request.Read.{Told, Right, read-right}
 use Rattle.reader.specs.Asked.{firstStart, shownRefusal, shownRead}
-use Rattle.reader.specs.Tied.{TiedRead}
 use Rattle.reader.specs.declared.request.Request.{Request}
-use Rattle.reader.specs.declared.request.Request.the-variants.{Del}
 use Rattle.reader.specs.declared.request.Refusal as given
 use Rattle.reader.specs.declared.request.Read.the-variants as answers
-use Rattle.reader.proofs.Ties.{tied, rest-word}
-use Rattle.elephant.specs.Meant.{requestMeant}
+use Rattle.reader.proofs.Ties.{rest-word}
+use Rattle.elephant.specs.Meant.{requestMeant, removalAsked}
+use Rattle.elephant.specs.declared.removal.Removal.{Removal}
+use Rattle.elephant.specs.declared.removal.Removal.the-variants.{Delete, Destroy}
 use Rattle.elephant.proofs.Verdicts.{first-holds, first-passes, none-left}
 use Rattle.elephant.proofs.Asking.{read-granted}
 
@@ -73,31 +73,15 @@ module _ (t line text reply : List ℕ) (u k : ℕ) where
           → requested t line text reply u k ≡ granted t text reply u k (requestMeant line r)
       requested-granted b = acts (request (requestMeant line r)) (asked-granted b)
 
--- the names of a DEL
-pub del-read : (line : List ℕ) (first count : ℕ) → answers.Granted (Del first count) ≡ shownRead (read line)
+-- the names of a DEL or of a DST
+pub names-read : (a : Removal) (line : List ℕ) (first count : ℕ) → answers.Granted (removalAsked a first count) ≡ shownRead (read line)
     → (first ≡ firstStart (drop 1 (words line))) × (count ≡ length (drop 1 (words line)))
-del-read line first count e = go (read line) (tied line) e
+names-read a line first count e = go a (e ∙ ap shownRead (read-granted line (removalAsked a first count) e))
   where
-    go : (x : paper.Read) → TiedRead line x → answers.Granted (Del first count) ≡ shownRead x
+    go : (a : Removal) → answers.Granted (removalAsked a first count) ≡ shownRead (request (requestMeant line (removalAsked a first count)))
         → (first ≡ firstStart (drop 1 (words line))) × (count ≡ length (drop 1 (words line)))
-    go (request (del ws)) t z =
-        unfold TiedRead in
-        let a : first ≡ firstStart ws = cc in
-        let b : count ≡ length ws = cc in
-        (a ∙ ap firstStart t, b ∙ ap length t)
-    go (request (crd w v d)) t z = clash (cc)
-    go (request (wrs f v d w)) t z = clash (cc)
-    go (request (rds b w f n)) t z = clash (cc)
-    go (request (cpy b o n f v d)) t z = clash (cc)
-    go (request (dup b o e n d)) t z = clash (cc)
-    go (request (chn o l)) t z = clash (cc)
-    go (request (dpr w d)) t z = clash (cc)
-    go (request (lst b w)) t z = clash (cc)
-    go (request lstBase) t z = clash (cc)
-    go (request (lstTree b w d)) t z = clash (cc)
-    go (request (lstBaseTree d)) t z = clash (cc)
-    go (request (rewrite w)) t z = clash (cc)
-    go (unread f) t z = clash (cc)
+    go Delete z = (cc, cc)
+    go Destroy z = (cc, cc)
 
 -- what was asked has all that its function needs
 pub told : (line text : List ℕ) (r : paper.Request) → asked line text ≡ request r → Told text r
@@ -111,14 +95,17 @@ link-short line text old link e =
     let f = told line text (chn old link) e .link in
     leb-true (length n) 10 (and-right (leb 1 (length n)) (leb (length n) 10) (and-left (leb 1 (length n) && leb (length n) 10) (all inName n) f))
 
--- the first name of a DEL is word 1, and there are at most 8
+-- the first name of a DEL or of a DST is word 1, and there are at most 8
 first-word : (line : List ℕ) (ws : List Word) → ws ≡ drop 1 (words line) → 1 ≤ length ws → firstStart ws ≡ word line 1 .start
 first-word line [] e l = let z : ⊥ = omega arith in absurd z
 first-word line (w ∷ ws) e l =
     sym (ap (λ (x : Word). x .start) (sym (rest-word line 0) ∙ ap (λ (x : List Word). getD x 0 (record { start = length line; names = [] ∷ [] })) (sym e)))
 
-pub names-first : (line text : List ℕ) → asked line text ≡ request (del (drop 1 (words line)))
+pub names-first : (a : Removal) (line text : List ℕ) (first count : ℕ) → asked line text ≡ request (requestMeant line (removalAsked a first count))
     → (firstStart (drop 1 (words line)) ≡ word line 1 .start) × (length (drop 1 (words line)) ≤ 8)
-names-first line text e =
+names-first Delete line text first count e =
     let d = told line text (del (drop 1 (words line))) e in
+    (first-word line (drop 1 (words line)) refl (d .some), d .few)
+names-first Destroy line text first count e =
+    let d = told line text (dst (drop 1 (words line))) e in
     (first-word line (drop 1 (words line)) refl (d .some), d .few)

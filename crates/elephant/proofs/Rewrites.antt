@@ -27,8 +27,7 @@ use Rattle.effects.proofs.Papers.{texts-laid, texts-cleared, text-stores-length
 use Rattle.walk.specs.Shown.{meant}
 use Rattle.walk.specs.declared.state.State.{State}
 use Rattle.answers.specs.Shown.{shown, stored}
-use Rattle.elephant.specs.Done.{Fit, Did}
-use Rattle.elephant.specs.Deleted.{Tried}
+use Rattle.elephant.specs.Done.{Fit, Tried, Did}
 use Rattle.elephant.proofs.Verdicts.{first-holds, first-passes, none-left, second-holds, did-refused, did-tried}
 
 -- ---- the stores

@@ -16,9 +16,10 @@ use Rattle.paper.specs.Answer.{Outcome, plain, granting, stores, done, cut, ran
 use Rattle.effects.specs.Stage.{Made}
 use Rattle.answers.specs.Shown.{placeShown, shown, stored}
 use Rattle.answers.specs.declared.Answer.{Answer}
-use Rattle.elephant.specs.Done.{Did, Wrote}
-use Rattle.elephant.specs.Deleted.{deletedBy, Tried, Came}
-use Rattle.elephant.specs.declared.delete.Deleted.the-variants.{Passed, Refused}
+use Rattle.elephant.specs.Done.{Tried, Did, Wrote}
+use Rattle.elephant.specs.Removed.{removedBy, Spent, Came}
+use Rattle.elephant.specs.declared.removal.Removed.{Removed}
+use Rattle.elephant.specs.declared.removal.Removed.the-variants.{Ended}
 
 -- ---- checks
 
@@ -108,20 +109,20 @@ pub did-stored : (t u : List ℕ) (k l : ℕ) (p : Plan) → verdict (p .checks)
     → Did t k (plan p) (shown (stored (length (p .stores)) k (p .displaced))) u
 did-stored t u k l p e q w = did-tried t u k (length (p .stores)) p e q (record { number = refl; table = w .table })
 
--- ---- one name of a DEL
+-- ---- one name of a DEL or of a DST
 
 pub came-refused : (t : List ℕ) (k : ℕ) (p : Plan) (g : Refusal) → verdict (p .checks) ≡ refused g
-    → Came t k (plan p) (Refused (g .number) (placeShown (g .place))) t
+    → Came t k (plan p) (Ended (g .number) (placeShown (g .place)) k) t
 came-refused t k p g e =
     record {
-      answer = sym (ap (deletedBy (length (p .stores))) e);
+      answer = sym (ap (removedBy k (length (p .stores))) e);
       table = sym (ap (λ (o : Outcome). o .table) (single-refused t [] k p g e));
     }
 
-pub came-passed : (t v : List ℕ) (k : ℕ) (p : Plan) → verdict (p .checks) ≡ passed → v ≡ run t (take k (p .stores))
-    → Came t k (plan p) (Passed (length (p .stores))) v
-came-passed t v k p e w =
-    record { answer = sym (ap (deletedBy (length (p .stores))) e); table = w ∙ sym (single-table t [] k p e) }
+pub came-passed : (t v : List ℕ) (k : ℕ) (p : Plan) (r : Removed) → verdict (p .checks) ≡ passed → Spent t k (p .stores) r v
+    → Came t k (plan p) r v
+came-passed t v k p r e w =
+    record { answer = w .answer ∙ sym (ap (removedBy k (length (p .stores))) e); table = w .table ∙ sym (single-table t [] k p e) }
 
 -- ---- what is written
 

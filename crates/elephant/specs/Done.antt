@@ -3,10 +3,12 @@ use mathlib.Core.Bool.{true}
 use mathlib.Core.List.{List, []}
 use mathlib.Core.Path.{_≡_}
 use Prim.Native.Nat.{ℕ, _<_}
+use lib.ListN.{length, take}
 use Rattle.paper.specs.Record.{byte}
 use Rattle.paper.specs.Table.{sized, rooms, rec}
 use Rattle.paper.specs.Sound.{sound}
 use Rattle.paper.specs.Walk.{State, file}
+use Rattle.paper.specs.Store.{Store, run}
 use Rattle.paper.specs.Effect.{Planned}
 use Rattle.paper.specs.Answer.{Outcome, ran, single}
 use Rattle.answers.specs.Shown.{shown}
@@ -24,6 +26,11 @@ pub record Filed (t : List ℕ) (f : State) : Type 0 where
   pub stands : byte (rec t (f .entry)) 0 ≡ 2
   pub heading : file t f < rooms t
   pub kind : byte (rec t (file t f)) 0 ≡ 1
+
+-- n stores are needed, and v is the table after the first k of them
+pub record Tried (t : List ℕ) (k : ℕ) (ss : List Store) (n : ℕ) (v : List ℕ) : Type 0 where
+  pub number : n ≡ length ss
+  pub table : v ≡ run t (take k ss)
 
 -- a plan done on a table with a stop number; what is written to a reply is said apart
 abbrev pub did : List ℕ → ℕ → Planned → Outcome

@@ -4,12 +4,19 @@ use Prim.Native.Nat.{ℕ}
 use lib.ListN.{drop}
 use Rattle.paper.specs.Line.{words}
 use Rattle.paper.specs.Request as asked
-use Rattle.paper.specs.Request.{crd, wrs, rds, cpy, dup, chn, del, dpr, lst, lstBase, lstTree, lstBaseTree, rewrite}
+use Rattle.paper.specs.Request.{crd, wrs, rds, cpy, dup, chn, del, dst, dpr, lst, lstBase, lstTree, lstBaseTree, rewrite}
 use Rattle.words.specs.Place.{wordAt}
 use Rattle.words.specs.Shown.{beginMeant, meantPart}
 use Rattle.declarations.specs.Given.{lifetimePart, levelPart, digitPart}
+use Rattle.elephant.specs.declared.removal.Removal.{Removal}
+use Rattle.elephant.specs.declared.removal.Removal.the-variants.{Delete, Destroy}
 use Rattle.reader.specs.declared.request.Request.{Request}
-use Rattle.reader.specs.declared.request.Request.the-variants.{Crd, Wrs, Rds, Cpy, Dup, Chn, Del, Dpr, Lst, LstBase, LstTree, LstBaseTree, Rewrite}
+use Rattle.reader.specs.declared.request.Request.the-variants.{Crd, Wrs, Rds, Cpy, Dup, Chn, Del, Dst, Dpr, Lst, LstBase, LstTree, LstBaseTree, Rewrite}
+
+-- DEL or DST of the names from a place on, so many
+abbrev pub removalAsked : Removal → ℕ → ℕ → Request
+removalAsked Delete first count = Del first count
+removalAsked Destroy first count = Dst first count
 
 abbrev pub requestMeant : List ℕ → Request → asked.Request
 requestMeant line (Crd name level digit) = crd (wordAt line name) (levelPart level) (digitPart digit)
@@ -21,6 +28,7 @@ requestMeant line (Dup from old to new digit) =
     dup (beginMeant from) (wordAt line old) (beginMeant to) (wordAt line new) (digitPart digit)
 requestMeant line (Chn old link) = chn (wordAt line old) (wordAt line link)
 requestMeant line (Del first count) = del (drop 1 (words line))
+requestMeant line (Dst first count) = dst (drop 1 (words line))
 requestMeant line (Dpr name code) = dpr (wordAt line name) code
 requestMeant line (Lst from name) = lst (beginMeant from) (wordAt line name)
 requestMeant line LstBase = lstBase

@@ -2,10 +2,11 @@
 use crate::change::chn;
 use crate::change::dpr;
 use crate::copying::cpy;
-use crate::delete::del;
 use crate::making::crd;
 use crate::making::dup;
 use crate::making::wrs;
+use crate::removal::Removal;
+use crate::removal::remove;
 use crate::reply::Sheet;
 use crate::reply::lst_base;
 use crate::reply::lst_base_tree;
@@ -101,7 +102,28 @@ pub(crate) fn grant(
             digit,
         } => dup(table, line, from, old, to, new, digit, user, stop),
         Request::Chn { old, link } => chn(table, line, old, link, user, stop),
-        Request::Del { first, count } => del(table, line, first, count as u32, user, stop),
+        Request::Del { first, count } => {
+            remove(
+                table,
+                line,
+                Removal::Delete,
+                first,
+                count as u32,
+                user,
+                stop,
+            )
+        }
+        Request::Dst { first, count } => {
+            remove(
+                table,
+                line,
+                Removal::Destroy,
+                first,
+                count as u32,
+                user,
+                stop,
+            )
+        }
         Request::Dpr { name, code } => dpr(table, line, name, code, user, stop),
         Request::Lst { from, name } => read(table, line, reply, Sheet::Lines, from, name, user),
         Request::LstBase => lst_base(table, reply, user),

@@ -1,11 +1,13 @@
-// The file box: nine functions and mending, as document 01 has them. What a caller relies on is here: two equations.
+// The file box: its functions and mending, as documents 01 and 02 have them. What a caller relies on is here: two equations.
 mod change;
 mod copying;
 mod delete;
+mod destroy;
 mod entrance;
 mod filing;
 mod making;
 mod place;
+mod removal;
 mod reply;
 mod rewriting;
 

@@ -33,8 +33,7 @@ ghost use Rattle.paper.specs.Table.{rooms, rec};
 ghost use Rattle.words.specs.Place.{wordAt};
 ghost use Rattle.walk.specs.Shown.{meant};
 ghost use Rattle.answers.specs.Shown.{placeMeant};
-ghost use Rattle.elephant.specs.Done.{Fit, Filed, Did};
-ghost use Rattle.elephant.specs.Deleted.{Tried};
+ghost use Rattle.elephant.specs.Done.{Fit, Filed, Tried, Did};
 
 // "Room is free records plus the old text's": whether they are fewer than the new text's.
 fn is_no_room(table: &[u8], heading: Room, text: &[u8]) -> bool

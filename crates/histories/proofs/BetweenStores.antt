@@ -1,7 +1,7 @@
 -- Between two stores: a call with stop number k leaves the table after the first k of one list of stores, so the tables between the
 -- stores of a call are those after it is cut. What lays records comes first and what only takes away last; a rewrite clears text alone: no heading is
 -- cleared and laid again.
-use mathlib.Core.Bool.{Bool, true, false, cond}
+use mathlib.Core.Bool.{Bool, true, false, cond, true≢false}
 use mathlib.Core.List.{List, [], _∷_, _++_, append-nil}
 use mathlib.Core.Logic.{_⊎_, inl, inr, by-cases}
 use mathlib.Core.Path.{_≡_, refl, sym, ap, _∙_}
@@ -17,7 +17,7 @@ use Rattle.paper.specs.Table.{sized, rooms, rec}
 use Rattle.paper.specs.Line.{Word}
 use Rattle.paper.specs.Check.{Verdict, passed, refused, verdict}
 use Rattle.paper.specs.Store.{Store, run}
-use Rattle.paper.specs.Effect.{Plan, Planned, plan, halted, freed, delPlan}
+use Rattle.paper.specs.Effect.{Plan, Planned, plan, halted, freed}
 use Rattle.paper.specs.Mend.{mendStores, mended}
 use Rattle.paper.specs.Answer.{Outcome, done, cut, ran, single, oneName, deleting, requested, mending}
 use Rattle.laws.proofs.Tests.{not-both}
@@ -26,17 +26,18 @@ use Rattle.laws.proofs.Lay.{within, kind-blank}
 use Rattle.laws.proofs.Runs.{run-each, run-append, length-run, rooms-run}
 use Rattle.demands.proofs.Sound.Clauses.{Sound}
 use Rattle.demands.proofs.Sound.Right.{right-sound}
-use Rattle.demands.proofs.SoundKept.Kept.{Keeps, del-keeps}
+use Rattle.demands.proofs.Request.Several.{Several, planOf}
+use Rattle.demands.proofs.SoundKept.Kept.{Keeps, named-keeps}
 use Rattle.demands.proofs.Mending.Part.{Below, free, stays}
 use Rattle.demands.proofs.Mending.Counts.{alike-kind}
 use Rattle.demands.proofs.MendAnswered.{MendCame, unsized, unsound, whole, cutOff, mend-came}
 use Rattle.histories.specs.History.{Call, asks, mends, called, cutAt, heads}
-use Rattle.histories.proofs.Calls.Stores.{Puts, Put, Shaped, plain, freeing}
+use Rattle.histories.proofs.Calls.Stores.{Puts, Put, Shaped, plain, freeing, razing}
 use Rattle.histories.proofs.Calls.Shapes.{Shape}
 use Rattle.histories.proofs.Calls.Ways.{Way, lent, by-plan, by-names, ways}
 use Rattle.histories.proofs.Calls.Moved.{put-over}
 use Rattle.histories.proofs.Calls.Falls.{Falls, falls-none, falls-less, falls-append, falls-take, falls-drop, clears-fall, mend-falls}
-use Rattle.histories.proofs.Calls.Requests.{Falling, del-falls, freed-clears}
+use Rattle.histories.proofs.Calls.Requests.{Falling, named-falls, freed-clears}
 use Rattle.histories.proofs.Calls.Mendable.{Mendable, mendable-whole}
 
 -- tables by stop number: those of one list of stores, of which the last only take away
@@ -54,8 +55,9 @@ no-store t o h = record { first = []; last = []; tables = λ k. h k ∙ rw (take
 -- ---- one plan
 
 module _ (t reply : List ℕ) (c : Sound t) where
-  shaped-stored : (ss : List Store) → Shaped t ss → (o : ℕ → List ℕ) → ((k : ℕ) → o k ≡ run t (take k ss)) → Stored t o
+  shaped-stored : (ss : List Store) → Shaped false t ss → (o : ℕ → List ℕ) → ((k : ℕ) → o k ≡ run t (take k ss)) → Stored t o
   shaped-stored ss (plain h) o q = record { first = ss; last = []; tables = λ k. q k ∙ rw append-nil; puts = h; falls = falls-none _ }
+  shaped-stored ss (razing z r) o q = absurd (true≢false (sym z))
   shaped-stored ss (freeing main g h k n e) o q =
       record {
         first = main;
@@ -65,7 +67,7 @@ module _ (t reply : List ℕ) (c : Sound t) where
         falls = clears-fall (freed t g) (run t main) (rw (rooms-run t main) (freed-clears t c g k));
       }
 
-  plan-stored : (x : Planned) → Shape t x → Stored t (λ k. single t reply k (ran k x) .table)
+  plan-stored : (x : Planned) → Shape false t x → Stored t (λ k. single t reply k (ran k x) .table)
   plan-stored (halted f) h = no-store t _ (λ k. refl)
   plan-stored (plan p) h = go (verdict (p .checks)) refl
     where
@@ -92,7 +94,7 @@ wiped-stored : (t : List ℕ) (o : ℕ → List ℕ) → Wiped t o → Stored t 
 unfolding run
 wiped-stored t o w = record { first = []; last = w .stores; tables = w .tables; puts = tt; falls = w .falls }
 
--- DEL: the stores of one name, and of the names after it
+-- DEL and DST: the stores of one name, and of the names after it
 module _ (t reply : List ℕ) (n made : ℕ) (more : List ℕ → ℕ → ℕ → ℕ → Outcome) (p : Plan) (d : Falls t (p .stores))
     (r : Wiped (run t (p .stores)) (λ k. more (run t (p .stores)) k (n + 1) (made + length (p .stores)) .table)) where
   all : List Store
@@ -123,11 +125,12 @@ name-wiped t reply n made more (plan p) h d r = go (verdict (p .checks)) refl
           falls = name-falls t reply n made more p d z;
         }
 
-del-wiped : (ws : List Word) (t : List ℕ) (u : ℕ) (reply : List ℕ) (n made : ℕ) → Sound t → Wiped t (λ k. deleting t u reply k n made ws .table)
+del-wiped : (v : Several) (ws : List Word) (t : List ℕ) (u : ℕ) (reply : List ℕ) (n made : ℕ) → Sound t
+    → Wiped t (λ k. deleting (planOf v) t u reply k n made ws .table)
 unfolding deleting
-del-wiped [] t u reply n made c = no-wipe t _ (λ _. refl)
-del-wiped (w ∷ ws) t u reply n made c =
-    name-wiped t reply n made _ (delPlan t u (n + 1) w) (del-keeps t u (n + 1) w c) (del-falls t c u (n + 1) w) (λ t₁. del-wiped ws t₁ u reply)
+del-wiped v [] t u reply n made c = no-wipe t _ (λ _. refl)
+del-wiped v (w ∷ ws) t u reply n made c =
+    name-wiped t reply n made _ (planOf v t u (n + 1) w) (named-keeps v t u (n + 1) w c) (named-falls v t c u (n + 1) w) (λ t₁. del-wiped v ws t₁ u reply)
 
 -- ---- every call
 
@@ -156,7 +159,7 @@ between-stores t (asks line text reply u stop) m = go (ways t line text reply u)
     go : Way t line text reply u → Stored t (λ k. requested t line text reply u k .table)
     go (lent e) = no-store t _ e
     go (by-plan c x h e) = by _ _ (λ k. ap (λ (o : Outcome). o .table) (e k)) (plan-stored t reply c x h)
-    go (by-names c names e) = by _ _ (λ k. ap (λ (o : Outcome). o .table) (e k)) (wiped-stored t _ (del-wiped names t u reply 0 0 c))
+    go (by-names c v names q e) = by _ _ (λ k. ap (λ (o : Outcome). o .table) (e k)) (wiped-stored t _ (del-wiped v names t u reply 0 0 c))
 
 -- ---- no heading is cleared and laid again
 

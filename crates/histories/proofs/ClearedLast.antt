@@ -1,6 +1,7 @@
 -- "Clearing happens only when its last entry goes. A later file in the same record is another file." A plan frees a file only where no
--- entry names it by then, and a mend clears only headings that none names; a new heading goes to a free record of a sound table.
-use mathlib.Core.Bool.{true, false}
+-- entry names it by then, and a mend clears only headings that none names; a DST clears a heading before its entries, and never a capped
+-- one. A new heading goes to a free record of a sound table.
+use mathlib.Core.Bool.{Bool, true, false}
 use mathlib.Core.List.{List, [], _∷_, _++_}
 use mathlib.Core.Logic.{_⊎_, inl, inr, _≢_}
 use mathlib.Core.Path.{_≡_, refl, sym, ap, _∙_}
@@ -8,8 +9,9 @@ use Prim.Native.Nat.{ℕ, _<_}
 use native.Mathlib.Omega.{arith}
 use lib.ListN.{length}
 use borrow.Author.Tests.{eqb-true, eqb-false}
-use Rattle.paper.specs.Record.{byte, blank}
+use Rattle.paper.specs.Record.{byte, headingCode, blank}
 use Rattle.paper.specs.Table.{sized, rooms, rec}
+use Rattle.paper.specs.Code.{noWrite}
 use Rattle.paper.specs.Entry.{named}
 use Rattle.paper.specs.Sound.{sound}
 use Rattle.paper.specs.Answer.{requested, mending}
@@ -22,36 +24,48 @@ use Rattle.demands.proofs.Sound.Points.{text-points, no-heading-unnamed}
 use Rattle.demands.proofs.SoundKept.Freed.{textOf}
 use Rattle.demands.proofs.Mending.Counts.{alike-kind}
 use Rattle.histories.specs.History.{Call, asks, mends, isRequest, called, after, heads, remains}
-use Rattle.histories.proofs.Calls.Stores.{less-stays, unnamed-still}
+use Rattle.histories.proofs.Calls.Stores.{Open, less-stays, unnamed-still}
 use Rattle.histories.proofs.Calls.Moved.{text-of}
-use Rattle.histories.proofs.Calls.Requests.{request-moved}
+use Rattle.histories.proofs.Calls.Requests.{isDestroying, request-moved}
 use Rattle.histories.proofs.Calls.Mends.{mend-tidied}
 use Rattle.histories.proofs.Calls.Mendable.{Mendable, mendable-whole, sound-mendable, Asked, refused, entered, how-asked, called-mendable, after-mendable}
 
--- one call that clears a heading leaves no entry that names it
+-- the call is a DST
+abbrev pub destroys : Call → Bool
+destroys (asks line text reply user stop) = isDestroying line text
+destroys (mends stop) = false
+
+-- one call that clears a heading leaves no entry that names it; or it is a DST, and write was not inhibited in the heading's own code
 called-last : (h : ℕ) (t : List ℕ) (c : Call) → Mendable t → heads h t ≡ true → heads h (called t c .table) ≡ false
-    → named (called t c .table) h ≡ false
+    → (named (called t c .table) h ≡ false) ⊎ Open (destroys c) t h
 called-last h t (mends k) m a b =
     let d = mend-tidied t (mendable-whole t m) k in
-    unnamed-still t (mending t k .table) h (mendable-whole t m) (d .less) (d .last h (eqb-true _ _ a) (eqb-false _ _ b))
+    inl (unnamed-still t (mending t k .table) h (mendable-whole t m) (d .less) (d .last h (eqb-true _ _ a) (eqb-false _ _ b)))
 called-last h t (asks line text reply u k) m a b = go (how-asked t line text reply u k)
   where
-    go : Asked t line text reply u k → named (requested t line text reply u k .table) h ≡ false
+    go : Asked t line text reply u k → (named (requested t line text reply u k .table) h ≡ false) ⊎ Open (isDestroying line text) t h
     go (refused e) = absurd (not-both a (rw e at b))
     go (entered c) = request-moved t line text reply u k (c .clauses) .last h (eqb-true _ _ a) (eqb-false _ _ b)
 
--- heading h of a sound table, which it still is after any calls, and a call that clears it: some entry named it at the start, and none
--- does after that call. The start may be the sound table before the request whose stores, or whose mend, cleared it.
+-- heading h of a sound table, which it still is after any calls, and a call that clears it, where it is capped or the call is no DST: some
+-- entry named it at the start, and none does after that call. The start may be the sound table before the request whose stores, or whose
+-- mend, cleared it.
 pub cleared-last : (t : List ℕ) (h : ℕ) (cs : List Call) (c : Call) → sized t ≡ true → sound t ≡ true → heads h t ≡ true
-    → heads h (after t cs) ≡ true → heads h (called (after t cs) c .table) ≡ false
-    → (named t h ≡ true) × (named (called (after t cs) c .table) h ≡ false)
-cleared-last t h cs c a b k z n =
+    → heads h (after t cs) ≡ true → (noWrite (headingCode (rec (after t cs) h)) ≡ true) ⊎ (destroys c ≡ false)
+    → heads h (called (after t cs) c .table) ≡ false → (named t h ≡ true) × (named (called (after t cs) c .table) h ≡ false)
+cleared-last t h cs c a b k z o n =
     let r = sound-right t a b in
     let s = r .clauses in
     let i : byte (rec t h) 0 ≡ 1 = eqb-true _ _ k in (
       named-by t s h (within t h (s .whole) (omega arith)) i,
-      called-last h (after t cs) c (after-mendable t cs (sound-mendable t r)) z n,
+      go o (called-last h (after t cs) c (after-mendable t cs (sound-mendable t r)) z n),
     )
+  where
+    go : (noWrite (headingCode (rec (after t cs) h)) ≡ true) ⊎ (destroys c ≡ false)
+        → (named (called (after t cs) c .table) h ≡ false) ⊎ Open (destroys c) (after t cs) h → named (called (after t cs) c .table) h ≡ false
+    go x (inl e) = e
+    go (inl x) (inr e) = absurd (not-both x (e .1))
+    go (inr x) (inr e) = absurd (not-both (e .0) x)
 
 -- ---- another file
 

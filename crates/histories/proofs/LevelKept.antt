@@ -193,7 +193,7 @@ new-level t w lev ss f h n a b = go (fit-each (Raised lev t) ss t w f h n)
     go (inl e) = absurd (a (rw e at b))
     go (inr p) = p b a
 
-single-level : (t reply : List ℕ) (k : ℕ) → Sound t → (lev : ℕ) (x : Planned) → Shape t x → Raising lev t x → (n : ℕ) → byte (rec t n) 0 ≢ 1
+single-level : (t reply : List ℕ) (k : ℕ) → Sound t → (lev : ℕ) (x : Planned) → Shape false t x → Raising lev t x → (n : ℕ) → byte (rec t n) 0 ≢ 1
     → byte (rec (single t reply k (ran k x) .table) n) 0 ≡ 1 → lev ≤ level (rec (single t reply k (ran k x) .table) n)
 single-level t reply k c lev x h r n a =
     ran-by (λ y. byte (rec (single t reply k y .table) n) 0 ≡ 1 → lev ≤ level (rec (single t reply k y .table) n)) k x
@@ -202,7 +202,7 @@ single-level t reply k c lev x h r n a =
     (λ p v _ b. new-level t (c .whole) lev (take k (p .stores)) (every-take _ k (p .stores) (fits p v)) (every-take _ k (p .stores) (raises p v)) n a b)
   where
     fits : (p : Plan) → Passed x p → Every Fits (p .stores)
-    fits p v = shaped-fits t c (p .stores) (passed-shaped t x p h v)
+    fits p v = shaped-fits false t c (p .stores) (passed-shaped false t x p h v)
 
     raises : (p : Plan) → Passed x p → Every (Raises lev t) (p .stores)
     raises p v = let s : Raising lev t (plan p) = rw (v .plan) at r in s (v .checks)

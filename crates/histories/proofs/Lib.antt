@@ -3,6 +3,8 @@
 pub mod PenStays
 -- "Clearing happens only when its last entry goes. A later file in the same record is another file.": `cleared-last`, `another-file`
 pub mod ClearedLast
+-- "Destroy a file everywhere": a capped sheet is never destroyed: `capped-fourteen`, `never-destroyed`
+pub mod NeverDestroyed
 -- nobody learns a byte of a file that is read-inhibited in its heading: `seal-stays`, `seal-gone`
 pub mod SealStays
 -- "Read part of a sheet": a part never shows a byte of another file: `part-own`

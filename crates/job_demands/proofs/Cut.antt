@@ -13,7 +13,7 @@ use Rattle.paper.specs.Table.{sized}
 use Rattle.paper.specs.Name.{linkName}
 use Rattle.paper.specs.Line.{Word}
 use Rattle.paper.specs.Check.{Verdict, passed, refused}
-use Rattle.paper.specs.Request.{del, rewrite, request, asked}
+use Rattle.paper.specs.Request.{del, dst, rewrite, request, asked}
 use Rattle.paper.specs.Sound.{sound}
 use Rattle.paper.specs.Mend.{mendStores, mended}
 use Rattle.paper.specs.Answer.{Outcome, requested, mending}
@@ -26,6 +26,7 @@ use Rattle.job.specs.Reading.{rdsLine, readBack, brought, Reading, afterRead, r
 use Rattle.job.specs.Lamp.{Lit, admitted, afterFiling, afterReading, lit}
 use Rattle.laws.proofs.Tests.{truth, either, clash}
 use Rattle.laws.proofs.Lists.{Every, every-imp}
+use Rattle.demands.proofs.Request.Several.{Several, deletion, destruction, asking}
 use Rattle.demands.proofs.Answered.{refusal-lends}
 use Rattle.demands.proofs.Sound.Right.{sound-right}
 use Rattle.demands.proofs.Mending.Debris.{mended-sound}
@@ -54,12 +55,11 @@ pub record FirstFiled (chain : List ℕ) (u : ℕ) (t : List ℕ) (xs : List She
   pub mended : Filed chain u t (take sheets xs) (mended x)
   pub answers : (j : ℕ) → length (mendStores x) ≤ j → mending x j ≡ mendedWhole x
 
--- a filing line is no DEL's
-wrs-no-del : (chain : List ℕ) (x : Sheet) → linkName (x .link) ≡ true → (ws : List Word) → asked (wrsLine chain (x .link)) (x .text) ≡ request (del ws) → ⊥
-wrs-no-del chain x l ws q =
-    let w = wrs-names chain (x .link) (x .text) (del ws) l q in
-    let z : _≡_ {A = ℕ} 0 1 = cc (w .1) in
-    omega arith
+-- a filing line is no DEL's and no DST's
+wrs-no-del : (chain : List ℕ) (x : Sheet) → linkName (x .link) ≡ true → (v : Several) (ws : List Word)
+    → asked (wrsLine chain (x .link)) (x .text) ≡ request (asking v ws) → ⊥
+wrs-no-del chain x l deletion ws q = clash (let w = wrs-names chain (x .link) (x .text) (del ws) l q in cc (w .1))
+wrs-no-del chain x l destruction ws q = clash (let w = wrs-names chain (x .link) (x .text) (dst ws) l q in cc (w .1))
 
 -- .. and no rewrite's
 wrs-no-rewrite : (chain : List ℕ) (x : Sheet) → linkName (x .link) ≡ true → (w : Word) → asked (wrsLine chain (x .link)) (x .text) ≡ request (rewrite w) → ⊥
@@ -91,7 +91,7 @@ module _ (chain : List ℕ) (u : ℕ) where
       go a (before q) = record { sheets = 0; most = omega arith; mended = rw q none; answers = a }
       go a (after d) =
           record { sheets = 1; most = omega arith; mended = rw (d .table) (more (d .stop) (d .number) none); answers = a }
-      go a (first ws n q m d) = absurd (wrs-no-del chain x l ws q)
+      go a (first v ws n q m d) = absurd (wrs-no-del chain x l v ws q)
       go a (marked h) = absurd (wrs-no-rewrite chain x l (h .name) (h .asked))
 
   -- one sheet filed, and then the first n of the others

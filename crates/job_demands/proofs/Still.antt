@@ -7,8 +7,9 @@ use native.Mathlib.Omega.{arith}
 use lib.ListN.{length}
 use Rattle.paper.specs.Line.{Word}
 use Rattle.paper.specs.Store.{Store, run}
-use Rattle.paper.specs.Effect.{Planned, delPlan}
-use Rattle.paper.specs.Answer.{Outcome, ran, single, oneName, deleting, requested}
+use Rattle.paper.specs.Effect.{Planned}
+use Rattle.paper.specs.Answer.{Outcome, NamePlan, ran, single, oneName, deleting, requested}
+use Rattle.demands.proofs.Request.Several.{planOf}
 use Rattle.demands.proofs.Request.Ended.{ran-by}
 use Rattle.demands.proofs.Answered.Ways.{Came, lent, planned, deletes, came}
 
@@ -22,22 +23,22 @@ unfolding run
 still-single t reply x =
     ran-by (λ y. single t reply 0 y .table ≡ t) 0 x (λ f _. refl) (λ p _ l. run-none t (p .stores) l) (λ p _ _. refl)
 
-still-deleting : (ws : List Word) (t : List ℕ) (u : ℕ) (reply : List ℕ) (n made : ℕ) → deleting t u reply 0 n made ws .table ≡ t
+still-deleting : (one : NamePlan) (ws : List Word) (t : List ℕ) (u : ℕ) (reply : List ℕ) (n made : ℕ) → deleting one t u reply 0 n made ws .table ≡ t
 unfolding deleting run
-still-deleting [] t u reply n made = refl
-still-deleting (w ∷ ws) t u reply n made = go (λ n₁ made₁. still-deleting ws t u reply n₁ made₁)
+still-deleting one [] t u reply n made = refl
+still-deleting one (w ∷ ws) t u reply n made = go (λ n₁ made₁. still-deleting one ws t u reply n₁ made₁)
   where
     more : List ℕ → ℕ → ℕ → ℕ → Outcome
-    more t₁ k₁ n₁ made₁ = deleting t₁ u reply k₁ n₁ made₁ ws
+    more t₁ k₁ n₁ made₁ = deleting one t₁ u reply k₁ n₁ made₁ ws
 
     done-by : (ss : List Store) → length ss ≤ 0 → ((n₁ made₁ : ℕ) → more t 0 n₁ made₁ .table ≡ t)
         → more (run t ss) (0 - length ss) (n + 1) (made + length ss) .table ≡ t
     done-by [] l r = r (n + 1) (made + 0)
     done-by (s ∷ ss) l r = let z : ⊥ = omega arith in absurd z
 
-    go : ((n₁ made₁ : ℕ) → more t 0 n₁ made₁ .table ≡ t) → deleting t u reply 0 n made (w ∷ ws) .table ≡ t
+    go : ((n₁ made₁ : ℕ) → more t 0 n₁ made₁ .table ≡ t) → deleting one t u reply 0 n made (w ∷ ws) .table ≡ t
     go r =
-        ran-by (λ y. oneName t reply 0 n made more y .table ≡ t) 0 (delPlan t u (n + 1) w)
+        ran-by (λ y. oneName t reply 0 n made more y .table ≡ t) 0 (one t u (n + 1) w)
         (λ f _. refl) (λ p _ l. done-by (p .stores) l r) (λ p _ _. refl)
 
 -- a request with stop number 0 leaves the table as lent, whatever it is
@@ -47,4 +48,4 @@ still t line text reply u = go (came t line text reply u)
     go : Came t line text reply u → requested t line text reply u 0 .table ≡ t
     go (lent f h e) = rw (e 0)
     go (planned r q d p h e) = rw (e 0) (still-single t reply p)
-    go (deletes ws q _ e) = rw (e 0) (still-deleting ws t u reply 0 0)
+    go (deletes s ws q _ e) = rw (e 0) (still-deleting (planOf s) ws t u reply 0 0)

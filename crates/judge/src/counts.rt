@@ -8,7 +8,7 @@ ghost use Prim.Native.Nat.{_<_};
 ghost use Rattle.paper.specs.Count.{says};
 ghost use Rattle.paper.specs.Record.{isKind};
 ghost use Rattle.paper.specs.Table.{rooms, rec};
-ghost use Rattle.judge_laws.specs.Counts.{tells};
+ghost use Rattle.records.specs.Counts.{tells};
 
 // Whether the two bytes of record i from place j on are the number n.
 fn is_said(t: &[u8], i: usize, j: usize, n: usize) -> bool

@@ -23,7 +23,19 @@ ghost use Rattle.paper.specs.Sound.{isBase, noneCrowded, shaped};
 ghost use Rattle.paper.specs.Table.{rooms, rec};
 ghost use Rattle.judge_laws.specs.Mask.{without};
 ghost use Rattle.judge_laws.specs.Shapes.{baseRight, entryRight, Classed};
-ghost use Rattle.judge_laws.specs.Pass.{naming, Held, Found, Numbered, Entries};
+ghost use Rattle.judge_laws.specs.Pass.{Held, Found, Entries};
+ghost use Rattle.records.specs.Numbered.{naming, Numbered};
+
+// Whether record i is an entry that stays.
+pub(crate) fn is_entry(t: &[u8], gone: &[u8; Room::MOST], i: usize) -> bool
+    requires { ⌜ (i < rooms (now t)) × (length (now t) ≤ 65536) ⌝ }
+    ensures { λ r. ⌜ r ≡ isKind 2 (rec (without (now (gone .entry)) (now (t .entry))) i) ⌝ }
+{
+    if raw_of(t, i, Room::KIND) != Entry::KIND {
+        return false;
+    }
+    gone[i] == 0
+}
 
 // Whether the entry i of a base file, its name n bytes, has a fit user and a legal base name.
 fn is_base_right(t: &[u8], i: usize, n: usize) -> bool
@@ -90,20 +102,22 @@ fn is_entry_right(
 }
 
 // Entry i is counted for the heading that it names.
-pub(crate) fn name_turn(t: &[u8], named: &mut [u16; Room::MOST], i: usize)
-    requires { ⌜ (i < rooms (now t)) × (length (now t) ≤ 65536) × (isKind 2 (rec (now t) i) ≡ true) × (headingNamed (rec (now t) i) < 2048)
-        × Numbered (naming (now t) i) (now named) ⌝ }
-    ensures { λ _. ⌜ Numbered (naming (now (t .entry)) (i + 1)) (now (named .exit)) ⌝ }
+pub(crate) fn name_turn(t: &[u8], gone: &[u8; Room::MOST], named: &mut [u16; Room::MOST], i: usize)
+    requires { ⌜ (i < rooms (now t)) × (length (now t) ≤ 65536) × (isKind 2 (rec (without (now gone) (now t)) i) ≡ true)
+        × (headingNamed (rec (now t) i) < 2048) × Numbered (naming (without (now gone) (now t)) i) (now named) ⌝ }
+    ensures { λ _. ⌜ Numbered (naming (without (now (gone .entry)) (now (t .entry))) (i + 1)) (now (named .exit)) ⌝ }
 {
     let h = two_of(t, i, Entry::HEADING);
     named[h] = named[h] + 1;
 }
 
 // Entry i, if it is no base file's, is counted for its directory: whether that may hold it.
-fn hold_turn(t: &[u8], held: &mut [u8; Room::MOST], i: usize) -> bool
-    requires { ⌜ (i < rooms (now t)) × (isKind 2 (rec (now t) i) ≡ true)
-        × (isBase (rec (now t) i) ≡ false → (holderOf (rec (now t) i) < 2048) × (userOf (rec (now t) i) ≡ 0)) × Held (now t) (now held) i ⌝ }
-    ensures { λ r. ⌜ (r ≡ false → noneCrowded (now (t .entry)) ≡ false) × (r ≡ true → Held (now (t .entry)) (now (held .exit)) (i + 1)) ⌝ }
+fn hold_turn(t: &[u8], gone: &[u8; Room::MOST], held: &mut [u8; Room::MOST], i: usize) -> bool
+    requires { ⌜ (i < rooms (now t)) × (isKind 2 (rec (without (now gone) (now t)) i) ≡ true)
+        × (isBase (rec (now t) i) ≡ false → (holderOf (rec (now t) i) < 2048) × (userOf (rec (now t) i) ≡ 0))
+        × Held (without (now gone) (now t)) (now held) i ⌝ }
+    ensures { λ r. ⌜ (r ≡ false → noneCrowded (without (now (gone .entry)) (now (t .entry))) ≡ false)
+        × (r ≡ true → Held (without (now (gone .entry)) (now (t .entry))) (now (held .exit)) (i + 1)) ⌝ }
 {
     let d = two_of(t, i, Entry::HOLDER);
     if d == Holder::BASE {
@@ -129,18 +143,20 @@ pub(crate) fn entry_turn(
     i: usize,
     left: usize,
 ) -> Walked
-    requires { ⌜ (i < rooms (now t)) × (length (now t) % 32 ≡ 0) × (length (now t) ≤ 65536) × (isKind 2 (rec (now t) i) ≡ true)
-        × Classed (now class) × Entries (now t) (now named) (now held) (now head) (now next) left i × Found (now gone) (now t) (now held) ⌝ }
+    requires { ⌜ (i < rooms (now t)) × (length (now t) % 32 ≡ 0) × (length (now t) ≤ 65536) × (isKind 2 (rec (without (now gone) (now t)) i) ≡ true)
+        × Classed (now class) × Entries (without (now gone) (now t)) (now named) (now held) (now head) (now next) left i
+        × Found (now gone) (now t) (now held) ⌝ }
     ensures { λ r. ⌜ (r .right ≡ false → shaped (without (now (gone .entry)) (now (t .entry))) ≡ false)
         × (r .right ≡ true → (entryRight (without (now (gone .entry)) (now (t .entry))) (rec (now (t .entry)) i) ≡ true)
-        × Entries (now (t .entry)) (now (named .exit)) (now (held .exit)) (now (head .exit)) (now (next .exit)) (r .left) (i + 1)) ⌝ }
+        × Entries (without (now (gone .entry)) (now (t .entry))) (now (named .exit)) (now (held .exit)) (now (head .exit)) (now (next .exit)) (r .left)
+        (i + 1)) ⌝ }
 {
     if !is_entry_right(t, gone, class, held, i) {
         return Walked { right: false, left };
     }
-    if !hold_turn(t, held, i) {
+    if !hold_turn(t, gone, held, i) {
         return Walked { right: false, left };
     }
-    name_turn(t, named, i);
-    chain_turn(t, head, next, i, left)
+    name_turn(t, gone, named, i);
+    chain_turn(t, gone, head, next, i, left)
 }

@@ -64,14 +64,14 @@ fn is_sound(table: &[u8], gone: &[u8; Room::MOST], counted: bool) -> bool
     if !are_named(table, gone, &named, &held, counted) {
         return false;
     }
-    if !none_are_twins(table, s.left, &mut next) {
+    if !none_are_twins(table, gone, s.left, &mut next) {
         return false;
     }
     if s.bases <= Entry::MOST_BASE_FILES {
         return true;
     }
     head = [0u16; Room::MOST];
-    crowd_all(table, &mut head, &mut next, &mut mark)
+    crowd_all(table, gone, &mut head, &mut next, &mut mark)
 }
 
 // The number for the table as it would be without the records that go, its counts judged or not.
@@ -87,7 +87,7 @@ fn number_of(table: &[u8], gone: &[u8; Room::MOST], counted: bool) -> u8
     0
 }
 
-// The number for the table as it would be without the records that go, those that `gone` marks and that are no entries; whatever its counts.
+// The number for the table as it would be without the records that go, those that `gone` marks, whatever their kind; its counts are not judged.
 pub fn judge_without(table: &[u8], gone: &[u8; Room::MOST]) -> u8
     ensures { λ r. ⌜ r ≡ judgedShape (without (now (gone .entry)) (now (table .entry))) ⌝ }
 {

@@ -22,7 +22,8 @@ ghost use Rattle.paper.specs.Table.{rooms, rec};
 ghost use Rattle.judge_laws.specs.Mask.{without};
 ghost use Rattle.judge_laws.specs.Counts.{headed, allHeaded};
 ghost use Rattle.judge_laws.specs.Places.{Laid};
-ghost use Rattle.judge_laws.specs.Pass.{naming, holding, Numbered, Passed};
+ghost use Rattle.judge_laws.specs.Pass.{Passed};
+ghost use Rattle.records.specs.Numbered.{naming, holding, Numbered};
 ghost use Rattle.judge_laws.specs.Shapes.{Classed};
 
 // What was passed: whether all of it is right, how many text records, how many entries of base files, and the steps left for the chains.
@@ -68,12 +69,8 @@ fn turn(
     let texts = s.texts;
     let bases = s.bases;
     let left = s.left;
-    let kind = raw_of(t, i, Room::KIND);
-    if kind == Entry::KIND {
-        let w = entry_turn(t, gone, class, named, held, head, next, i, left);
-        let right = w.right;
-        let left = w.left;
-        let bases = bases + base_of(t, i);
+    if gone[i] != 0 {
+        let right = true;
         return Tally {
             right,
             texts,
@@ -81,8 +78,12 @@ fn turn(
             left,
         };
     }
-    if gone[i] != 0 {
-        let right = true;
+    let kind = raw_of(t, i, Room::KIND);
+    if kind == Entry::KIND {
+        let w = entry_turn(t, gone, class, named, held, head, next, i, left);
+        let right = w.right;
+        let left = w.left;
+        let bases = bases + base_of(t, i);
         return Tally {
             right,
             texts,
@@ -163,8 +164,9 @@ fn is_named(
     counted: bool,
     i: usize,
 ) -> bool
-    requires { ⌜ (i < rooms (now t)) × (length (now t) % 32 ≡ 0) × (length (now t) ≤ 65536) × Numbered (naming (now t) (rooms (now t))) (now named)
-        × Numbered (holding (now t) (rooms (now t))) (now held) ⌝ }
+    requires { ⌜ (i < rooms (now t)) × (length (now t) % 32 ≡ 0) × (length (now t) ≤ 65536)
+        × Numbered (naming (without (now gone) (now t)) (rooms (now t))) (now named)
+        × Numbered (holding (without (now gone) (now t)) (rooms (now t))) (now held) ⌝ }
     ensures { λ r. ⌜ r ≡ headed counted (without (now (gone .entry)) (now (t .entry))) i ⌝ }
 {
     if raw_of(t, i, Room::KIND) != Heading::KIND {
@@ -191,8 +193,9 @@ pub(crate) fn are_named(
     held: &[u8; Room::MOST],
     counted: bool,
 ) -> bool
-    requires { ⌜ (length (now t) % 32 ≡ 0) × (length (now t) ≤ 65536) × Numbered (naming (now t) (rooms (now t))) (now named)
-        × Numbered (holding (now t) (rooms (now t))) (now held) ⌝ }
+    requires { ⌜ (length (now t) % 32 ≡ 0) × (length (now t) ≤ 65536)
+        × Numbered (naming (without (now gone) (now t)) (rooms (now t))) (now named)
+        × Numbered (holding (without (now gone) (now t)) (rooms (now t))) (now held) ⌝ }
     ensures { λ r. ⌜ r ≡ allHeaded counted (without (now (gone .entry)) (now (t .entry))) ⌝ }
 {
     let n = t.len() / Room::SIZE;

@@ -1,4 +1,5 @@
-// Entries are chained by a hash of their place and name, and a name borne twice in one place is found in its chain.
+// Entries are chained by a hash of their place and name, and a name borne twice in one place is found in its chain. Only those that stay
+// are chained: the marks of what goes are handed on with the table, since it is the table without them that the chains are of.
 use crate::read::byte_of;
 use crate::read::four_of;
 use crate::read::three_of;
@@ -14,6 +15,7 @@ ghost use Rattle.paper.specs.Scan.{anyBelow};
 ghost use Rattle.paper.specs.Record.{isKind};
 ghost use Rattle.paper.specs.Table.{rooms, rec};
 ghost use Rattle.judge_laws.specs.Chains.{lastIn, Linked, Chained};
+ghost use Rattle.judge_laws.specs.Mask.{without};
 ghost use Rattle.judge_laws.specs.Twins.{hashOf, twin, twinTo, single};
 
 // What is left of an entry's walk through its chain: whether it is right as far as it went, and the steps that all walks together may
@@ -57,11 +59,19 @@ pub(crate) fn are_twins(t: &[u8], i: usize, k: usize) -> bool
 }
 
 // Whether entry i has no twin before it: a walk through its bucket, from one more than the last entry there, to its end or to the last step.
-fn twin_before(t: &[u8], next: &[u16; Room::MOST], i: usize, first: usize, steps: usize) -> Walked
-    requires { ⌜ (i < rooms (now t)) × (length (now t) ≤ 65536) × (first ≡ lastIn hashOf (now t) (hashOf (rec (now t) i)) i)
-        × Linked hashOf (now t) (now next) i ⌝ }
-    ensures { λ r. ⌜ (r .right ≡ false → anyBelow (twinTo (now (t .entry)) i) i ≡ true)
-        × (r .right ≡ true → 0 < r .left → anyBelow (twinTo (now (t .entry)) i) i ≡ false) × (r .left ≤ steps) ⌝ }
+fn twin_before(
+    t: &[u8],
+    gone: &[u8; Room::MOST],
+    next: &[u16; Room::MOST],
+    i: usize,
+    first: usize,
+    steps: usize,
+) -> Walked
+    requires { ⌜ (i < rooms (now t)) × (length (now t) ≤ 65536) × (isKind 2 (rec (without (now gone) (now t)) i) ≡ true)
+        × (first ≡ lastIn hashOf (without (now gone) (now t)) (hashOf (rec (without (now gone) (now t)) i)) i)
+        × Linked hashOf (without (now gone) (now t)) (now next) i ⌝ }
+    ensures { λ r. ⌜ (r .right ≡ false → anyBelow (twinTo (without (now (gone .entry)) (now (t .entry))) i) i ≡ true)
+        × (r .right ≡ true → 0 < r .left → anyBelow (twinTo (without (now (gone .entry)) (now (t .entry))) i) i ≡ false) × (r .left ≤ steps) ⌝ }
 {
     let mut c = first;
     let mut left = steps;
@@ -84,23 +94,24 @@ fn twin_before(t: &[u8], next: &[u16; Room::MOST], i: usize, first: usize, steps
 // Entry i is looked for in its chain, and put into it if it has no twin there.
 pub(crate) fn chain_turn(
     t: &[u8],
+    gone: &[u8; Room::MOST],
     head: &mut [u16; Room::MOST],
     next: &mut [u16; Room::MOST],
     i: usize,
     left: usize,
 ) -> Walked
-    requires { ⌜ (i < rooms (now t)) × (length (now t) ≤ 65536) × (isKind 2 (rec (now t) i) ≡ true)
-        × Chained hashOf (now t) (now head) (now next) left i ⌝ }
-    ensures { λ r. ⌜ (r .right ≡ false → single (now (t .entry)) i ≡ false)
-        × (r .right ≡ true → (0 < r .left → single (now (t .entry)) i ≡ true)
-        × Chained hashOf (now (t .entry)) (now (head .exit)) (now (next .exit)) (r .left) (i + 1)) × (r .left ≤ left) ⌝ }
+    requires { ⌜ (i < rooms (now t)) × (length (now t) ≤ 65536) × (isKind 2 (rec (without (now gone) (now t)) i) ≡ true)
+        × Chained hashOf (without (now gone) (now t)) (now head) (now next) left i ⌝ }
+    ensures { λ r. ⌜ (r .right ≡ false → single (without (now (gone .entry)) (now (t .entry))) i ≡ false)
+        × (r .right ≡ true → (0 < r .left → single (without (now (gone .entry)) (now (t .entry))) i ≡ true)
+        × Chained hashOf (without (now (gone .entry)) (now (t .entry))) (now (head .exit)) (now (next .exit)) (r .left) (i + 1)) × (r .left ≤ left) ⌝ }
 {
     if left == 0 {
         return Walked { right: true, left };
     }
     let h = hash_of(t, i);
     let first = head[h];
-    let w = twin_before(t, next, i, wide16(first), left);
+    let w = twin_before(t, gone, next, i, wide16(first), left);
     if !w.right {
         return w;
     }

@@ -8,6 +8,8 @@ pub mod Sums
 pub mod Slots
 pub mod Text
 pub mod TextTurns
+-- a table without some records
+pub mod Mask
 -- names borne twice and places crowded, by chains of entries
 pub mod Lasts
 pub mod Chains
@@ -15,9 +17,8 @@ pub mod Twins
 pub mod Order
 pub mod Crowds
 pub mod Literal
--- soundness from these, and of a table without some records
+-- soundness from these
 pub mod Sound
-pub mod Mask
 -- one pass: what each kind of record adds, and what it shows at its end
 pub mod Pass
 -- headings named and the counts that they say

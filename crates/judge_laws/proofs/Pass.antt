@@ -7,107 +7,55 @@ use mathlib.Core.Path.{_≡_, refl, sym, ap, _∙_}
 use Prim.Native.Nat.{ℕ, _+_, _≤_, _<_}
 use native.Mathlib.Omega.{arith}
 use native.Mathlib.Decide.{ℕ-discrete}
-use lib.ListN.{length, getD, set, length-set}
-use lib.Seq.{getD-set-same, getD-set-other}
+use lib.ListN.{length, getD, set}
 use lib.Dec.{eqb, leb}
 use borrow.Author.Count.{below-more, below-none}
 use borrow.Author.Tests.{eqb-true, eq-eqb, ne-eqb, leb-true, leb-false, le-leb, lt-leb}
 use Rattle.judge_laws.specs.Mask.{stays, without}
-use Rattle.judge_laws.specs.Pass.{naming, holding, baseEntry, basing, Numbered, Held, Found, Entries, Passed}
+use Rattle.judge_laws.specs.Pass.{baseEntry, basing, Held, Found, Entries, Passed}
 use Rattle.judge_laws.specs.Places.{textFits, shortAt, textSound, texts, starts, slotOf, Laid, Marked, fresh}
 use Rattle.judge_laws.specs.Shapes.{headingRight, entryRight, rightAt, eachRight}
 use Rattle.judge_laws.specs.Twins.{hashOf, single, noTwins}
 use Rattle.paper.specs.Entry.{inDirectory, holder, stands, crowd, limit, named}
-use Rattle.paper.specs.Record.{byte, isKind, headingType, textLength, simple, directory, headingNamed, holderOf, userOf, names, headingOf, position, zeros}
-use Rattle.paper.specs.Scan.{anyBelow, countBelow}
+use Rattle.paper.specs.Record.{byte, isKind, headingType, textLength, simple, directory, headingNamed, holderOf, userOf, headingOf, position, zeros}
+use Rattle.paper.specs.Scan.{countBelow}
 use Rattle.paper.specs.Sound.{textAsAbove, isBase, notCrowded, noneCrowded, allNamed, inPlace, shaped}
 use Rattle.paper.specs.Table.{rooms, rec}
-use Rattle.laws.proofs.Counts.{count-more, count-none, count-up, count-most, count-mono, count-least}
+use Rattle.laws.proofs.Counts.{count-more, count-up, count-most, count-mono}
 use Rattle.laws.proofs.Entries.{stands-true}
 use Rattle.laws.proofs.Lay.{Whole, within}
-use Rattle.laws.proofs.Scans.{any-true, any-here}
+use Rattle.laws.proofs.Scans.{any-true}
 use Rattle.laws.proofs.Sound.{every-here, every-true}
-use Rattle.laws.proofs.Tests.{truth, and-left, and-right, and-both, and-no-right, not-both, false-by, implies-by}
+use Rattle.laws.proofs.Tests.{truth, and-left, and-right, and-both, and-no-right, false-by, implies-by}
+use Rattle.records.specs.Numbered.{naming, holding}
+use Rattle.records.proofs.Numbered.{numbered-same, numbered-more, numbered-none, counted-any, naming-more, holding-more}
 use Rattle.judge_laws.proofs.Chains.{chains-none, chains-other}
 use Rattle.judge_laws.proofs.Clauses.{each-all, each-not, right-heading, right-entry, right-text, right-other}
-use Rattle.judge_laws.proofs.Mask.{rooms-without, whole-without, rec-stays, rec-entry, text-without, simple-without, right-gone, twins-without, crowded-without}
+use Rattle.judge_laws.proofs.Mask.{rooms-without, whole-without, rec-stays, rec-entry, entry-without, text-without, simple-without, right-gone}
 use Rattle.judge_laws.proofs.Shapes.{heading-view, entry-view, base-holder, base-user}
-use Rattle.judge_laws.proofs.Sound.{shaped-not-each, shaped-not-text, shaped-not-twins, shaped-not-crowded, shaped-left}
+use Rattle.judge_laws.proofs.Sound.{shaped-not-each, shaped-not-text, shaped-not-twins, shaped-left}
 use Rattle.judge_laws.proofs.Tests.{and-past}
 use Rattle.judge_laws.proofs.Text.{by-slots, sound-not-long, sound-not-apart}
 use Rattle.judge_laws.proofs.TextTurns.{marked-none, marked, unmarked, mark-refused, code-slot, starts-up, texts-none, texts-more, texts-most}
 use Rattle.judge_laws.proofs.Twins.{single-all, twin-one}
 
--- numbers that stay, and one that is one more
-pub numbered-same : (f g : ℕ → ℕ) (a : List ℕ) → Numbered f a → ((h : ℕ) → h < 2048 → g h ≡ f h) → Numbered g a
-numbered-same f g a n e = record { at = λ h l. n .at h l ∙ sym (e h l); long = n .long }
-
-pub numbered-more : (f g : ℕ → ℕ) (a : List ℕ) (k v : ℕ) → Numbered f a → k < 2048 → v ≡ g k → ((h : ℕ) → h < 2048 → h ≢ k → g h ≡ f h)
-    → Numbered g (set a k v)
-numbered-more f g a k v n l e x =
-    record {
-      at = λ h b. by-cases (ℕ-discrete h k)
-          (λ (q : h ≡ k). rw q (getD-set-same a k v 0 (omega (arith, n .long)) ∙ e))
-          (λ (q : h ≢ k). getD-set-other a k h v 0 q ∙ n .at h b ∙ sym (x h b q));
-      long = length-set a k v ∙ n .long;
-    }
-
-numbered-none : (f : ℕ → ℕ) (a : List ℕ) → length a ≡ 2048 → ((h : ℕ) → h < 2048 → getD a h 0 ≡ 0) → ((h : ℕ) → f h ≡ 0) → Numbered f a
-numbered-none f a l z e = record { at = λ h b. z h b ∙ sym (e h); long = l }
-
--- none exactly where none is counted
-pub counted-any : (p : ℕ → Bool) (n : ℕ) → not (eqb (countBelow p n) 0) ≡ anyBelow p n
-counted-any p n = go (truth (anyBelow p n))
-  where
-    go : (anyBelow p n ≡ true) ⊎ (anyBelow p n ≡ false) → not (eqb (countBelow p n) 0) ≡ anyBelow p n
-    go (inl e) =
-        let i = any-true p n e in
-        let l = count-least p n (i .0) (i .1) (i .2) in
-        rw (e, ne-eqb (countBelow p n) 0 (λ (z : countBelow p n ≡ 0). let y : ⊥ = omega arith in y))
-    go (inr e) =
-        let z : countBelow p n ≡ 0 = count-none p n (λ i l. false-by (p i) (λ q. not-both (any-here p n i l q) e)) in
-        rw (e, z)
-
 module _ (t : List ℕ) (i : ℕ) where
-  pub naming-more : (h : ℕ) → naming t (i + 1) h ≡ cond (names h (rec t i)) (naming t i h + 1) (naming t i h)
-  unfolding naming
-  naming-more h = count-more (λ j. names h (rec t j)) i
-
-  pub holding-more : (d : ℕ) → holding t (i + 1) d ≡ cond (stands (inDirectory d) (rec t i)) (holding t i d + 1) (holding t i d)
-  unfolding holding
-  holding-more d = count-more (λ j. stands (inDirectory d) (rec t j)) i
-
   basing-more : basing t (i + 1) ≡ cond (baseEntry t i) (basing t i + 1) (basing t i)
   unfolding basing
   basing-more = count-more (baseEntry t) i
-
-  pub naming-most : (h : ℕ) → naming t i h ≤ i
-  unfolding naming
-  naming-most h = count-most (λ j. names h (rec t j)) i
 
   pub basing-most : basing t i ≤ i
   unfolding basing
   basing-most = count-most (baseEntry t) i
 
-  -- an entry is counted for the heading that it names
+  -- an entry is counted for the directory that holds it
   module _ (k : isKind 2 (rec t i) ≡ true) where
-    pub named-more : (named : List ℕ) (v : ℕ) → Numbered (naming t i) named → headingNamed (rec t i) < 2048
-        → v ≡ getD named (headingNamed (rec t i)) 0 + 1 → Numbered (naming t (i + 1)) (set named (headingNamed (rec t i)) v)
-    named-more named v n l e =
-        numbered-more (naming t i) (naming t (i + 1)) named h v n l
-        (e ∙ rw (n .at h l, naming-more h, k, eq-eqb h h refl))
-        (λ g b q. naming-more g ∙ rw (k, ne-eqb h g (λ x. q (sym x))))
-      where
-        h : ℕ
-        h = headingNamed (rec t i)
-
-    -- .. and for the directory that holds it
     pub held-base : (held : List ℕ) → Held t held i → isBase (rec t i) ≡ true → Held t held (i + 1)
     unfolding stands
     held-base held s b =
         let q : holderOf (rec t i) ≡ 65535 = eqb-true _ _ b in
         let e : (d : ℕ) → d < 2048 → holding t (i + 1) d ≡ holding t i d =
-        λ d l. holding-more d ∙ rw (k, ne-eqb (holderOf (rec t i)) d (λ (x : holderOf (rec t i) ≡ d). let z : ⊥ = omega arith in z)) in
+        λ d l. holding-more t i d ∙ rw (k, ne-eqb (holderOf (rec t i)) d (λ (x : holderOf (rec t i) ≡ d). let z : ⊥ = omega arith in z)) in
         record { counts = numbered-same (holding t i) (holding t (i + 1)) held (s .counts) e; most = λ d l. rw (e d l) (s .most d l) }
 
     module _ (z : userOf (rec t i) ≡ 0) where
@@ -126,10 +74,10 @@ module _ (t : List ℕ) (i : ℕ) where
           d = holderOf (rec t i)
 
           own : holding t (i + 1) d ≡ holding t i d + 1
-          own = holding-more d ∙ rw (k, z, eq-eqb d d refl)
+          own = holding-more t i d ∙ rw (k, z, eq-eqb d d refl)
 
           other : (g : ℕ) → g < 2048 → g ≢ d → holding t (i + 1) g ≡ holding t i g
-          other g m q = holding-more g ∙ rw (k, ne-eqb d g (λ x. q (sym x)))
+          other g m q = holding-more t i g ∙ rw (k, ne-eqb d g (λ x. q (sym x)))
 
       -- a directory that holds 112 before it is crowded
       pub held-full : (held : List ℕ) → Held t held i → isBase (rec t i) ≡ false → holderOf (rec t i) < 2048 → i < rooms t
@@ -142,7 +90,7 @@ module _ (t : List ℕ) (i : ℕ) where
           leb-true _ _ (every-true 2 (notCrowded t) t e i m (eqb-true _ _ k)) in
           let c′ : holding t (rooms t) d ≤ 112 = rw (z, b) at c in
           let u = count-up (λ j. stands (inDirectory d) (rec t j)) (i + 1) (rooms t) (omega arith) in
-          let o : holding t (i + 1) d ≡ holding t i d + 1 = holding-more d ∙ rw (k, z, eq-eqb d d refl) in
+          let o : holding t (i + 1) d ≡ holding t i d + 1 = holding-more t i d ∙ rw (k, z, eq-eqb d d refl) in
           let y = s .counts .at d l in
           omega arith)
 
@@ -203,10 +151,6 @@ module _ (gone t : List ℕ) (w : Whole t) where
         eqb-true _ _ u,
       )
 
-  -- two entries that are twins
-  pub refuted-twins : noTwins t ≡ false → shaped (without gone t) ≡ false
-  refuted-twins e = shaped-not-twins (without gone t) (twins-without gone t ∙ e)
-
   -- what one record refutes
   module _ (i : ℕ) (l : i < rooms t) where
     pub refuted : rightAt (without gone t) i ≡ false → shaped (without gone t) ≡ false
@@ -217,13 +161,11 @@ module _ (gone t : List ℕ) (w : Whole t) where
     refuted-long e =
         shaped-not-text (without gone t) (sound-not-long (without gone t) (whole-without gone t w) i (rw (rooms-without gone t) l) e)
 
-    pub refuted-twin : single t i ≡ false → shaped (without gone t) ≡ false
-    refuted-twin e = refuted-twins (twin-one t i l e)
+    pub refuted-twin : single (without gone t) i ≡ false → shaped (without gone t) ≡ false
+    refuted-twin e = shaped-not-twins (without gone t) (twin-one (without gone t) i (rw (rooms-without gone t) l) e)
 
-    pub refuted-entry : isKind 2 (rec t i) ≡ true → entryRight (without gone t) (rec t i) ≡ false → shaped (without gone t) ≡ false
-    refuted-entry k e =
-        let q = rec-entry gone t w i k in
-        refuted (right-entry (without gone t) i (ap (λ r. byte r 0) q ∙ eqb-true _ _ k) ∙ rw q e)
+    pub refuted-entry : isKind 2 (rec (without gone t) i) ≡ true → entryRight (without gone t) (rec t i) ≡ false → shaped (without gone t) ≡ false
+    refuted-entry k e = refuted (right-entry (without gone t) i (eqb-true _ _ k) ∙ rw (rec-entry gone t i l k) e)
 
     pub heading-right : byte (rec t i) 0 ≡ 1 → stays gone i ≡ true → rightAt (without gone t) i ≡ headingRight (rec t i)
     heading-right k s =
@@ -255,9 +197,6 @@ module _ (gone t : List ℕ) (w : Whole t) where
         let z = rec-stays gone t w i s in
         let y : byte (rec (without gone t) i) 0 ≡ byte (rec t i) 0 = ap (λ r. byte r 0) z in
         right-other (without gone t) i (λ q. n1 (sym y ∙ q)) (λ q. n2 (sym y ∙ q)) (λ q. n3 (sym y ∙ q)) ∙ rw z
-
-  pub refuted-crowd : noneCrowded t ≡ false → shaped (without gone t) ≡ false
-  refuted-crowd e = shaped-not-crowded (without gone t) (crowded-without gone t ∙ e)
 
   -- more slots than records, or another number of text records than of slots
   pub refuted-slots : (i : ℕ) → i < rooms t → rooms t < starts (without gone t) (i + 1) → shaped (without gone t) ≡ false
@@ -334,9 +273,9 @@ module _ (gone t : List ℕ) (w : Whole t) where
         text = marked-none (without gone t) start mark a lm zm;
         entries = record {
           single = λ z. below-none _;
-          naming = numbered-none (naming t 0) named ln zn (λ h. refl);
-          holding = record { counts = numbered-none (holding t 0) held lh zh (λ h. refl); most = λ d l. omega arith };
-          chains = record { chains = λ z. chains-none hashOf t head next lf lx zf; head-long = lf; next-long = lx };
+          naming = numbered-none (naming (without gone t) 0) named ln zn (λ h. refl);
+          holding = record { counts = numbered-none (holding (without gone t) 0) held lh zh (λ h. refl); most = λ d l. omega arith };
+          chains = record { chains = λ z. chains-none hashOf (without gone t) head next lf lx zf; head-long = lf; next-long = lx };
         };
         texted = sym (texts-none (without gone t));
         based = refl;
@@ -348,60 +287,61 @@ module _ (gone t : List ℕ) (w : Whole t) where
     below : i < rooms (without gone t)
     below = rw (rooms-without gone t) l
 
-    pub passed-entry : (named′ held′ head′ next′ : List ℕ) (b′ u′ : ℕ) → isKind 2 (rec t i) ≡ true → entryRight (without gone t) (rec t i) ≡ true
-        → Entries t named′ held′ head′ next′ u′ (i + 1) → b′ ≡ b + cond (isBase (rec t i)) 1 0
+    pub passed-entry : (named′ held′ head′ next′ : List ℕ) (b′ u′ : ℕ) → isKind 2 (rec (without gone t) i) ≡ true
+        → entryRight (without gone t) (rec t i) ≡ true → Entries (without gone t) named′ held′ head′ next′ u′ (i + 1) → b′ ≡ b + cond (isBase (rec t i)) 1 0
         → Passed gone t mark named′ held′ head′ next′ x b′ u′ (i + 1)
     passed-entry named′ held′ head′ next′ b′ u′ k e s q =
         record {
-          right = below-more _ _ (p .right) (right-entry (without gone t) i (ap (λ r. byte r 0) z ∙ k′) ∙ rw z e);
-          short = below-more _ _ (p .short) (rw (z, k′));
+          right = below-more _ _ (p .right) (right-entry (without gone t) i k′ ∙ rw z e);
+          short = below-more _ _ (p .short) (rw k′);
           text = unmarked (without gone t) start mark i a below (p .text) n;
           entries = s;
           texted = p .texted ∙ sym (texts-more (without gone t) i ∙ rw n (omega arith));
-          based = q ∙ rw (p .based) (sym (basing-more t i ∙ rw k (go (isBase (rec t i)))));
+          based = q ∙ rw (p .based, ← z) (sym (basing-more (without gone t) i ∙ rw k (go (isBase (rec (without gone t) i)))));
         }
       where
-        k′ : byte (rec t i) 0 ≡ 2
+        k′ : byte (rec (without gone t) i) 0 ≡ 2
         k′ = eqb-true _ _ k
 
         z : rec (without gone t) i ≡ rec t i
-        z = rec-entry gone t w i k
+        z = rec-entry gone t i l k
 
         n : isKind 3 (rec (without gone t) i) ≡ false
-        n = rw (z, k′)
+        n = rw k′
 
-        go : (f : Bool) → cond f (basing t i + 1) (basing t i) ≡ basing t i + cond f 1 0
+        go : (f : Bool) → cond f (basing (without gone t) i + 1) (basing (without gone t) i) ≡ basing (without gone t) i + cond f 1 0
         go true = refl
         go false = omega arith
 
-    pub passed-other : (mark′ : List ℕ) (x′ : ℕ) → isKind 2 (rec t i) ≡ false → rightAt (without gone t) i ≡ true → shortAt (without gone t) i ≡ true
-        → Marked (without gone t) mark′ (i + 1) → x′ ≡ x + cond (isKind 3 (rec (without gone t) i)) 1 0
+    pub passed-other : (mark′ : List ℕ) (x′ : ℕ) → isKind 2 (rec (without gone t) i) ≡ false → rightAt (without gone t) i ≡ true
+        → shortAt (without gone t) i ≡ true → Marked (without gone t) mark′ (i + 1) → x′ ≡ x + cond (isKind 3 (rec (without gone t) i)) 1 0
         → Passed gone t mark′ named held head next x′ b u (i + 1)
     passed-other mark′ x′ k r s m q =
         record {
           right = below-more _ _ (p .right) r;
           short = below-more _ _ (p .short) s;
           text = m;
-          entries = entries-other t named held head next u i k (p .entries);
+          entries = entries-other (without gone t) named held head next u i k (p .entries);
           texted = q ∙ rw (p .texted) (sym (texts-more (without gone t) i));
-          based = p .based ∙ sym (basing-more t i ∙ rw k);
+          based = p .based ∙ sym (basing-more (without gone t) i ∙ rw k);
         }
 
     -- no entry and no text: right, and short if it is a heading
-    pub passed-plain : isKind 2 (rec t i) ≡ false → isKind 3 (rec (without gone t) i) ≡ false → rightAt (without gone t) i ≡ true
+    pub passed-plain : isKind 2 (rec (without gone t) i) ≡ false → isKind 3 (rec (without gone t) i) ≡ false → rightAt (without gone t) i ≡ true
         → shortAt (without gone t) i ≡ true → Passed gone t mark named held head next x b u (i + 1)
     passed-plain k n r s = passed-other mark x k r s (unmarked (without gone t) start mark i a below (p .text) n) (rw n (omega arith))
 
-    pub passed-gone : isKind 2 (rec t i) ≡ false → stays gone i ≡ false → Passed gone t mark named held head next x b u (i + 1)
-    passed-gone k s =
-        passed-plain k (text-without gone t w i ∙ rw (s, and-no-right (isKind 3 (rec t i)) false refl)) (right-gone gone t i l k s)
+    pub passed-gone : stays gone i ≡ false → Passed gone t mark named held head next x b u (i + 1)
+    passed-gone s =
+        passed-plain (entry-without gone t i l ∙ rw (s, and-no-right (isKind 2 (rec t i)) false refl))
+        (text-without gone t w i ∙ rw (s, and-no-right (isKind 3 (rec t i)) false refl)) (right-gone gone t i l s)
         (rw (simple-without gone t w i, s, and-no-right (simple (rec t i)) false refl))
 
     pub passed-heading : byte (rec t i) 0 ≡ 1 → stays gone i ≡ true → (headingRight (rec t i) && leb (textLength (rec t i)) 24000) ≡ true
         → Passed gone t mark named held head next x b u (i + 1)
     passed-heading k s e =
         let z = rec-stays gone t w i s in
-        passed-plain (rw k) (rw (z, k)) (heading-right i l k s ∙ and-left (headingRight (rec t i)) _ e)
+        passed-plain (rw (z, k)) (rw (z, k)) (heading-right i l k s ∙ and-left (headingRight (rec t i)) _ e)
         (implies-by (simple (rec (without gone t) i)) _ (λ _. rw z (and-right (headingRight (rec t i)) _ e)))
 
     pub passed-free : (byte (rec t i) 0 ≡ 1 → ⊥) → (byte (rec t i) 0 ≡ 2 → ⊥) → (byte (rec t i) 0 ≡ 3 → ⊥) → stays gone i ≡ true
@@ -409,32 +349,32 @@ module _ (gone t : List ℕ) (w : Whole t) where
     passed-free n1 n2 n3 s e =
         let z = rec-stays gone t w i s in
         let y : (m : ℕ) → (byte (rec t i) 0 ≡ m → ⊥) → isKind m (rec (without gone t) i) ≡ false = λ m n. rw z (ne-eqb (byte (rec t i) 0) m n) in
-        passed-plain (ne-eqb (byte (rec t i) 0) 2 n2) (y 3 n3) (free-right i l n1 n2 n3 s ∙ e) (rw (y 1 n1))
+        passed-plain (y 2 n2) (y 3 n3) (free-right i l n1 n2 n3 s ∙ e) (rw (y 1 n1))
 
   -- an entry that is right as a record
-  right-is-entry : (i : ℕ) → rightAt (without gone t) i ≡ true → byte (rec t i) 0 ≡ 2 → entryRight (without gone t) (rec t i) ≡ true
-  right-is-entry i r k =
-      let z = rec-entry gone t w i (eq-eqb _ _ k) in
-      rw (← z) (sym (right-entry (without gone t) i (ap (λ r. byte r 0) z ∙ k)) ∙ r)
+  right-is-entry : (i : ℕ) → rightAt (without gone t) i ≡ true → byte (rec (without gone t) i) 0 ≡ 2
+      → entryRight (without gone t) (rec (without gone t) i) ≡ true
+  right-is-entry i r k = sym (right-entry (without gone t) i k) ∙ r
 
   -- what holds an entry that is right is a directory
-  pub found : (held : List ℕ) (i : ℕ) → Held t held i → ((j : ℕ) → j < i → rightAt (without gone t) j ≡ true) → Found gone t held
+  pub found : (held : List ℕ) (i : ℕ) → Held (without gone t) held i → ((j : ℕ) → j < i → rightAt (without gone t) j ≡ true) → Found gone t held
   unfolding holding
   found held i s r = record { at = at; long = s .counts .long }
     where
-      go : (d j : ℕ) → d < 2048 → j < i → stands (inDirectory d) (rec t j) ≡ true → directory (rec (without gone t) d) ≡ true
+      go : (d j : ℕ) → d < 2048 → j < i → stands (inDirectory d) (rec (without gone t) j) ≡ true → directory (rec (without gone t) d) ≡ true
       go d j l b e =
-          let f = stands-true (inDirectory d) (rec t j) e in
-          let h : holderOf (rec t j) ≡ d = f .heading in
-          let n : isBase (rec t j) ≡ false = ne-eqb (holderOf (rec t j)) 65535 (λ (x : holderOf (rec t j) ≡ 65535). let z : ⊥ = omega arith in z) in
-          let p = entry-view (without gone t) (rec t j) (right-is-entry j (r j b) (f .kind)) .place in
-          rw (← h) (rw n at (base-holder (without gone t) (rec t j) p))
+          let x = rec (without gone t) j in
+          let f = stands-true (inDirectory d) x e in
+          let h : holderOf x ≡ d = f .heading in
+          let n : isBase x ≡ false = ne-eqb (holderOf x) 65535 (λ (y : holderOf x ≡ 65535). let z : ⊥ = omega arith in z) in
+          let p = entry-view (without gone t) x (right-is-entry j (r j b) (f .kind)) .place in
+          rw (← h) (rw n at (base-holder (without gone t) x p))
 
       at : (d : ℕ) → d < 2048 → (getD held d 0 ≡ 0 → ⊥) → directory (rec (without gone t) d) ≡ true
       at d l n =
-          let p : not (eqb (countBelow (λ j. stands (inDirectory d) (rec t j)) i) 0) ≡ true =
-          rw (ne-eqb (countBelow (λ j. stands (inDirectory d) (rec t j)) i) 0 (λ q. n (s .counts .at d l ∙ q))) in
-          let a = any-true (λ j. stands (inDirectory d) (rec t j)) i (sym (counted-any (λ j. stands (inDirectory d) (rec t j)) i) ∙ p) in
+          let x : ℕ → Bool = λ j. stands (inDirectory d) (rec (without gone t) j) in
+          let p : not (eqb (countBelow x i) 0) ≡ true = rw (ne-eqb (countBelow x i) 0 (λ q. n (s .counts .at d l ∙ q))) in
+          let a = any-true x i (sym (counted-any x i) ∙ p) in
           go d (a .0) l (a .1) (a .2)
 
   -- what is known past the last record
@@ -450,15 +390,20 @@ module _ (gone t : List ℕ) (w : Whole t) where
         (rw q (sym (p .texted) ∙ e))
         (λ s l. rw q (p .text .once s l))
 
-    pub passed-single : 0 < u → noTwins t ≡ true
-    passed-single z = single-all t (p .entries .single z)
+    pub passed-single : 0 < u → noTwins (without gone t) ≡ true
+    passed-single z = single-all (without gone t) (λ j l. p .entries .single z j (rw (rooms-without gone t) at l))
 
-    pub passed-all : x ≡ starts (without gone t) (rooms t) → allNamed (without gone t) ≡ true → noTwins t ≡ true → shaped (without gone t) ≡ noneCrowded t
+    pub passed-all : x ≡ starts (without gone t) (rooms t) → allNamed (without gone t) ≡ true → noTwins (without gone t) ≡ true
+        → shaped (without gone t) ≡ noneCrowded (without gone t)
     unfolding textSound
-    passed-all e n o = shaped-left (without gone t) all-right n (all-text e) (twins-without gone t ∙ o) ∙ crowded-without gone t
+    passed-all e n o = shaped-left (without gone t) all-right n (all-text e) o
 
-    pub passed-few : length t ≤ 65536 → b ≤ 100 → noneCrowded t ≡ true
+    -- an entry of it is right
+    entry-right : (i : ℕ) → i < rooms (without gone t) → byte (rec (without gone t) i) 0 ≡ 2 → entryRight (without gone t) (rec (without gone t) i) ≡ true
+    entry-right i l k = right-is-entry i (p .right i (rw (rooms-without gone t) at l)) k
+
+    pub passed-few : length t ≤ 65536 → b ≤ 100 → noneCrowded (without gone t) ≡ true
     passed-few small few =
-        few-bases t named held head next u (p .entries) (omega (arith, p .based))
-        (λ i l k. base-user (without gone t) (rec t i) (entry-view (without gone t) (rec t i) (right-is-entry i (p .right i l) k) .place))
-        (λ i l k n. omega (arith, entry-stands (rec t i) (right-is-entry i (p .right i l) k) n .0))
+        few-bases (without gone t) named held head next u (rw (rooms-without gone t) (p .entries)) (rw (rooms-without gone t) (omega (arith, p .based)))
+        (λ i l k. base-user (without gone t) _ (entry-view (without gone t) (rec (without gone t) i) (entry-right i l k) .place))
+        (λ i l k n. omega (arith, entry-stands (rec (without gone t) i) (entry-right i l k) n .0))

@@ -1,16 +1,12 @@
 -- Headings named, and what they say of it: how many entries name them and, if they are directories', how many they hold.
-use mathlib.Core.Bool.{Bool, _&&_, _||_, not}
+use mathlib.Core.Bool.{Bool, _&&_}
 use mathlib.Core.List.{List}
 use Prim.Native.Nat.{ℕ}
-use Rattle.paper.specs.Count.{says, countsRight}
-use Rattle.paper.specs.Record.{isKind, directory}
+use Rattle.paper.specs.Count.{countsRight}
+use Rattle.paper.specs.Record.{isKind}
 use Rattle.paper.specs.Table.{rec}
 use Rattle.paper.specs.Entry.{named}
 use Rattle.paper.specs.Sound.{implies, allNamed, countsTrue, shaped}
-
--- heading r says that n entries name it and, if it is a directory's, that it holds m
-unfoldable pub tells : ℕ → ℕ → List ℕ → Bool
-tells n m r = says n 12 r && (not (directory r) || says m 14 r)
 
 -- record i, if it is a heading, is named and, where counts are judged, says how it is
 abbrev pub headed : Bool → List ℕ → ℕ → Bool

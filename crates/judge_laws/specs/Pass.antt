@@ -4,24 +4,16 @@ use mathlib.Core.List.{List}
 use mathlib.Core.Path.{_≡_}
 use Prim.Native.Nat.{ℕ, _<_, _≤_}
 use lib.ListN.{getD, length}
-use Rattle.paper.specs.Entry.{inDirectory, stands}
-use Rattle.paper.specs.Record.{isKind, directory, names}
+use Rattle.paper.specs.Record.{isKind, directory}
 use Rattle.paper.specs.Scan.{countBelow}
 use Rattle.paper.specs.Sound.{isBase}
 use Rattle.paper.specs.Table.{rec}
+use Rattle.records.specs.Numbered.{naming, holding, Numbered}
 use Rattle.judge_laws.specs.Chains.{Chained}
 use Rattle.judge_laws.specs.Mask.{without}
 use Rattle.judge_laws.specs.Places.{shortAt, texts, Marked}
 use Rattle.judge_laws.specs.Shapes.{rightAt}
 use Rattle.judge_laws.specs.Twins.{hashOf, single}
-
--- how many entries below i name heading h
-unfoldable pub naming : List ℕ → ℕ → ℕ → ℕ
-naming t i h = countBelow (λ j. names h (rec t j)) i
-
--- how many entries below i stand in directory d
-unfoldable pub holding : List ℕ → ℕ → ℕ → ℕ
-holding t i d = countBelow (λ j. stands (inDirectory d) (rec t j)) i
 
 -- record j is an entry of a base file
 abbrev pub baseEntry : List ℕ → ℕ → Bool
@@ -30,11 +22,6 @@ baseEntry t j = isKind 2 (rec t j) && isBase (rec t j)
 -- how many entries of base files there are below i
 unfoldable pub basing : List ℕ → ℕ → ℕ
 basing t i = countBelow (baseEntry t) i
-
--- each record a table may have, with its number
-pub record Numbered (f : ℕ → ℕ) (a : List ℕ) : Type 0 where
-  pub at : (h : ℕ) → h < 2048 → getD a h 0 ≡ f h
-  pub long : length a ≡ 2048
 
 -- what the directories hold below i, none of them too much
 pub record Held (t held : List ℕ) (i : ℕ) : Type 0 where
@@ -59,6 +46,6 @@ pub record Passed (gone t mark named held head next : List ℕ) (text-count base
   pub right : (j : ℕ) → j < i → rightAt (without gone t) j ≡ true
   pub short : (j : ℕ) → j < i → shortAt (without gone t) j ≡ true
   pub text : Marked (without gone t) mark i
-  pub entries : Entries t named held head next left i
+  pub entries : Entries (without gone t) named held head next left i
   pub texted : text-count ≡ texts (without gone t) i
-  pub based : base-count ≡ basing t i
+  pub based : base-count ≡ basing (without gone t) i

@@ -23,7 +23,7 @@ use Rattle.laws.proofs.Tests.{truth, false-by}
 use Rattle.laws.proofs.Sound.{sized-whole}
 use Rattle.demands.proofs.MendAnswered.{MendCame, unsized, unsound, whole, cutOff, mend-came}
 use Rattle.mending.specs.declared.Mended.{Mended}
-use Rattle.mending.specs.Counted.{Allowed}
+use Rattle.mending.specs.Allowed.{Allowed}
 use Rattle.mending.specs.Gone.{GoneBelow, allStores}
 use Rattle.mending.specs.Shown.{mendShown}
 use Rattle.mending.proofs.Corrected.{sound-mended}

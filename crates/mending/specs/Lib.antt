@@ -1,4 +1,3 @@
 pub mod Gone
-pub mod Counted
+pub mod Allowed
 pub mod Shown
-pub mod Corrected

@@ -12,7 +12,7 @@ use Rattle.paper.specs.Declaration.{typeLetter, lifetimeLetter, levelLet
 use Rattle.paper.specs.Octal.{digits, octal}
 use Rattle.paper.specs.Line.{legalLine, placed, skipped, atColon, close, closed, grow, split, solid, words, word}
 use Rattle.paper.specs.Check.{verdict}
-use Rattle.paper.specs.Request.{counted, firstWrong, oldFrom, newTo, each, between, declaredAt, octalAt, readCrd, readWrs, readRds, readLst, readCpy, readDup, readChn, readDpr, readDel, depthOf, readTree, readRewrite, readFunction, read, asked}
+use Rattle.paper.specs.Request.{counted, firstWrong, oldFrom, newTo, each, between, declaredAt, octalAt, readCrd, readWrs, readRds, readLst, readCpy, readDup, readChn, readDpr, readNames, depthOf, readTree, readRewrite, readFunction, read, asked}
 use Rattle.paper.specs.Entry.{stands, bears, find, crowd, named, peopled}
 use Rattle.paper.specs.Block.{share, block, fileText}
 use Rattle.paper.specs.Sound.{asAbove, holdersThere, headingsThere, usersRight, namesPadded, noneTwice, allNamed, noneCrowded, directoriesPlain, textsWhole, noOtherText, namesLegal, countsTrue, shaped, sound}
@@ -20,14 +20,14 @@ use Rattle.paper.specs.Walk.{applies, look, enter, follow, toDirectory, 
 use Rattle.paper.specs.Store.{fills, run}
 use Rattle.paper.specs.Count.{namings, countsRight, recounted}
 use Rattle.paper.specs.Listing.{typeShown, lifetimeShown, levelShown, line, insert, inOrder, listed, lines, opens, entryBy, linesBy, tree}
-use Rattle.paper.specs.Effect.{freed, lost, settled, losing, making, newFile, crdPlan, wrsPlan, cpyPlan, dupPlan, renamed, chnPlan, recoded, dprPlan, delPlan, part, rdsPlan, lstPlan, lstBasePlan, lstTreePlan, lstBaseTreePlan, emptying, laying, rewriting, rewritePlan}
-use Rattle.paper.specs.Mend.{keepsText, clearStores, cleared, mendStores, mended}
+use Rattle.paper.specs.Effect.{freed, lost, settled, losing, making, newFile, crdPlan, wrsPlan, cpyPlan, dupPlan, renamed, chnPlan, recoded, dprPlan, delPlan, destroying, dstPlan, part, rdsPlan, lstPlan, lstBasePlan, lstTreePlan, lstBaseTreePlan, emptying, laying, rewriting, rewritePlan}
+use Rattle.paper.specs.Mend.{anchored, keepsText, after₁, after₂, clearStores, cleared, mendStores, mended}
 use Rattle.paper.specs.Answer.{deleting, granted, entrance, requested, mendable, mending}
 use Rattle.paper.specs.Case.{Case, holds, holdAll, linksA, cases}
 
 -- `holdAll`, with every definition open
 unfoldable pub hold : List Case → Bool
-unfolding numberAt bytesOf allBelow anyBelow countBelow firstBelow joinBelow nameOf held zeros blank headingRecord rewritten nameField entryRecord textRecord rec lay frees textRoom same all linkName pointed chain linkNames wellFormed legalBase userName counting userNumber before typeLetter lifetimeLetter levelLetter digit codeAt levelAt pointAt lifetimeAt declaration declared digits octal legalLine placed skipped atColon close closed grow split solid words word verdict counted firstWrong oldFrom newTo each between declaredAt octalAt readCrd readWrs readRds readLst readCpy readDup readChn readDpr readDel depthOf readTree readRewrite readFunction read asked stands bears find crowd named peopled share block fileText asAbove holdersThere headingsThere usersRight namesPadded noneTwice allNamed noneCrowded directoriesPlain textsWhole noOtherText namesLegal countsTrue shaped sound applies look enter follow toDirectory lastName ended run typeShown lifetimeShown levelShown line insert inOrder listed lines opens entryBy linesBy tree freed lost settled losing making newFile crdPlan wrsPlan cpyPlan dupPlan renamed chnPlan recoded dprPlan delPlan part rdsPlan lstPlan lstBasePlan lstTreePlan lstBaseTreePlan emptying laying rewriting rewritePlan keepsText fills namings countsRight recounted clearStores cleared mendStores mended deleting granted entrance requested mendable mending linksA holds holdAll
+unfolding numberAt bytesOf allBelow anyBelow countBelow firstBelow joinBelow nameOf held zeros blank headingRecord rewritten nameField entryRecord textRecord rec lay frees textRoom same all linkName pointed chain linkNames wellFormed legalBase userName counting userNumber before typeLetter lifetimeLetter levelLetter digit codeAt levelAt pointAt lifetimeAt declaration declared digits octal legalLine placed skipped atColon close closed grow split solid words word verdict counted firstWrong oldFrom newTo each between declaredAt octalAt readCrd readWrs readRds readLst readCpy readDup readChn readDpr readNames depthOf readTree readRewrite readFunction read asked stands bears find crowd named peopled share block fileText asAbove holdersThere headingsThere usersRight namesPadded noneTwice allNamed noneCrowded directoriesPlain textsWhole noOtherText namesLegal countsTrue shaped sound applies look enter follow toDirectory lastName ended run typeShown lifetimeShown levelShown line insert inOrder listed lines opens entryBy linesBy tree freed lost settled losing making newFile crdPlan wrsPlan cpyPlan dupPlan renamed chnPlan recoded dprPlan delPlan destroying dstPlan part rdsPlan lstPlan lstBasePlan lstTreePlan lstBaseTreePlan emptying laying rewriting rewritePlan anchored keepsText after₁ after₂ fills namings countsRight recounted clearStores cleared mendStores mended deleting granted entrance requested mendable mending linksA holds holdAll
 hold = holdAll
 
 pub all-cases-hold : holdAll cases ≡ true

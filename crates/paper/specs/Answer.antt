@@ -7,10 +7,10 @@ use lib.ListN.{length, take, drop}
 use Rattle.paper.specs.Table.{sized}
 use Rattle.paper.specs.Line.{Word}
 use Rattle.paper.specs.Check.{Place, whole, Refusal, check, Verdict, passed, refused, verdict}
-use Rattle.paper.specs.Request.{Request, crd, wrs, rds, cpy, dup, chn, del, dpr, lst, lstBase, lstTree, lstBaseTree, rewrite, Read, request, unread, asked}
+use Rattle.paper.specs.Request.{Request, crd, wrs, rds, cpy, dup, chn, del, dst, dpr, lst, lstBase, lstTree, lstBaseTree, rewrite, Read, request, unread, asked}
 use Rattle.paper.specs.Sound.{sound}
 use Rattle.paper.specs.Store.{Store, run}
-use Rattle.paper.specs.Effect.{Plan, Planned, plan, halted, crdPlan, wrsPlan, rdsPlan, cpyPlan, dupPlan, chnPlan, delPlan, dprPlan, lstPlan, lstBasePlan, lstTreePlan, lstBaseTreePlan, rewritePlan, listOf, begun}
+use Rattle.paper.specs.Effect.{Plan, Planned, plan, halted, crdPlan, wrsPlan, rdsPlan, cpyPlan, dupPlan, chnPlan, delPlan, dstPlan, dprPlan, lstPlan, lstBasePlan, lstTreePlan, lstBaseTreePlan, rewritePlan, listOf, begun}
 use Rattle.paper.specs.Mend.{mendStores, mended}
 
 -- "An answer has: number; place ..; names done; displaced or not; bytes written; stores made." The place is two numbers
@@ -60,7 +60,7 @@ abbrev pub ran : ℕ → Planned → Ran
 ran k (halted f) = refusedBy f
 ran k (plan p) = stores k p (verdict (p .checks))
 
--- every function but DEL: "The rest of the buffer is unchanged."
+-- every function but DEL and DST: "The rest of the buffer is unchanged."
 abbrev pub single : List ℕ → List ℕ → ℕ → Ran → Outcome
 single t reply k (refusedBy f) = refusing t reply f
 single t reply k (done p) =
@@ -81,10 +81,15 @@ oneName t reply k n made more (done p) =
 oneName t reply k n made more (cut p) =
     record { answer = plain 22 (whole 0) n (made + k); table = run t (take k (p .stores)); reply = reply }
 
-unfoldable pub deleting : List ℕ → ℕ → List ℕ → (k done made : ℕ) → List Word → Outcome
-deleting t u reply k n made [] = record { answer = plain 0 (whole 0) n made; table = t; reply = reply }
-deleting t u reply k n made (w ∷ ws) =
-    oneName t reply k n made (λ t₁ k₁ n₁ made₁. deleting t₁ u reply k₁ n₁ made₁ ws) (ran k (delPlan t u (n + 1) w))
+-- what one name does on a table: that of a user, the argument of this number
+abbrev pub NamePlan : Type 0
+NamePlan = List ℕ → ℕ → ℕ → Word → Planned
+
+-- all the names, each by the plan of one; document 02: "whatever .. document 01 .. say for a DEL of several names holds for DST too"
+unfoldable pub deleting : NamePlan → List ℕ → ℕ → List ℕ → (k done made : ℕ) → List Word → Outcome
+deleting one t u reply k n made [] = record { answer = plain 0 (whole 0) n made; table = t; reply = reply }
+deleting one t u reply k n made (w ∷ ws) =
+    oneName t reply k n made (λ t₁ k₁ n₁ made₁. deleting one t₁ u reply k₁ n₁ made₁ ws) (ran k (one t u (n + 1) w))
 
 -- what a request does on a sound table
 unfoldable pub granted : List ℕ → List ℕ → List ℕ → ℕ → ℕ → Request → Outcome
@@ -98,7 +103,8 @@ granted t text reply u k (cpy from old new lifetime level code) =
 granted t text reply u k (dup from old to new code) =
     single t reply k (ran k (dupPlan t (listOf u from) (listOf u to) to (begun from old) (begun to new) code))
 granted t text reply u k (chn old link) = single t reply k (ran k (chnPlan t u old link))
-granted t text reply u k (del names) = deleting t u reply k 0 0 names
+granted t text reply u k (del names) = deleting delPlan t u reply k 0 0 names
+granted t text reply u k (dst names) = deleting dstPlan t u reply k 0 0 names
 granted t text reply u k (dpr name code) = single t reply k (ran k (dprPlan t u name code))
 granted t text reply u k (lst from name) = single t reply k (ran k (lstPlan t (listOf u from) reply (begun from name)))
 granted t text reply u k lstBase = single t reply k (ran k (lstBasePlan t u reply))

@@ -240,6 +240,17 @@ displaced old new = old ++ ours 82 2 ++ new
 abbrev pub twoFiles : (one other g : ℕ) → List ℕ
 twoFiles one other g = sheetOf 0 one ++ entryR ++ sheetOf 1 other ++ ours 71 g ++ ours 87 2
 
+-- `DST ` and what follows; `.R:A`
+abbrev pub dst : List ℕ → List ℕ
+dst names = 68 ∷ 83 ∷ 84 ∷ 32 ∷ names
+
+abbrev pub dotRA : List ℕ
+dotRA = dotR ++ link
+
+-- `.R` of user 1, its entry of this code, holds A, a simple file without text and of this code
+abbrev pub holdingA : (entry heading : ℕ) → List ℕ
+holdingA entry heading = box 1 1 ++ coded entry entryR ++ limits heading 1 0 0 ++ within 0 65 2 0
+
 -- a table that is refused
 abbrev pub unsound : List ℕ → Case
 unsound table = asks table delR [] [] 1 9 (answer 2 0 0 0 0 0 0) table []
@@ -440,4 +451,43 @@ cases =
     -- "for a directory": a simple file's bytes 14-15 are zero, and mending leaves them
     ∷ unsound (take 14 (sheet 0) ++ 1 ∷ drop 15 (sheet 0) ++ entryR)
     ∷ mends (take 14 (sheet 0) ++ 1 ∷ drop 15 (sheet 0) ++ entryR) 9 (answer 2 0 0 0 0 0 0) (take 14 (sheet 0) ++ 1 ∷ drop 15 (sheet 0) ++ entryR)
+    -- document 02, `DST`: "heading cleared, text by position, then every entry naming it"; a base list has no counts
+    ∷ asks lettered (dst dotR) [] [] 1 9 (answer 0 0 0 1 0 0 3) (pair ++ blank) []
+    ∷ asks lettered (dst dotR) [] [] 1 1 (answer 22 0 0 0 0 0 1) (blank ++ drop 32 lettered) []
+    ∷ asks lettered (dst dotR) [] [] 1 2 (answer 22 0 0 0 0 0 2) (pair ++ entryR) []
+    -- "by record number, then the holders' counts": E by two paths in two directories; a cut is mended to the table after
+    ∷ asks (branches 4) (dst (dotR ++ 58 ∷ 69 ∷ [])) [] [] 1 9 (answer 0 0 0 1 0 0 5)
+    (box 1 1 ++ entryR ++ headingR ++ within 0 68 2 4 ++ blank ++ pair) []
+    ∷ asks (branches 4) (dst (dotR ++ 58 ∷ 69 ∷ [])) [] [] 1 4 (answer 22 0 0 0 0 0 4)
+    (box 1 1 ++ entryR ++ box 1 1 ++ within 0 68 2 4 ++ blank ++ pair) []
+    ∷ asks (branches 4) (dst (dotR ++ 58 ∷ 69 ∷ [])) [] [] 1 2 (answer 22 0 0 0 0 0 2)
+    (box 1 2 ++ entryR ++ box 1 1 ++ within 0 68 2 4 ++ pair ++ within 2 70 4 1) []
+    ∷ mends (box 1 2 ++ entryR ++ box 1 1 ++ within 0 68 2 4 ++ pair ++ within 2 70 4 1) 9 (answer 0 0 0 0 0 0 3)
+    (box 1 1 ++ entryR ++ headingR ++ within 0 68 2 4 ++ blank ++ pair)
+    -- .. "every path must go": that of user 777 too
+    ∷ asks (given entryR entryA) (dst dotR) [] [] 1 9 (answer 0 0 0 1 0 0 4) (pair ++ headingR ++ nights 71 2 ++ blank) []
+    -- "needs write on each file": by the heading's code, and by the code of the entry followed; "and asks nothing of the directories"
+    ∷ asks (holdingA 0 1) (dst dotRA) [] [] 1 9 (answer 14 1 2 0 0 0 0) (holdingA 0 1) []
+    ∷ asks (branches 4) (dst (dotR ++ 58 ∷ 68 ∷ 58 ∷ 70 ∷ [])) [] [] 1 9 (answer 14 1 3 0 0 0 0) (branches 4) []
+    ∷ asks (holdingA 1 0) delRA [] [] 1 9 (answer 14 1 2 0 0 0 0) (holdingA 1 0) []
+    ∷ asks (holdingA 1 0) (dst dotRA) [] [] 1 9 (answer 0 0 0 1 0 0 3) (headingR ++ coded 1 entryR ++ pair) []
+    -- "18 for a directory with entries, its own self-entry included"; an empty one goes; 14 before it
+    ∷ asks inside (dst dotR) [] [] 1 9 (answer 18 1 1 0 0 0 0) inside []
+    ∷ asks loop (dst dotR) [] [] 1 9 (answer 18 1 1 0 0 0 0) loop []
+    ∷ asks (headingR ++ entryR) (dst dotR) [] [] 1 9 (answer 0 0 0 1 0 0 2) pair []
+    ∷ asks (holdingA 1 0) (dst dotR) [] [] 1 9 (answer 14 1 1 0 0 0 0) (holdingA 1 0) []
+    -- "`DST` takes 1 to 8 names": `DST .R:A .R:A` gets 11 at its second name, with one name done; `DST .R:A .R` destroys both
+    ∷ asks inside (dst (dotRA ++ 32 ∷ dotRA)) [] [] 1 9 (answer 11 2 2 1 0 0 3) (headingR ++ entryR ++ pair) []
+    ∷ asks inside (dst (dotRA ++ 32 ∷ dotR)) [] [] 1 9 (answer 0 0 0 2 0 0 5) (pair ++ pair) []
+    ∷ asks inside (dst (dotRA ++ 32 ∷ dotRA)) [] [] 1 2 (answer 22 0 0 0 0 0 2) (box 1 1 ++ entryR ++ pair) []
+    ∷ asks [] (take 3 (dst [])) [] [] 1 9 (answer 6 0 0 0 0 0 0) [] []
+    -- "otherwise as DEL": 11, 12; request g: "In every other place it still gets 8"
+    ∷ asks inside (dst (dotR ++ 58 ∷ 66 ∷ [])) [] [] 1 9 (answer 11 1 2 0 0 0 0) inside []
+    ∷ asks inside (dst (dotRA ++ link)) [] [] 1 9 (answer 12 1 2 0 0 0 0) inside []
+    ∷ asks [] (dst (night ++ link)) [] [] 1 9 (answer 8 1 1 0 0 0 0) [] []
+    -- "Mending now first clears entries that name no heading": here itself; and then a heading that the entry did not name, and its text
+    ∷ mends entryR 9 (answer 0 0 0 0 0 0 1) blank
+    ∷ mends (drop 32 lettered) 9 (answer 0 0 0 0 0 0 2) pair
+    ∷ mends (ours 82 3 ++ drop 32 (take 64 lettered) ++ sheet 0) 9 (answer 0 0 0 0 0 0 3) (pair ++ blank)
+    ∷ mends (ours 82 3 ++ drop 32 (take 64 lettered) ++ sheet 0) 1 (answer 22 0 0 0 0 0 1) (blank ++ drop 32 (take 64 lettered) ++ sheet 0)
     ∷ []

@@ -5,8 +5,8 @@ use Prim.Native.Nat.{ℕ, _+_}
 use lib.Dec.{eqb, ltb}
 use lib.ListN.{length, take, drop, set}
 use Rattle.paper.specs.Scan.{Found, at, nowhere, eachBelow}
-use Rattle.paper.specs.Record.{level, headingCode, lifetime, marked, entryCode, headingNamed, directory, simple, blank, headingRecord, rewritten, nameField, entryRecord, textRecord}
-use Rattle.paper.specs.Table.{rec, lay, frees, room, textRoom}
+use Rattle.paper.specs.Record.{level, headingCode, lifetime, marked, entryCode, headingNamed, directory, simple, names, blank, headingRecord, rewritten, nameField, entryRecord, textRecord}
+use Rattle.paper.specs.Table.{rooms, rec, lay, frees, room, textRoom}
 use Rattle.paper.specs.Name.{dotG, dotT, chain}
 use Rattle.paper.specs.Declaration.{Part, orElse}
 use Rattle.paper.specs.Line.{Word}
@@ -16,7 +16,7 @@ use Rattle.paper.specs.Code.{joined, noRead, noWrite, lacks}
 use Rattle.paper.specs.Entry.{find, full, named, peopled}
 use Rattle.paper.specs.Block.{blocks, block, blocksOf, fileText}
 use Rattle.paper.specs.Walk.{State, start, file, Walked, reached, stopped, toDirectory, lastName, End, arrived, astray, ended}
-use Rattle.paper.specs.Store.{Store, puts, clear, run}
+use Rattle.paper.specs.Store.{Store, puts, clear, clears, run}
 use Rattle.paper.specs.Count.{recounts}
 use Rattle.paper.specs.Listing.{directoryLines, baseLines, directoryTree, baseTree}
 
@@ -137,9 +137,13 @@ taken place found = check (isFound found) 16 place
 abbrev pub fullUp : List ℕ → Making → Check
 fullUp t m = check (not (isFound (borne t m)) && full t (m .directory .holder)) 17 (m .place)
 
+-- heading h is "a directory with entries"
+abbrev pub withEntries : List ℕ → ℕ → Bool
+withEntries t h = directory (rec t h) && peopled t h
+
 -- 18: "file losing its last entry is a directory with entries"
 unfoldable pub losing : List ℕ → ℕ → List ℕ → Bool
-losing t e r = lost t e r && (directory (rec t (headingNamed (rec t e))) && peopled t (headingNamed (rec t e)))
+losing t e r = lost t e r && withEntries t (headingNamed (rec t e))
 
 abbrev pub displacing : List ℕ → Found → List ℕ → Bool
 displacing t (at e) r = losing t e r
@@ -295,6 +299,19 @@ delAt t place d f =
 
 unfoldable pub delPlan : List ℕ → ℕ → ℕ → Word → Planned
 delPlan t u argument name = toEnd t u argument name (delAt t (endOf argument name))
+
+-- document 02, `DST`: "heading cleared, text by position, then every entry naming it, by record number"
+unfoldable pub destroying : List ℕ → ℕ → List Store
+destroying t h = freed t h ++ clears (λ i. names h (rec t i)) (rooms t)
+
+-- "`DST` .. needs write on each file, and asks nothing of the directories", "then the holders' counts"; "18 for a directory with entries, its
+-- own self-entry included". One name, the argument of this number
+abbrev pub dstAt : List ℕ → Place → State → Planned
+dstAt t place f =
+    storing (writeInhibited place f ∷ stillPeopled place (withEntries t (file t f)) ∷ []) (withCounts t (destroying t (file t f)))
+
+unfoldable pub dstPlan : List ℕ → ℕ → ℕ → Word → Planned
+dstPlan t u argument name = toEnd t u argument name (λ _ f. dstAt t (endOf argument name) f)
 
 -- a plan that stores nothing and writes to the reply buffer, with the checks before 20 and those after it
 abbrev pub showing : List Check → List ℕ → List ℕ → List Check → Planned

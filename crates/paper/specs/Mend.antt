@@ -2,11 +2,19 @@
 use mathlib.Core.Bool.{Bool, _&&_, not}
 use mathlib.Core.List.{List, _++_}
 use Prim.Native.Nat.{ℕ}
-use Rattle.paper.specs.Record.{isKind, simple, marked, headingOf}
+use Rattle.paper.specs.Record.{isKind, simple, marked, headingNamed, headingOf}
 use Rattle.paper.specs.Table.{rooms, rec}
 use Rattle.paper.specs.Entry.{named}
 use Rattle.paper.specs.Store.{Store, clears, run}
 use Rattle.paper.specs.Count.{recounts}
+
+-- entry r names a heading
+unfoldable pub anchored : List ℕ → List ℕ → Bool
+anchored t r = isKind 1 (rec t (headingNamed r))
+
+-- document 02: "entries that name no heading"
+abbrev pub adrift : List ℕ → ℕ → Bool
+adrift t i = isKind 2 (rec t i) && not (anchored t (rec t i))
 
 -- a heading "that no entry names"
 abbrev pub orphan : List ℕ → ℕ → Bool
@@ -24,16 +32,28 @@ stray t i = isKind 3 (rec t i) && not (keepsText (rec t (headingOf (rec t i))))
 abbrev pub wiped : (ℕ → Bool) → List ℕ → List ℕ
 wiped p t = run t (clears p (rooms t))
 
--- "clear every heading that no entry names"
+-- document 02: "Mending now first clears entries that name no heading."
 abbrev pub mendFirst : List ℕ → List Store
-mendFirst t = clears (orphan t) (rooms t)
+mendFirst t = clears (adrift t) (rooms t)
+
+-- "clear every heading that no entry names"
+abbrev pub mendSecond : List ℕ → List Store
+mendSecond t = clears (orphan t) (rooms t)
 
 -- "then every text record whose heading is not a simple-file heading", and a marked file's
-abbrev pub mendSecond : List ℕ → List Store
-mendSecond t = clears (stray t) (rooms t)
+abbrev pub mendThird : List ℕ → List Store
+mendThird t = clears (stray t) (rooms t)
 
+-- the table after the first step, and after the second
+unfoldable pub after₁ : List ℕ → List ℕ
+after₁ t = run t (mendFirst t)
+
+unfoldable pub after₂ : List ℕ → List ℕ
+after₂ t = run (after₁ t) (mendSecond (after₁ t))
+
+-- each step on the table after the one before
 unfoldable pub clearStores : List ℕ → List Store
-clearStores t = mendFirst t ++ mendSecond (run t (mendFirst t))
+clearStores t = mendFirst t ++ (mendSecond (after₁ t) ++ mendThird (after₂ t))
 
 unfoldable pub cleared : List ℕ → List ℕ
 cleared t = run t (clearStores t)

@@ -25,6 +25,7 @@ pub data Request : Type 0 where
   dup : (from : Begin) (old : Word) (to : Begin) (new : Word) (code : Part) → Request
   chn : (old link : Word) → Request
   del : (names : List Word) → Request
+  dst : (names : List Word) → Request
   dpr : (name : Word) (code : ℕ) → Request
   lst : (from : Begin) (name : Word) → Request
   lstBase : Request
@@ -220,10 +221,10 @@ unfoldable pub readDpr : List ℕ → Read
 readDpr line =
     after (verdict (miscounted 2 2 line ∷ misnamed 1 2 line)) (needed 2 (dprCode (declaredAt line 2)) (λ code. dpr (word line 1) code))
 
--- "DEL 1 to 8 names"
-unfoldable pub readDel : List ℕ → Read
-readDel line =
-    readAs (del (drop 1 (words line))) (verdict (miscounted 1 8 line ∷ misnamed 1 (length (words line)) line))
+-- "DEL 1 to 8 names"; document 02: "`DST` takes 1 to 8 names"
+unfoldable pub readNames : (List Word → Request) → List ℕ → Read
+readNames r line =
+    readAs (r (drop 1 (words line))) (verdict (miscounted 1 8 line ∷ misnamed 1 (length (words line)) line))
 
 -- "the digit's depth, 1 to 8": one byte
 unfoldable pub depthOf : List ℕ → Part
@@ -268,12 +269,13 @@ readFunction line =
     (cond (isFunction 67 80 89 line) (readCpy line)
     (cond (isFunction 68 85 80 line) (readDup line)
     (cond (isFunction 67 72 78 line) (readChn line)
-    (cond (isFunction 68 69 76 line) (readDel line)
+    (cond (isFunction 68 69 76 line) (readNames del line)
+    (cond (isFunction 68 83 84 line) (readNames dst line)
     (cond (isFunction 68 80 82 line) (readDpr line)
     (cond (isFunction 76 83 84 line) (readLst line)
     (cond (isTree line) (readTree line)
     (cond (isRewrite line) (readRewrite line)
-    (unread (refusalAt 5 (whole 0)))))))))))))
+    (unread (refusalAt 5 (whole 0))))))))))))))
 
 -- 4: "line too long, or a byte outside 32..95"
 unfoldable pub read : List ℕ → Read
@@ -288,6 +290,7 @@ textTooLong (cpy from old new lifetime level code) text = false
 textTooLong (dup from old to new code) text = false
 textTooLong (chn old link) text = false
 textTooLong (del names) text = false
+textTooLong (dst names) text = false
 textTooLong (dpr name code) text = false
 textTooLong (lst from name) text = false
 textTooLong lstBase text = false

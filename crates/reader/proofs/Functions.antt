@@ -1,5 +1,5 @@
 -- What single functions need beside the laws of verdicts: a word that is one name is known by its stretch, and the first one's
--- decides the function; DEL's names are the words after the first, at least one where the count passed; CHN's five checks are one list.
+-- decides the function; the names of DEL and DST are the words after the first, at least one where the count passed; CHN's five checks are one list.
 use mathlib.Core.Bool.{Bool, true, false, _&&_, not, cond}
 use mathlib.Core.List.{List, [], _∷_}
 use mathlib.Core.Path.{_≡_, refl, sym, ap, _∙_}
@@ -11,16 +11,16 @@ use lib.Dec.{eqb, leb}
 use borrow.Author.Tests.{eqb-true, eq-eqb, ne-eqb, leb-true}
 use Rattle.paper.specs.Declaration.{given, notGiven}
 use Rattle.paper.specs.Name.{same, alone, linkName}
-use Rattle.paper.specs.Line.{words, word}
+use Rattle.paper.specs.Line.{Word, words, word}
 use Rattle.paper.specs.Check.{whole, refusalAt, Check, refused, verdict}
-use Rattle.paper.specs.Request.{unread, counted, miscounted, malformed, illegal, linkAlone, unlinked, misbased, isFunction, readCrd, readWrs, readRds, readLst, readCpy, readDup, readChn, readDpr, readDel, depthOf, depthGiven, isTree, readTree, isRewrite, readRewrite, readFunction}
+use Rattle.paper.specs.Request.{unread, del, dst, counted, miscounted, malformed, illegal, linkAlone, unlinked, misbased, isFunction, readCrd, readWrs, readRds, readLst, readCpy, readDup, readChn, readDpr, readNames, depthOf, depthGiven, isTree, readTree, isRewrite, readRewrite, readFunction}
 use Rattle.words.specs.Place.{loneOf, namesFrom, wordAt}
 use Rattle.laws.proofs.Entries.{same-true}
 use Rattle.laws.proofs.Tests.{false-by, and-left, and-right, clash}
 use Rattle.records.proofs.Order.{same-length}
 use Rattle.words.proofs.Names.{alone-lone}
 use Rattle.words.proofs.Words.{word-names}
-use Rattle.reader.specs.Asked.{firstStart, firstOf, shownVerdict, functionOf, readBy}
+use Rattle.reader.specs.Asked.{firstStart, shownRequest, removing, removed, firstOf, shownVerdict, functionOf, readBy}
 use Rattle.reader.specs.declared.function.Function.{Function}
 use Rattle.reader.specs.declared.function.Function.the-variants as function
 use Rattle.reader.specs.declared.request.Verdict.{Verdict}
@@ -71,27 +71,29 @@ pub function-read : (line : List ℕ) → readFunction line ≡ readBy (function
 unfolding readFunction functionOf
 function-read line =
     go (isFunction 67 82 68 line) (isFunction 87 82 83 line) (isFunction 82 68 83 line) (isFunction 67 80 89 line) (isFunction 68 85 80 line)
-    (isFunction 67 72 78 line) (isFunction 68 69 76 line) (isFunction 68 80 82 line) (isFunction 76 83 84 line) (isTree line) (isRewrite line)
+    (isFunction 67 72 78 line) (isFunction 68 69 76 line) (isFunction 68 83 84 line) (isFunction 68 80 82 line) (isFunction 76 83 84 line) (isTree line)
+    (isRewrite line)
   where
-    go : (a b c d e f g h i j k : Bool)
+    go : (a b c d e f g h i j k l : Bool)
         → cond a (readCrd line) (cond b (readWrs line) (cond c (readRds line) (cond d (readCpy line) (cond e (readDup line)
-        (cond f (readChn line) (cond g (readDel line) (cond h (readDpr line) (cond i (readLst line)
-        (cond j (readTree line) (cond k (readRewrite line) (unread (refusalAt 5 (whole 0)))))))))))))
+        (cond f (readChn line) (cond g (readNames del line) (cond h (readNames dst line) (cond i (readDpr line) (cond j (readLst line)
+        (cond k (readTree line) (cond l (readRewrite line) (unread (refusalAt 5 (whole 0))))))))))))))
         ≡ readBy (cond a function.Crd (cond b function.Wrs (cond c function.Rds (cond d function.Cpy (cond e function.Dup
-        (cond f function.Chn (cond g function.Del (cond h function.Dpr (cond i function.Lst
-        (cond j function.LstTree (cond k function.Rewrite function.Nothing))))))))))) line
-    go true b c d e f g h i j k = refl
-    go false true c d e f g h i j k = refl
-    go false false true d e f g h i j k = refl
-    go false false false true e f g h i j k = refl
-    go false false false false true f g h i j k = refl
-    go false false false false false true g h i j k = refl
-    go false false false false false false true h i j k = refl
-    go false false false false false false false true i j k = refl
-    go false false false false false false false false true j k = refl
-    go false false false false false false false false false true k = refl
-    go false false false false false false false false false false true = refl
-    go false false false false false false false false false false false = refl
+        (cond f function.Chn (cond g function.Del (cond h function.Dst (cond i function.Dpr (cond j function.Lst
+        (cond k function.LstTree (cond l function.Rewrite function.Nothing)))))))))))) line
+    go true b c d e f g h i j k l = refl
+    go false true c d e f g h i j k l = refl
+    go false false true d e f g h i j k l = refl
+    go false false false true e f g h i j k l = refl
+    go false false false false true f g h i j k l = refl
+    go false false false false false true g h i j k l = refl
+    go false false false false false false true h i j k l = refl
+    go false false false false false false false true i j k l = refl
+    go false false false false false false false false true j k l = refl
+    go false false false false false false false false false true k l = refl
+    go false false false false false false false false false false true l = refl
+    go false false false false false false false false false false false true = refl
+    go false false false false false false false false false false false false = refl
 
 -- what the first word's function reads, by the word's place and its stretch
 pub first-word : (line : List ℕ) (p : ℕ) (w : List ℕ) (f g : Function) → p ≡ word line 0 .start → w ≡ loneOf (namesFrom line p)
@@ -139,7 +141,7 @@ pub no-function : (n : List ℕ) → same n (76 ∷ 83 ∷ 84 ∷ 42 ∷ []) ≡
     → functionOf (n ∷ []) ≡ function.Nothing
 unfolding functionOf
 no-function n f g h = let no : (a b c : ℕ) → same n (a ∷ b ∷ c ∷ []) ≡ false = λ a b c. same-length n (a ∷ b ∷ c ∷ []) h in
-    rw (no 67 82 68, no 87 82 83, no 82 68 83, no 67 80 89, no 68 85 80, no 67 72 78, no 68 69 76, no 68 80 82, no 76 83 84, f, g)
+    rw (no 67 82 68, no 87 82 83, no 82 68 83, no 67 80 89, no 68 85 80, no 67 72 78, no 68 69 76, no 68 83 84, no 68 80 82, no 76 83 84, f, g)
 
 -- a passed count has at least the least number of arguments
 pub count-least : (least most : ℕ) (line : List ℕ) (cs : List Check) (v : Verdict)
@@ -161,6 +163,11 @@ module _ (line : List ℕ) (l : 1 ≤ length (words line) - 1) where
 
   pub rest-count : length (drop 1 (words line)) ≡ length (words line) - 1
   rest-count = length-drop 1 (words line)
+
+-- the request of some names, by the place of the first and their count
+pub removal-shown : (destroys : Bool) (ws : List Word) → removed destroys (firstStart ws) (length ws) ≡ shownRequest (removing destroys ws)
+removal-shown true ws = refl
+removal-shown false ws = refl
 
 -- CHN's five checks, one after the other: of word 1, which starts at p, and of word 2, at q
 module _ (line : List ℕ) (p q : ℕ) (va vb vc vd ve : Verdict) (old : p ≡ word line 1 .start) (link : q ≡ word line 2 .start) where

@@ -1,5 +1,5 @@
 -- A request that is read names the line's own words, since each function's reader builds it from them and a verdict only keeps
--- or drops it; so from an offset in the request the names there are the paper's, and DEL's go from word to word.
+-- or drops it; so from an offset in the request the names there are the paper's, and those of DEL and DST go from word to word.
 use mathlib.Core.List.{List, [], _∷_}
 use mathlib.Core.Path.{_≡_, refl}
 use Prim.Native.Nat.{ℕ, suc, _+_}
@@ -8,9 +8,9 @@ use lib.ListN.{length, getD, drop}
 use lib.Seq.{getD-drop}
 use Rattle.paper.specs.Name.{lonePoint}
 use Rattle.paper.specs.Declaration.{Part, given, notGiven, wrsLifetime, dprCode}
-use Rattle.paper.specs.Line.{words, word, legalLine}
+use Rattle.paper.specs.Line.{Word, words, word, legalLine}
 use Rattle.paper.specs.Check.{Refusal, Check, Verdict, passed, refused, verdict}
-use Rattle.paper.specs.Request.{Request, Read, request, unread, after, needed, declaredAt, isFunction, readCrd, readWrs, readRds, readLst, readCpy, readDup, readChn, readDpr, readDel, depthGiven, readTree, isTree, readRewrite, isRewrite, readFunction, read}
+use Rattle.paper.specs.Request.{Request, del, dst, Read, request, unread, after, needed, declaredAt, isFunction, readCrd, readWrs, readRds, readLst, readCpy, readDup, readChn, readDpr, readNames, depthGiven, readTree, isTree, readRewrite, isRewrite, readFunction, read}
 use Rattle.laws.proofs.Tests.{either}
 use Rattle.reader.specs.Tied.{Tied, TiedRead}
 
@@ -60,9 +60,9 @@ module _ (line : List ℕ) where
   unfolding readChn
   tied-chn = gives _ _ (refl, refl)
 
-  tied-del : TiedRead line (readDel line)
-  unfolding readDel
-  tied-del = gives _ _ refl
+  tied-names : (r : List Word → Request) → Tied line (r (drop 1 (words line))) → TiedRead line (readNames r line)
+  unfolding readNames
+  tied-names r t = gives _ _ t
 
   tied-dpr : TiedRead line (readDpr line)
   unfolding readDpr
@@ -91,19 +91,20 @@ module _ (line : List ℕ) where
       (either (TiedRead line) (isFunction 67 80 89 line) _ _ tied-cpy
       (either (TiedRead line) (isFunction 68 85 80 line) _ _ tied-dup
       (either (TiedRead line) (isFunction 67 72 78 line) _ _ tied-chn
-      (either (TiedRead line) (isFunction 68 69 76 line) _ _ tied-del
+      (either (TiedRead line) (isFunction 68 69 76 line) _ _ (tied-names del refl)
+      (either (TiedRead line) (isFunction 68 83 84 line) _ _ (tied-names dst refl)
       (either (TiedRead line) (isFunction 68 80 82 line) _ _ tied-dpr
       (either (TiedRead line) (isFunction 76 83 84 line) _ _ tied-lst
       (either (TiedRead line) (isTree line) _ _ tied-tree
       (either (TiedRead line) (isRewrite line) _ _ tied-rewrite
-      (none _)))))))))))
+      (none _))))))))))))
 
   -- what is read names the line's own words
   pub tied : TiedRead line (read line)
   unfolding read
   tied = either (TiedRead line) (legalLine line) _ _ tied-function (none _)
 
-  -- the names of DEL are word 1, word 2 and so on
+  -- the names of DEL and of DST are word 1, word 2 and so on
   pub rest-word : (j : ℕ) → getD (drop 1 (words line)) j (record { start = length line; names = [] ∷ [] }) ≡ word line (suc j)
   unfolding word
   rest-word j =

@@ -1,5 +1,5 @@
 -- The request, the refusal and the answer of the reader, for the paper's. A name stands by the place where its word starts.
-use mathlib.Core.Bool.{cond}
+use mathlib.Core.Bool.{Bool, true, false, cond}
 use mathlib.Core.List.{List, [], _∷_}
 use Prim.Native.Nat.{ℕ}
 use lib.Dec.{leb}
@@ -8,7 +8,7 @@ use Rattle.paper.specs.Line.{Word, word}
 use Rattle.paper.specs.Name.{alone}
 use Rattle.paper.specs.Check as paper
 use Rattle.paper.specs.Check.{whole, refusalAt, Check, passed, refused}
-use Rattle.paper.specs.Request.{malformed, illegal, illegalBut, isTake, isTakeWithin, isGive, miscounted, readCrd, readWrs, readRds, readLst, readCpy, readDup, readChn, readDpr, readDel, crd, wrs, rds, cpy, dup, chn, del, dpr, lst, lstBase, lstTree, lstBaseTree, rewrite, request, unread, after, needed, oldFrom, depthGiven, readTree, readRewrite}
+use Rattle.paper.specs.Request.{malformed, illegal, illegalBut, isTake, isTakeWithin, isGive, miscounted, readCrd, readWrs, readRds, readLst, readCpy, readDup, readChn, readDpr, readNames, crd, wrs, rds, cpy, dup, chn, del, dst, dpr, lst, lstBase, lstTree, lstBaseTree, rewrite, request, unread, after, needed, oldFrom, depthGiven, readTree, readRewrite}
 use Rattle.paper.specs.Request as asked
 use Rattle.words.specs.Shown.{beginShown, shownPart}
 use Rattle.words.specs.declared.octal.Part.the-variants.{Given, NotGiven}
@@ -18,7 +18,7 @@ use Rattle.declarations.specs.Given.{shownLifetime, shownLevel, shownDigit}
 use Rattle.reader.specs.declared.function.Function.{Function}
 use Rattle.reader.specs.declared.function.Function.the-variants as function
 use Rattle.reader.specs.declared.request.Request.{Request}
-use Rattle.reader.specs.declared.request.Request.the-variants.{Crd, Wrs, Rds, Cpy, Dup, Chn, Del, Dpr, Lst, LstBase, LstTree, LstBaseTree, Rewrite}
+use Rattle.reader.specs.declared.request.Request.the-variants.{Crd, Wrs, Rds, Cpy, Dup, Chn, Del, Dst, Dpr, Lst, LstBase, LstTree, LstBaseTree, Rewrite}
 use Rattle.reader.specs.declared.request.Refusal.{Refusal}
 use Rattle.reader.specs.declared.request.Verdict.{Verdict}
 use Rattle.reader.specs.declared.request.Verdict.the-variants as verdicts
@@ -32,7 +32,7 @@ abbrev pub firstStart : List Word → ℕ
 firstStart [] = 0
 firstStart (w ∷ ws) = w .start
 
--- a line for each of the nine functions, and LST of a lone point
+-- a line for each of the functions, and LST of a lone point
 abbrev pub shownRequest : asked.Request → Request
 shownRequest (crd w v d) = Crd (w .start) (shownLevel v) (shownDigit d)
 shownRequest (wrs f v d w) = Wrs f (shownLevel v) (shownDigit d) (w .start)
@@ -41,6 +41,7 @@ shownRequest (cpy b o n f v d) = Cpy (beginShown b) (o .start) (n .start) (shown
 shownRequest (dup b o e n d) = Dup (beginShown b) (o .start) (beginShown e) (n .start) (shownDigit d)
 shownRequest (chn o l) = Chn (o .start) (l .start)
 shownRequest (del ws) = Del (firstStart ws) (length ws)
+shownRequest (dst ws) = Dst (firstStart ws) (length ws)
 shownRequest (dpr w d) = Dpr (w .start) d
 shownRequest (lst b w) = Lst (beginShown b) (w .start)
 shownRequest lstBase = LstBase
@@ -96,6 +97,15 @@ abbrev pub bothChecks : List ℕ → Fault → Word → Fault → Word → List 
 bothChecks line take old give new =
     miscounted 2 3 line ∷ malformed 1 old ∷ malformed 2 new ∷ faultCheck take 1 old ∷ faultCheck give 2 new ∷ []
 
+-- DEL or, if it destroys, DST: the request of these names, and by the place of the first and their count
+abbrev pub removing : Bool → List Word → asked.Request
+removing true = dst
+removing false = del
+
+abbrev pub removed : Bool → ℕ → ℕ → Request
+removed true first count = Dst first count
+removed false first count = Del first count
+
 -- the function that a word of these names is
 unfoldable pub functionOf : List (List ℕ) → Function
 functionOf ns =
@@ -106,11 +116,12 @@ functionOf ns =
     (cond (alone (68 ∷ 85 ∷ 80 ∷ []) ns) function.Dup
     (cond (alone (67 ∷ 72 ∷ 78 ∷ []) ns) function.Chn
     (cond (alone (68 ∷ 69 ∷ 76 ∷ []) ns) function.Del
+    (cond (alone (68 ∷ 83 ∷ 84 ∷ []) ns) function.Dst
     (cond (alone (68 ∷ 80 ∷ 82 ∷ []) ns) function.Dpr
     (cond (alone (76 ∷ 83 ∷ 84 ∷ []) ns) function.Lst
     (cond (alone (76 ∷ 83 ∷ 84 ∷ 42 ∷ []) ns) function.LstTree
     (cond (alone (87 ∷ 82 ∷ 83 ∷ 42 ∷ []) ns) function.Rewrite
-    function.Nothing))))))))))
+    function.Nothing)))))))))))
 
 -- and what it reads of a line
 abbrev pub readBy : Function → List ℕ → asked.Read
@@ -120,7 +131,8 @@ readBy function.Rds = readRds
 readBy function.Cpy = readCpy
 readBy function.Dup = readDup
 readBy function.Chn = readChn
-readBy function.Del = readDel
+readBy function.Del = readNames del
+readBy function.Dst = readNames dst
 readBy function.Dpr = readDpr
 readBy function.Lst = readLst
 readBy function.LstTree = readTree

@@ -12,6 +12,7 @@ pub(crate) enum Function {
     Dup,
     Chn,
     Del,
+    Dst,
     Dpr,
     Lst,
     LstTree,
@@ -38,6 +39,8 @@ impl Function {
 
     const DEL: u32 = (b'D' as u32) * 65536 + (b'E' as u32) * 256 + b'L' as u32;
 
+    const DST: u32 = (b'D' as u32) * 65536 + (b'S' as u32) * 256 + b'T' as u32;
+
     const DPR: u32 = (b'D' as u32) * 65536 + (b'P' as u32) * 256 + b'R' as u32;
 
     const LST: u32 = (b'L' as u32) * 65536 + (b'S' as u32) * 256 + b'T' as u32;
@@ -55,6 +58,7 @@ impl Function {
             Function::DUP => Function::Dup,
             Function::CHN => Function::Chn,
             Function::DEL => Function::Del,
+            Function::DST => Function::Dst,
             Function::DPR => Function::Dpr,
             Function::LST => Function::Lst,
             _ => Function::Nothing,

@@ -40,12 +40,12 @@ ghost use Prim.Native.Nat.{_-_};
 ghost use lib.ListN.{length};
 ghost use Rattle.paper.specs.Line.{words};
 ghost use Rattle.paper.specs.Check.{verdict};
-ghost use Rattle.paper.specs.Request.{each, between, malformed, illegalBut, unlinked, misbased, miscounted, misnamed, linkAlone, readCrd, readWrs, readRds, readLst, readCpy, readDup, readChn, readDpr, readDel, depthGiven, readTree, readRewrite, readFunction, read};
+ghost use Rattle.paper.specs.Request.{each, between, malformed, illegalBut, unlinked, misbased, miscounted, misnamed, linkAlone, readCrd, readWrs, readRds, readLst, readCpy, readDup, readChn, readDpr, readNames, depthGiven, readTree, readRewrite, readFunction, read};
 ghost use Rattle.words.specs.Place.{namesFrom, wordAt};
 ghost use Rattle.declarations.specs.Given.{shownDigit};
-ghost use Rattle.reader.specs.Asked.{faultCheck, oldChecks, treeName, treeBase, bothChecks, firstOf, shownVerdict, shownRead};
+ghost use Rattle.reader.specs.Asked.{faultCheck, oldChecks, treeName, treeBase, bothChecks, removing, removed, firstOf, shownVerdict, shownRead};
 
-// The nine functions, and LST of a lone point. Names stand by the places where they start in the line; the names of DEL are
+// The functions, and LST of a lone point. Names stand by the places where they start in the line; the names of DEL and of DST are
 // the words from the first on.
 pub enum Request {
     Crd {
@@ -88,6 +88,10 @@ pub enum Request {
         first: usize,
         count: usize,
     },
+    Dst {
+        first: usize,
+        count: usize,
+    },
     Dpr {
         name: usize,
         code: u8,
@@ -111,7 +115,7 @@ pub enum Request {
 }
 
 impl Request {
-    // The most names that a DEL has.
+    // The most names that a DEL or a DST has.
     const MOST_NAMES: usize = 8;
 }
 
@@ -577,9 +581,25 @@ fn read_dpr(line: &[u8]) -> Read
     })
 }
 
-// DEL, 1 to 8 names
-fn read_del(line: &[u8]) -> Read
-    ensures { λ r. ⌜ r ≡ shownRead (readDel (now (line .entry))) ⌝ }
+// DEL of so many names or, if it destroys, DST of them.
+fn removal(destroys: bool, first: usize, count: usize) -> Request
+    ensures { λ r. ⌜ r ≡ removed destroys first count ⌝ }
+{
+    if destroys {
+        return Request::Dst {
+            first: first,
+            count: count,
+        };
+    }
+    Request::Del {
+        first: first,
+        count: count,
+    }
+}
+
+// DEL or DST, 1 to 8 names
+fn read_names(line: &[u8], destroys: bool) -> Read
+    ensures { λ r. ⌜ r ≡ shownRead (readNames (removing destroys) (now (line .entry))) ⌝ }
 {
     if let Verdict::Refused(refusal) = check_form(
         line,
@@ -590,10 +610,7 @@ fn read_del(line: &[u8]) -> Read
     ) {
         return Read::Refused(refusal);
     }
-    Read::Granted(Request::Del {
-        first: word_at(line, 1),
-        count: arguments(line),
-    })
+    Read::Granted(removal(destroys, word_at(line, 1), arguments(line)))
 }
 
 // The first word is the function.
@@ -608,7 +625,8 @@ fn read_function(line: &[u8]) -> Read
         Function::Cpy => read_cpy(line),
         Function::Dup => read_dup(line),
         Function::Chn => read_chn(line),
-        Function::Del => read_del(line),
+        Function::Del => read_names(line, false),
+        Function::Dst => read_names(line, true),
         Function::Dpr => read_dpr(line),
         Function::Lst => read_lst(line),
         Function::LstTree => read_tree(line),

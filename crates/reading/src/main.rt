@@ -182,6 +182,7 @@ fn put_request(request: Request) {
         } => put_dup(from, old, to, new, digit),
         Request::Chn { old, link } => put_two(b"0 CHN", old, link),
         Request::Del { first, count } => put_two(b"0 DEL", first, count),
+        Request::Dst { first, count } => put_two(b"0 DST", first, count),
         Request::Dpr { name, code } => {
             put_one(b"0 DPR", name);
             put_number(code);

@@ -3,3 +3,5 @@ pub mod Shares
 pub mod Order
 pub mod Copies
 pub mod Builds
+pub mod Said
+pub mod Numbered

@@ -113,7 +113,7 @@ fn first(needed: usize, stop: u32) -> usize {
 }
 
 /// "Exactly the first k stores are made. If more were needed, the answer is 22, in a DEL even where a later name
-/// would be refused."
+/// would be refused", and so in a DST.
 fn carry_out(outcome: &Outcome, table: &mut [u8], reply: &mut [u8], stop: u32) -> Answer {
     let needed = outcome.stores.len();
     let made = first(needed, stop);

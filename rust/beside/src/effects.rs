@@ -57,7 +57,8 @@ pub fn outcome(asked: &Asked, request: &Request) -> Outcome {
         } => asked.cpy(old, new, *lifetime, *guard),
         Request::Dup { old, new, digit } => asked.dup(old, new, *digit),
         Request::Chn { old, link } => asked.chn(old, link),
-        Request::Del { names } => Ok(asked.del(names)),
+        Request::Del { names } => Ok(asked.each(names, |now, at, name| now.del_name(at, name))),
+        Request::Dst { names } => Ok(asked.each(names, |now, at, name| now.dst_name(at, name))),
         Request::Dpr { name, digit } => asked.dpr(name, *digit),
         Request::Lst { listed } => asked.lst(listed),
         Request::Tree { listed, depth } => asked.tree(listed, *depth),
@@ -277,7 +278,7 @@ impl Asked<'_> {
         records.push(Record::Entry(entry));
         let store = |(number, record)| Store { number, record };
         let mut stores: Vec<Store> = numbers.into_iter().zip(records).map(store).collect();
-        recount(self.table, &mut stores, &files, new.directory.list);
+        recount(self.table, &mut stores, &files, &[new.directory.list]);
         if let Some(heading) = displaced {
             settle(self.table, &mut stores, heading);
         }
@@ -314,8 +315,13 @@ impl Asked<'_> {
         }]))
     }
 
-    /// "DEL does walk and end checks name by name and stops at the first refusal."
-    fn del(&self, names: &[Chain]) -> Outcome {
+    /// "DEL does walk and end checks name by name and stops at the first refusal", and what document 01 says "for a DEL of several
+    /// names holds for DST too". Each name meets the table after the names before it.
+    fn each(
+        &self,
+        names: &[Chain],
+        stores: impl Fn(&Asked, usize, &Chain) -> Result<Vec<Store>, Refusal>,
+    ) -> Outcome {
         let mut table = self.table.clone();
         let mut outcome = Outcome::default();
         for (at, name) in names.iter().enumerate() {
@@ -323,7 +329,7 @@ impl Asked<'_> {
                 table: &table,
                 ..*self
             };
-            match now.del_name(at + 1, name) {
+            match stores(&now, at + 1, name) {
                 Err(refusal) => {
                     outcome.refusal = Some(refusal);
                     return outcome;
@@ -346,8 +352,27 @@ impl Asked<'_> {
         let stranded = strands_entries(self.table, file.entry_number, heading);
         check(!stranded, 18, end)?;
         let mut stores = vec![cleared(file.entry_number)];
-        recount(self.table, &mut stores, &[heading], file.directory.list);
+        recount(self.table, &mut stores, &[heading], &[file.directory.list]);
         settle(self.table, &mut stores, heading);
+        Ok(stores)
+    }
+
+    /// "Stores for each name: heading cleared, text by position, then every entry naming it, by record number, then the holders'
+    /// counts." "needs write on each file, and asks nothing of the directories": 14 is about the file. 18 "for a directory with
+    /// entries, its own self-entry included".
+    fn dst_name(&self, argument: usize, name: &Chain) -> Result<Vec<Store>, Refusal> {
+        let (file, end) = self.old_name(argument, name)?;
+        check(file.may_be_written(), 14, end)?;
+        let heading = file.entry.heading;
+        let mut inside = self.table.entries_in(List::Directory(heading));
+        check(inside.next().is_none(), 18, end)?;
+        let own = [usize::from(heading)];
+        let texts = self.table.texts_of(heading);
+        let texts: Vec<usize> = texts.into_iter().map(|(number, _)| number).collect();
+        let (entries, holders) = self.table.entries_of(heading);
+        let all = [&own[..], &texts, &entries].concat();
+        let mut stores = all.into_iter().map(cleared).collect();
+        recount(self.table, &mut stores, &[], &holders);
         Ok(stores)
     }
 

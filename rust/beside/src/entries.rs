@@ -59,15 +59,16 @@ pub fn strands_entries(table: &Table, entry_number: usize, heading: u16) -> bool
 
 /// "Each function corrects every heading whose counts its entry store made untrue (the file named, the file displaced, the
 /// holder), one store each, by record number, after that entry store and before any clearing; counts still true get no
-/// store." Adds these stores to those up to the entry's; the list is the one that the entry stands in, and a base list has no
-/// count.
-pub fn recount(table: &Table, stores: &mut Vec<Store>, files: &[u16], list: List) {
+/// store." Adds these stores to those up to the last entry's; the lists are those that the entries stand in, and a base list has no
+/// count. Of a DST the files named are gone, and "the holders' counts" alone are left.
+pub fn recount(table: &Table, stores: &mut Vec<Store>, files: &[u16], lists: &[List]) {
     let mut after = table.clone();
     after.make(stores);
     let mut headings = BTreeSet::from_iter(files.iter().copied());
-    if let List::Directory(holder) = list {
-        headings.insert(holder);
-    }
+    headings.extend(lists.iter().filter_map(|list| match list {
+        List::Directory(holder) => Some(*holder),
+        List::Base(_) => None,
+    }));
     for number in headings {
         let untrue = |heading: &Heading| after.heading(number) != Some(heading);
         stores.extend(after.counted(number).filter(untrue).map(|heading| Store {

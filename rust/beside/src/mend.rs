@@ -1,5 +1,5 @@
-//! Mending, "with kind and type read from bytes 0 and 1 alone", and of document 02 the mark from byte 5 and the counts from
-//! bytes 12-15.
+//! Mending, "with kind and type read from bytes 0 and 1 alone", and of document 02 what an entry names from its bytes 4-5, the
+//! mark from byte 5 and the counts from bytes 12-15.
 
 use std::collections::HashMap;
 
@@ -18,14 +18,14 @@ const NAMED_BY_ENTRY: usize = 4;
 /// One store of mending: the number of a record and its bytes after.
 pub type Mended = (usize, [u8; RECORD_BYTES]);
 
-/// The stores that mending makes, in order: "clear every heading that no entry names; then every text record whose
-/// heading is not a simple-file heading; each by record number." "Mending a marked file clears its text", in the second step
-/// too. "At its end mending corrects untrue counts, one store a heading, by record number." Each step sees the table after the
-/// one before.
+/// The stores that mending makes, in order: "Mending now first clears entries that name no heading"; "clear every heading that no
+/// entry names; then every text record whose heading is not a simple-file heading; each by record number." "Mending a marked file
+/// clears its text", with the other text. "At its end mending corrects untrue counts, one store a heading, by record number." Each
+/// step sees the table after the one before.
 pub fn stores(table: &[u8]) -> Vec<Mended> {
     let mut after = table.to_vec();
     let mut stores = Vec::new();
-    for step in [unnamed_headings, stray_texts, untrue_counts] {
+    for step in [lost_entries, unnamed_headings, stray_texts, untrue_counts] {
         let made = step(&after);
         make(&mut after, &made);
         stores.extend(made);
@@ -51,6 +51,19 @@ fn said_by_entries(table: &[u8], at: usize) -> HashMap<usize, u16> {
         }
     }
     said
+}
+
+/// "entries that name no heading": by bytes 4-5, where no record has this number, or one of another kind.
+fn lost_entries(table: &[u8]) -> Vec<Mended> {
+    let is_heading = |number: usize| {
+        let record = table.chunks_exact(RECORD_BYTES).nth(number);
+        record.is_some_and(|record| record[0] == HEADING)
+    };
+    let is_lost = |(_, record): &(usize, &[u8])| {
+        let named = two_bytes(record[NAMED_BY_ENTRY], record[NAMED_BY_ENTRY + 1]);
+        record[0] == ENTRY && !is_heading(named.into())
+    };
+    cleared(table, is_lost)
 }
 
 /// "every heading that no entry names"

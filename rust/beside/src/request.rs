@@ -100,6 +100,9 @@ pub enum Request<'a> {
     Del {
         names: Vec<Chain<'a>>,
     },
+    Dst {
+        names: Vec<Chain<'a>>,
+    },
     Dpr {
         name: Chain<'a>,
         digit: u8,
@@ -123,6 +126,7 @@ enum Function {
     Dup,
     Chn,
     Del,
+    Dst,
     Dpr,
     Lst,
     Tree,
@@ -160,6 +164,7 @@ fn function(word: &Word) -> Option<Function> {
         b"DUP" => Some(Function::Dup),
         b"CHN" => Some(Function::Chn),
         b"DEL" => Some(Function::Del),
+        b"DST" => Some(Function::Dst),
         b"DPR" => Some(Function::Dpr),
         b"LST" => Some(Function::Lst),
         b"LST*" => Some(Function::Tree),
@@ -180,7 +185,7 @@ fn form(function: Function) -> (usize, &'static [Part]) {
         Function::Dup => (2, &[Old, New, Declaration]),
         Function::Chn => (2, &[Name, Link]),
         Function::Dpr => (2, &[Name, Declaration]),
-        Function::Del => (1, &[Name; 8]),
+        Function::Del | Function::Dst => (1, &[Name; 8]),
     }
 }
 
@@ -258,6 +263,7 @@ fn all_arguments(
 /// The request of a line whose names are legal; nothing when the declaration is malformed or unfit.
 fn make<'a>(function: Function, arguments: &[Word<'a>]) -> Option<Request<'a>> {
     let chain = |at: usize| Chain::of(&arguments[at]);
+    let chains = || arguments.iter().map(Chain::of).collect();
     let declared = |at: usize| match arguments.get(at) {
         None => Some(Declared::default()),
         Some(word) => Declared::read(word),
@@ -291,9 +297,8 @@ fn make<'a>(function: Function, arguments: &[Word<'a>]) -> Option<Request<'a>> {
             old: chain(0),
             link: arguments[1].last,
         },
-        Function::Del => Request::Del {
-            names: arguments.iter().map(Chain::of).collect(),
-        },
+        Function::Del => Request::Del { names: chains() },
+        Function::Dst => Request::Dst { names: chains() },
         Function::Dpr => Request::Dpr {
             name: chain(0),
             digit: declared(1)?.for_dpr()?,

@@ -129,6 +129,14 @@ impl Table {
             .find(|(_, entry)| entry.name.as_slice() == name)
     }
 
+    /// The numbers of the entries that name a heading, in order, and the lists that they stand in.
+    pub fn entries_of(&self, heading: u16) -> (Vec<usize>, Vec<List>) {
+        self.entries()
+            .filter(|(_, entry)| entry.heading == heading)
+            .map(|(number, entry)| (number, list_of(entry)))
+            .unzip()
+    }
+
     /// Is a heading named by some entry?
     pub fn is_named(&self, heading: u16) -> bool {
         self.entries().any(|(_, entry)| entry.heading == heading)

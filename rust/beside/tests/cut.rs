@@ -1,4 +1,4 @@
-//! "Cut after any number of stores, then mended: the table before, or the table after (for DEL, after some first
+//! "Cut after any number of stores, then mended: the table before, or the table after (for DEL and DST, after some first
 //! part of its names), byte for byte", for WRS* "before, after, or after with that one file marked and empty". On tables grown by random requests, every request at every stop number,
 //! every mend at every stop number again.
 
@@ -36,6 +36,11 @@ struct Met {
     cut_to_marked: usize,
     marked_displaced: usize,
     marked_deleted: usize,
+    destroyed: usize,
+    destroyed_everywhere: usize,
+    dsts_of_several: usize,
+    dsts_refused_midway: usize,
+    mends_of_entries: usize,
 }
 
 /// Two bytes of a record as a number.
@@ -101,7 +106,12 @@ fn declaration(dice: &mut Dice, lifetime: &str) -> String {
 /// A request that is often granted.
 fn line(dice: &mut Dice, bench: &Bench) -> String {
     let (one, other) = (old(dice, bench), new(dice, bench));
-    match dice.below(40) {
+    match dice.below(42) {
+        40 => format!("DST {one}"),
+        41 => {
+            let more: Vec<String> = (0..dice.below(5)).map(|_| old(dice, bench)).collect();
+            format!("DST {one} {}", more.join(" "))
+        }
         28..=38 => format!("WRS* M {one}"),
         39 => format!("RDS {one}"),
         0..=5 => format!("CRD {other} {}", declaration(dice, "")),
@@ -178,13 +188,13 @@ fn differing(one: &[u8], other: &[u8]) -> usize {
 }
 
 /// The tables that a cut may be mended to, each with the stores that lead there: the table before and the table
-/// after; for a DEL, after each first part of its names.
+/// after; for a DEL or a DST, after each first part of its names.
 fn stations(bench: &Bench, line: &str, text: &[u8], names: u32) -> Vec<(u32, Vec<u8>)> {
     let mut stations = vec![(0, bench.table.clone())];
     let words: Vec<&str> = line.split_whitespace().collect();
     for done in 1..=names {
         let seen = match words[0] {
-            "DEL" => bench.ask(words[..=done as usize].join(" "), text),
+            "DEL" | "DST" => bench.ask(words[..=done as usize].join(" "), text),
             _ => bench.ask(line, text),
         };
         assert_eq!((seen.answer.number, seen.answer.names), (0, done), "{line}");
@@ -314,6 +324,7 @@ fn mend_everywhere(table: &[u8], met: &mut Met) -> Vec<u8> {
     assert_eq!(seen, answer([0, 0, 0, 0, 0, 0, seen.stores]));
     assert!(sound(&mended));
     met.mends_with_stores += usize::from(seen.stores > 0);
+    met.mends_of_entries += usize::from(count(table, 2) > count(&mended, 2));
     let counts = recounted(table, &mended);
     met.mends_of_counts += usize::from(counts > 0);
     met.mends_of_counts_alone += usize::from(counts > 0 && counts == seen.stores as usize);
@@ -329,7 +340,7 @@ fn mend_everywhere(table: &[u8], met: &mut Met) -> Vec<u8> {
     mended
 }
 
-/// Count what a granted request, or a DEL refused midway, was.
+/// Count what a granted request, or a DEL or a DST refused midway, was.
 fn count_up(bench: &Bench, line: &str, text: &[u8], seen: &Seen, met: &mut Met) {
     let words: Vec<&str> = line.split_whitespace().collect();
     let displaced = seen.answer.displaced == 1;
@@ -342,8 +353,17 @@ fn count_up(bench: &Bench, line: &str, text: &[u8], seen: &Seen, met: &mut Met) 
     met.displaced_own_source += usize::from(displaced && words[0] == "CPY" && words[1] == words[2]);
     met.cleared += usize::from(more_free && lost);
     met.long_texts += usize::from(words[0] == "WRS" && text.len() > 24);
-    met.dels_of_several += usize::from(words[0] == "DEL" && seen.answer.names > 1);
-    met.dels_refused_midway += usize::from(seen.answer.number != 0);
+    let refused = usize::from(seen.answer.number != 0);
+    if words[0] == "DST" {
+        let entries = count(&bench.table, 2) - count(&seen.table, 2);
+        met.destroyed += 1;
+        met.destroyed_everywhere += usize::from(entries > seen.answer.names as usize);
+        met.dsts_of_several += usize::from(seen.answer.names > 1);
+        met.dsts_refused_midway += refused;
+    } else {
+        met.dels_of_several += usize::from(words[0] == "DEL" && seen.answer.names > 1);
+        met.dels_refused_midway += refused;
+    }
     met.rewritten_alike += usize::from(seen.table == bench.table);
     met.full_tables += usize::from(count(&seen.table, 0) == 0);
     let (looped, unreached) = loops(&seen.table);
@@ -433,7 +453,8 @@ fn step(bench: &mut Bench, dice: &mut Dice, met: &mut Met) {
     if line.starts_with("WRS*") {
         return rewritten(bench, dice, &line, &text, met);
     }
-    assert!(seen.answer.number == 0 || line.starts_with("DEL"), "{line}");
+    let names = line.starts_with("DEL") || line.starts_with("DST");
+    assert!(seen.answer.number == 0 || names, "{line}");
     assert!(sound(&seen.table), "{line}");
     let fewer = usize::from(marks(&seen.table) < marks(&bench.table));
     met.marked_displaced += fewer * seen.answer.displaced as usize;
@@ -452,7 +473,7 @@ fn run(seed: u64) {
     println!("seed {seed}");
     let mut dice = Dice(seed);
     let mut met = Met::default();
-    for _ in 0..80 {
+    for _ in 0..100 {
         let mut bench = Bench::new(8 + dice.below(40));
         bench.room = 100;
         for _ in 0..120 {
@@ -474,6 +495,8 @@ fn run(seed: u64) {
     assert!(met.rewritten_alike > 5 && met.full_tables > 10);
     assert!(met.rewrites > 100 && met.rewrites_of_marked > 30 && met.cut_to_marked > 400);
     assert!(met.marked_displaced > 5 && met.marked_deleted > 10);
+    assert!(met.destroyed > 60 && met.destroyed_everywhere > 3 && met.mends_of_entries > 100);
+    assert!(met.dsts_of_several > 1 && met.dsts_refused_midway > 15);
 }
 
 #[test]
@@ -504,11 +527,13 @@ fn all_lines(chains: &[&str]) -> Vec<String> {
         lines.push(format!("WRS M {one}"));
         lines.push(format!("WRS* M {one}"));
         lines.push(format!("DEL {one}"));
+        lines.push(format!("DST {one}"));
         lines.push(format!("CHN {one} B"));
         for other in chains {
             lines.push(format!("CPY {one} {other}"));
             lines.push(format!("DUP {one} {other}"));
             lines.push(format!("DEL {one} {other}"));
+            lines.push(format!("DST {one} {other}"));
         }
     }
     lines
@@ -551,4 +576,6 @@ fn every_table_of_five_records_that_these_requests_reach() {
     assert!(met.displaced_and_cleared > 1_000 && met.dels_refused_midway > 1_000);
     assert!(met.rewrites > 1_000 && met.rewrites_of_marked > 500);
     assert!(met.mends_of_counts > 10_000 && met.mends_of_counts_alone > 5_000);
+    assert!(met.destroyed > 5_000 && met.destroyed_everywhere > 1_000);
+    assert!(met.dsts_refused_midway > 1_000 && met.mends_of_entries > 5_000);
 }

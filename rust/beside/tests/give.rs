@@ -373,6 +373,9 @@ fn in_every_other_place_it_gets_8() {
         ("DEL .000777", 1),
         ("DEL .000777:KEYS", 1),
         ("DEL .R:SHEET .000777:KEYS", 2),
+        ("DST .000777", 1),
+        ("DST .000777:KEYS", 1),
+        ("DST .R:SHEET .000777:KEYS", 2),
         ("DPR .000777 .1", 1),
         ("DPR .000777:KEYS .1", 1),
     ] {

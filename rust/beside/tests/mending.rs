@@ -105,8 +105,13 @@ fn super_type() -> [u8; 32] {
 #[test]
 fn what_cannot_be_mended_gets_2_before_22_and_is_left_as_found() {
     let cases = [
-        // An entry of no heading, beside debris that could be cleared.
-        vec![base(5, ".R"), directory(), text(1, 0, b"T")],
+        // An entry in a directory that is none, beside debris that could be cleared.
+        vec![
+            entry(0, 5, 1, 0, "A"),
+            simple(0),
+            base(7, ".R"),
+            directory(),
+        ],
         // A simple file that lacks a text.
         vec![
             simple(30),
@@ -138,8 +143,22 @@ fn what_cannot_be_mended_gets_2_before_22_and_is_left_as_found() {
 }
 
 #[test]
-fn the_second_step_sees_the_table_after_the_first() {
-    // The text's heading is a simple file's before the first step and is gone after it.
+fn an_entry_of_no_heading_goes_first() {
+    let debris = [base(5, ".R"), directory(), text(1, 0, b"T")];
+    for (stores, left) in [(1, 1), (2, 2), (3, 3)] {
+        let mut after = debris;
+        after[..left].fill(FREE);
+        let number = if stores == 3 { 0 } else { 22 };
+        mends(&debris, stores, number, stores, &after);
+    }
+    // after document 02, f, this is debris; `destroy` has more of it
+    let records = [named(simple(0), 1), base(0, ".R"), base(3, ".T"), FREE];
+    mends(&records, UNCUT, 0, 1, &[records[0], records[1], FREE, FREE]);
+}
+
+#[test]
+fn each_step_sees_the_table_after_the_last() {
+    // The text's heading is a simple file's before its step and is gone after it.
     mends(&[simple(1), text(0, 0, b"T")], UNCUT, 0, 2, &[FREE; 2]);
 }
 
@@ -172,7 +191,7 @@ fn grown(dice: &mut Dice) -> Vec<u8> {
     bench.table
 }
 
-/// Some damage: debris of headings and texts, records cleared, headings marked or with other counts, bytes changed.
+/// Some damage: debris of headings, texts and entries, records cleared, headings marked or with other counts, bytes changed.
 fn damage(dice: &mut Dice, table: &mut [u8]) {
     for _ in 0..=dice.below(4) {
         let at = dice.below(table.len() / 32) * 32;
@@ -181,6 +200,7 @@ fn damage(dice: &mut Dice, table: &mut [u8]) {
         match dice.below(9) {
             0 if record[0] == 0 => record.copy_from_slice(&simple(number)),
             1 if record[0] == 0 => record.copy_from_slice(&directory()),
+            2 if record[0] == 0 && number < 12 => record.copy_from_slice(&base(number, ".Z")),
             0..=2 if record[0] == 0 => record.copy_from_slice(&text(number, number % 3, b"T")),
             3 => record.fill(0),
             4 | 5 if record[0] == 1 => mark(record),
@@ -197,17 +217,20 @@ fn mark(heading: &mut [u8]) {
     heading[10..12].fill(0);
 }
 
-/// Each record is as before, or was a heading or a text and is cleared, or is a heading with other counts: how many of the
-/// second kind there are, and of the third.
-fn only_mended(before: &[u8], after: &[u8]) -> [usize; 2] {
-    let mut mended = [0; 2];
+/// Each record is as before, or was an entry of no heading, a heading or a text and is cleared, or is a heading with other
+/// counts: how many of the second kind there are, of the third, and of the entries among the second.
+fn only_mended(before: &[u8], after: &[u8]) -> [usize; 3] {
+    let named = |entry: &[u8]| usize::from(u16::from_le_bytes([entry[4], entry[5]])) * 32;
+    let is_heading = |entry: &[u8]| before.get(named(entry)) == Some(&1);
+    let mut mended = [0; 3];
     for (before, after) in before.chunks(32).zip(after.chunks(32)) {
         if before == after {
             continue;
         }
         if after == FREE {
-            assert!(before[0] == 1 || before[0] == 3);
+            assert!([1, 3].contains(&before[0]) || before[0] == 2 && !is_heading(before));
             mended[0] += 1;
+            mended[2] += usize::from(before[0] == 2);
         } else {
             let counts = if before[1] == 0 { 12..16 } else { 12..14 };
             assert_eq!((before[0], after[0]), (1, 1));
@@ -225,7 +248,7 @@ fn tables_damaged_at_random() {
     println!("seed {seed}");
     let mut dice = Dice(seed);
     let (mut mended, mut untouched, mut lost, mut marked) = (0, 0, 0, 0);
-    let (mut recounted, mut both) = (0, 0);
+    let (mut recounted, mut both, mut lost_entries) = (0, 0, 0);
     for _ in 0..20_000 {
         let mut table = grown(&mut dice);
         damage(&mut dice, &mut table);
@@ -238,8 +261,9 @@ fn tables_damaged_at_random() {
             }
             [0, 0, 0, 0, 0, 0, stores] => {
                 assert!(sound(&table));
-                let [cleared, counts] = only_mended(&before, &table);
+                let [cleared, counts, entries] = only_mended(&before, &table);
                 assert_eq!(cleared + counts, stores as usize);
+                lost_entries += usize::from(entries > 0);
                 recounted += usize::from(counts > 0);
                 both += usize::from(cleared > 0 && counts > 0);
                 assert_eq!(stores == 0, sound(&before));
@@ -256,9 +280,9 @@ fn tables_damaged_at_random() {
         }
     }
     println!("mended {mended}, with a marked file {marked}, sound as it was {untouched}, not to be mended {lost}");
-    println!("counts corrected {recounted}, after clearing {both}");
+    println!("counts corrected {recounted}, after clearing {both}; entries of no heading cleared {lost_entries}");
     assert!(mended > 2_000 && marked > 100 && untouched > 500 && lost > 5_000);
-    assert!(recounted > 1_000 && both > 300);
+    assert!(recounted > 1_000 && both > 300 && lost_entries > 300);
 }
 
 /// "a mend cut anywhere and run again ends as an uncut one."
@@ -266,10 +290,12 @@ fn cut_everywhere(before: &[u8], after: &[u8], stores: u32) {
     for stop in 0..stores {
         let mut table = before.to_vec();
         assert_eq!(mend(&mut table, stop), answer([22, 0, 0, 0, 0, 0, stop]));
-        // first what is cleared, then what is counted
-        let [cleared, counts] = only_mended(before, &table);
+        // first the entries of no heading, then what else is cleared, then what is counted
+        let [cleared, counts, entries] = only_mended(before, &table);
         assert_eq!(cleared + counts, stop as usize);
-        assert!(counts == 0 || cleared == only_mended(before, after)[0]);
+        let [all, _, all_entries] = only_mended(before, after);
+        assert!(counts == 0 || cleared == all);
+        assert!(cleared == entries || entries == all_entries);
         let left = stores - stop;
         assert_eq!(mend(&mut table, left), answer([0, 0, 0, 0, 0, 0, left]));
         assert_eq!(table, after);

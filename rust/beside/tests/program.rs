@@ -174,6 +174,30 @@ fn a_rewrite_takes_the_next_line_as_its_text_refused_or_not() {
 }
 
 #[test]
+fn a_dst_takes_no_text() {
+    let input = b"CRD .R\n\
+        WRS M .R:KEYS\n\
+        9 9 9\n\
+        DUP .R:KEYS .R:SPARE\n\
+        DST .R:KEYS\n\
+        RDS .R:SPARE\n\
+        DST .R:KEYS\n\
+        DST\n\
+        DST .000777:KEYS\n\
+        DST .R .R\n";
+    let expected = b"0 0 0 1 0 0 3\n\
+        0 0 0 1 0 0 5\n\
+        0 0 0 1 0 0 3\n\
+        0 0 0 1 0 0 5\n\
+        11 1 2 0 0 0 0\n\
+        11 1 2 0 0 0 0\n\
+        6 0 0 0 0 0 0\n\
+        8 1 1 0 0 0 0\n\
+        11 2 1 1 0 0 2\n";
+    prints(input, expected);
+}
+
+#[test]
 fn the_longest_text_goes_in_and_comes_out() {
     let text: Vec<u8> = (0..24_000u32).map(|at| b'A' + (at % 26) as u8).collect();
     let input = [

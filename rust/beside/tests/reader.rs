@@ -57,7 +57,9 @@ fn requests_for_old_files_as_they_are_read() {
     let old = name.clone();
     assert_eq!(request("CHN .R:A .X"), Request::Chn { old, link: b".X" });
     let names = vec![name.clone(), chain(".W:B"), chain(".R")];
+    let same = names.clone();
     assert_eq!(request("DEL .R:A B .R"), Request::Del { names });
+    assert_eq!(request("DST .R:A B .R"), Request::Dst { names: same });
     let dpr = Request::Dpr { name, digit: 0 };
     assert_eq!(request("DPR .R:A .0"), dpr);
     let name = chain(".R:A");

@@ -5,8 +5,8 @@ use common::*;
 
 use beside::{words, Answer, Chain, COUNTS, NUMBERS};
 
-const FUNCTIONS: [&str; 10] = [
-    "CRD ", "WRS ", "WRS* ", "RDS ", "CPY ", "DUP ", "CHN ", "DEL ", "DPR ", "LST ",
+const FUNCTIONS: [&str; 11] = [
+    "CRD ", "WRS ", "WRS* ", "RDS ", "CPY ", "DUP ", "CHN ", "DEL ", "DST ", "DPR ", "LST ",
 ];
 
 const NAMES: [&str; 21] = [
@@ -153,8 +153,8 @@ fn fits(answer: Answer, stop: u32, line: &[u8], before: &[u8], after: &[u8]) {
     if number == 22 {
         assert_eq!(answer.stores, stop, "{shown}");
     }
-    let is_del = shown.trim_start().starts_with("DEL");
-    let changes = number == 0 || number == 22 || is_del;
+    let of_several = ["DEL", "DST"].map(|word| shown.trim_start().starts_with(word));
+    let changes = number == 0 || number == 22 || of_several.contains(&true);
     if !changes {
         assert_eq!((answer.names, answer.stores), (0, 0), "{shown}");
     }

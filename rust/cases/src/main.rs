@@ -4,7 +4,7 @@
 //! With `gives`, two users give and take.
 
 use beside::{COUNTS, NUMBERS};
-use random::{counts, lines, rewrites, shelves, Random};
+use random::{counts, destroys, lines, rewrites, shelves, Random};
 use std::fmt::Write;
 
 const HEAD: &str = "-- Random cases: the second program's outcomes, held against the definitions.
@@ -63,6 +63,7 @@ impl Story {
             Some(user) => shelves::line(random, &self.table, &SHIFTS, user),
             None if random.once_in(3) => rewrites::about(random, &self.table, 1),
             None if random.once_in(4) => counts::about(random, &self.table, 1),
+            None if random.once_in(4) => destroys::about(random, &self.table, 1),
             None => lines::line(random),
         };
         let length = random.pick(&[0, 1, 5, 24, 25, 30, 48]);
@@ -108,15 +109,16 @@ impl Story {
     }
 }
 
-/// Change a byte, or the marks of the headings, or one byte of a heading's counts, or take all counts away.
+/// Change a byte, or the marks of the headings, or one byte of a heading's counts, or take all counts away, or leave entries that name no heading.
 fn spoil(random: &mut Random, table: &mut [u8]) {
-    match random.below(6) {
+    match random.below(8) {
         0 | 1 => {
             let records = table.chunks_exact_mut(32);
             records.for_each(|record| rewrites::mark(random, record));
         }
         2 => counts::miscount(random, table),
         3 => counts::uncount(table),
+        4 | 5 => destroys::lose(random, table),
         _ => {
             let at = random.below(table.len());
             table[at] = random.pick(&[0, 1, 2, 3, 255, 46, 65]);
@@ -124,7 +126,7 @@ fn spoil(random: &mut Random, table: &mut [u8]) {
     }
 }
 
-/// A table of few records, begun with up to five of the same requests; now and then a sheet in it is marked, as a rewrite that is cut leaves it.
+/// A table of few records, begun with up to six of the same requests; now and then a sheet in it is marked, as a rewrite that is cut leaves it.
 fn few(random: &mut Random) -> Vec<u8> {
     let rooms = if random.once_in(8) {
         random.below(3)
@@ -138,8 +140,9 @@ fn few(random: &mut Random) -> Vec<u8> {
         "WRS M .R:A",
         "DUP .R .R:B",
         "WRS L .R:C",
+        "DUP .R:A .W:A",
     ];
-    for line in first.iter().take(random.below(6)) {
+    for line in first.iter().take(random.below(7)) {
         // as far as there is room
         let _ = beside::request(&mut table, line.as_bytes(), b"sheet", &mut [], 1, 65_535);
     }

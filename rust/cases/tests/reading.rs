@@ -125,6 +125,7 @@ fn made_of(line: &[u8]) -> String {
             )
         }
         Request::Del { names } => format!("0 DEL {} {}", at(&names[0]), names.len()),
+        Request::Dst { names } => format!("0 DST {} {}", at(&names[0]), names.len()),
         Request::Dpr { name, digit } => format!("0 DPR {} {digit}", at(name)),
         Request::Lst {
             listed: Listed::BaseList,

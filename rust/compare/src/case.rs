@@ -1,6 +1,7 @@
 //! A case: one call, made by the proved library and by the second program, and compared byte for byte.
 
 use crate::counted::{self, Counted};
+use crate::destroyed::{self, Destroyed};
 use crate::handed::{self, Handed};
 use crate::links::{self, Links};
 use crate::met::Met;
@@ -147,6 +148,8 @@ pub struct Comparison {
     pub rewritten: Rewritten,
     /// What the counts in headings met.
     pub counted: Counted,
+    /// What a DST and entries that name no heading met.
+    pub destroyed: Destroyed,
     /// The requests of the stories.
     pub requests: u64,
     /// The calls made by both: these requests again and again, and mending.
@@ -174,12 +177,14 @@ impl Comparison {
             self.treed.count(case, &proved);
             self.rewritten.count(case, &proved);
             self.counted.count(case, &proved);
+            self.destroyed.count(case, &proved);
             let broken = [
                 handed::broken,
                 links::broken,
                 treed::broken,
                 rewritten::broken,
                 counted::broken,
+                destroyed::broken,
             ];
             return match broken.iter().find_map(|broken| broken(case, &proved)) {
                 None => Ok(proved),

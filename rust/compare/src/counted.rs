@@ -6,6 +6,7 @@ use std::fmt;
 use beside::Request;
 
 use crate::case::{Asked, Case, Outcome};
+use crate::records::{differing, entries_of, two, BASE_FILE};
 
 const KINDS: [&str; 38] = [
     "a new file in a base list",
@@ -73,7 +74,6 @@ const MENDED_OLD: usize = 36;
 const NOT_MENDED: usize = 37;
 /// How often each branch must be met.
 const ENOUGH: u64 = 100;
-const BASE_FILE: u16 = 65_535;
 
 /// A count for each kind.
 pub struct Counted([u64; KINDS.len()]);
@@ -82,11 +82,6 @@ impl Default for Counted {
     fn default() -> Counted {
         Counted([0; KINDS.len()])
     }
-}
-
-/// Two bytes of a record as a number.
-fn two(record: &[u8], at: usize) -> u16 {
-    u16::from_le_bytes([record[at], record[at + 1]])
 }
 
 /// The table with true counts: how many entries name each heading and, of a directory, how many it holds. Nothing else is other.
@@ -119,25 +114,9 @@ fn cleaned(table: &[u8]) -> Vec<u8> {
     cleaned
 }
 
-/// The numbers of the records that differ, with both.
-fn differing<'a>(one: &'a [u8], other: &'a [u8]) -> Vec<(u16, &'a [u8], &'a [u8])> {
-    let pairs = one.chunks_exact(32).zip(other.chunks_exact(32));
-    (0..)
-        .zip(pairs)
-        .filter(|(_, (one, other))| one != other)
-        .map(|(number, (one, other))| (number, one, other))
-        .collect()
-}
-
 /// How many headings of a table have untrue counts.
 fn untrue(table: &[u8]) -> usize {
     differing(table, &recounted(table)).len()
-}
-
-/// How many entries name a heading.
-fn entries_of(table: &[u8], heading: u16) -> usize {
-    let entries = table.chunks_exact(32).filter(|record| record[0] == 2);
-    entries.filter(|entry| two(entry, 4) == heading).count()
 }
 
 /// Does no heading of the table have a count, though one should?
@@ -280,13 +259,14 @@ fn done(case: &Case, outcome: &Outcome) -> Vec<usize> {
 }
 
 /// Which kinds a cut is: with true counts it would be sound.
-fn cut(outcome: &Outcome) -> Vec<usize> {
+fn cut(asked: &Asked, outcome: &Outcome) -> Vec<usize> {
     let left = untrue(&outcome.table);
     if left == 0 || !beside::sound(&recounted(&outcome.table)) {
         return Vec::new();
     }
     let mut kinds = vec![CUT + usize::from(left > 1)];
-    if outcome.names() > 0 {
+    let del = matches!(beside::read(&asked.line, 0), Ok(Request::Del { .. }));
+    if del && outcome.names() > 0 {
         kinds.push(CUT_DEL);
     }
     kinds
@@ -334,7 +314,7 @@ fn kinds(case: &Case, outcome: &Outcome) -> Vec<usize> {
         (None, _) => mended(case, outcome),
         (_, 0) => done(case, outcome),
         (_, 2) => unsound(&case.table),
-        (_, 22) => cut(outcome),
+        (Some(asked), 22) => cut(asked, outcome),
         _ => Vec::new(),
     }
 }

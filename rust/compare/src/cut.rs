@@ -1,9 +1,10 @@
-//! "Cut after any number of stores, then mended: the table before, or the table after (for DEL, after some first part of
+//! "Cut after any number of stores, then mended: the table before, or the table after (for DEL and DST, after some first part of
 //! its names), byte for byte"; for WRS* "before, after, or after with that one file marked and empty".
 
 use random::Random;
 
 use crate::case::{must_not_be, Case, Comparison, Difference, Outcome};
+use crate::destroyed::is_dst;
 use crate::rewritten::marked_and_empty;
 
 /// Every stop number below this is tried; of the others, some.
@@ -32,22 +33,32 @@ fn stations(case: &Case, uncut: &Outcome) -> Vec<Vec<u8>> {
 enum Landings {
     /// The table before and after each name.
     Names(Vec<Vec<u8>>),
+    /// The same of a DST.
+    Destroyed(Vec<Vec<u8>>),
     /// The table before, and the one with that file marked and empty.
     Rewrite([Vec<u8>; 2]),
 }
 
 impl Landings {
     fn of(case: &Case, uncut: &Outcome) -> Landings {
+        let line = case.asked.as_ref().map_or(&[][..], |asked| &asked.line);
         match marked_and_empty(case, uncut) {
             Some(empty) => Landings::Rewrite([case.table.clone(), empty]),
+            None if is_dst(line) => Landings::Destroyed(stations(case, uncut)),
             None => Landings::Names(stations(case, uncut)),
         }
     }
 
-    /// Of this cut: after the names done, or after one name more. Of a rewrite exactly one: before its first store and after it.
+    /// Of this cut: after the names done, or after one name more. Of a DST exactly one, since the first store of a name counts; of a
+    /// rewrite too: before its first store and after it.
     fn fit(&self, cut: &Outcome) -> &[Vec<u8>] {
         match self {
             Landings::Names(stations) => &stations[cut.names() as usize..][..2],
+            Landings::Destroyed(stations) => {
+                let done = cut.names() as usize;
+                let begun = usize::from(cut.table != stations[done]);
+                std::slice::from_ref(&stations[done + begun])
+            }
             Landings::Rewrite([before, _]) if cut.stores() == 0 => std::slice::from_ref(before),
             Landings::Rewrite([_, empty]) => std::slice::from_ref(empty),
         }

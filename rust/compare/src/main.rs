@@ -3,7 +3,7 @@
 //! table is cut at its stop numbers and mended, every sheet read whole is read in pieces, every tree a level less, and every table is
 //! mended. At the first difference it prints a case to paste into a test and ends with status 1; also when a reply number was met
 //! fewer than a hundred times, with a link of a chain or without, where it has the one or the other, or a branch of RDS's parts, of
-//! LST*, of WRS* or of the counts in headings.
+//! LST*, of WRS*, of the counts in headings, of DST or of entries that name no heading.
 //!
 //! `compare jobs [COUNT [SEED]]`: the same with the lamp, COUNT jobs, each cut at its stop numbers and mended; ends with
 //! status 1 also when a light was met fewer than a hundred times.
@@ -15,6 +15,7 @@
 mod case;
 mod counted;
 mod cut;
+mod destroyed;
 mod handed;
 mod job;
 mod jobs;
@@ -24,6 +25,7 @@ mod links;
 mod met;
 mod parted;
 mod pieces;
+mod records;
 mod rewritten;
 mod sheets;
 mod shown;
@@ -96,16 +98,18 @@ fn requests(count: u64, seed: u64) -> ExitCode {
     let (met, links) = (&comparison.met, &comparison.links);
     let (parted, treed) = (&comparison.parted, &comparison.treed);
     let (rewritten, counted) = (&comparison.rewritten, &comparison.counted);
+    let destroyed = &comparison.destroyed;
     let linked = links.missed(&links::IN_REQUESTS);
     let branches = [
         parted.missed(),
         treed.missed(),
         rewritten.missed(),
         counted.missed(),
+        destroyed.missed(),
     ]
     .concat();
     let missed = [met.missed(), linked, branches].concat();
-    let shown = format!("{met}{links}\n{parted}\n{treed}\n{rewritten}\n{counted}");
+    let shown = format!("{met}{links}\n{parted}\n{treed}\n{rewritten}\n{counted}\n{destroyed}");
     verdict(ended, shown, &missed)
 }
 
@@ -154,6 +158,6 @@ fn main() -> ExitCode {
     match what {
         "jobs" => jobs(number(0, 12_000), number(1, 1971)),
         "gives" => gives(number(0, 40_000), number(1, 1971)),
-        _ => requests(number(0, 100_000), number(1, 1971)),
+        _ => requests(number(0, 120_000), number(1, 1971)),
     }
 }

@@ -6,11 +6,12 @@ use beside::{COUNTS, NUMBERS};
 
 use crate::case::Case;
 
-const ROWS: [&str; 13] = [
-    "CRD", "WRS", "WRS*", "RDS", "CPY", "DUP", "CHN", "DEL", "DPR", "LST", "LST*", "none", "mend",
+const ROWS: [&str; 14] = [
+    "CRD", "WRS", "WRS*", "RDS", "CPY", "DUP", "CHN", "DEL", "DST", "DPR", "LST", "LST*", "none",
+    "mend",
 ];
-const NONE: usize = 11;
-const MEND: usize = 12;
+const NONE: usize = 12;
+const MEND: usize = 13;
 /// How often each number must be met.
 const ENOUGH: u64 = 100;
 

@@ -2,9 +2,10 @@
 
 use std::fmt;
 
-use beside::{Chain, Request};
+use beside::Request;
 
 use crate::case::{Asked, Case, Outcome};
+use crate::records::{blocks, count, heading, texts, two, walked, Walked, BASE_FILE, READ, WRITE};
 
 /// The numbers of WRS*, in their order.
 const NUMBERS: [u64; 14] = [6, 7, 8, 9, 10, 11, 12, 13, 14, 15, 19, 22, 24, 0];
@@ -43,9 +44,6 @@ const MENDED: usize = 20;
 const NOT_MENDED: usize = 21;
 /// How often each branch must be met.
 const ENOUGH: u64 = 100;
-const BASE_FILE: u16 = 65_535;
-const WRITE: u8 = 1;
-const READ: u8 = 2;
 
 /// A count for each number and each kind.
 #[derive(Default)]
@@ -54,71 +52,8 @@ pub struct Rewritten {
     kinds: [u64; KINDS.len()],
 }
 
-/// Two bytes of a record as a number.
-fn two(record: &[u8], at: usize) -> u16 {
-    u16::from_le_bytes([record[at], record[at + 1]])
-}
-
-/// How many text records hold so many bytes.
-fn blocks(bytes: usize) -> usize {
-    bytes.div_ceil(24)
-}
-
-/// The heading of this number.
-fn heading(table: &[u8], number: u16) -> &[u8] {
-    &table[usize::from(number) * 32..][..32]
-}
-
 fn is_marked(record: &[u8]) -> bool {
     record[0] == 1 && record[5] == 1
-}
-
-/// How many records are as this test says.
-fn count(table: &[u8], test: impl Fn(&[u8]) -> bool) -> usize {
-    table.chunks_exact(32).filter(|record| test(record)).count()
-}
-
-/// The texts of a file, by record number: position, and bytes held.
-fn texts(table: &[u8], file: u16) -> Vec<(u16, &[u8])> {
-    let records = table.chunks_exact(32);
-    let own = records.filter(|record| record[0] == 3 && two(record, 2) == file);
-    own.map(|record| {
-        (
-            two(record, 4),
-            &record[8..8 + usize::from(record[1]).min(24)],
-        )
-    })
-    .collect()
-}
-
-/// What a chain comes to in a table, by the records: the directory, the entry and the file.
-struct Walked<'a> {
-    directory: u16,
-    entry: &'a [u8],
-    file: u16,
-    /// The code of the entry by which the directory was entered, and of its heading.
-    above: u8,
-}
-
-fn walked<'a>(table: &'a [u8], user: u32, chain: &Chain) -> Option<Walked<'a>> {
-    let mut at: Option<Walked> = None;
-    for name in chain.names() {
-        let (directory, above) = at.map_or((BASE_FILE, 0), |at| {
-            (at.file, at.entry[1] | heading(table, at.file)[3])
-        });
-        let user = if directory == BASE_FILE { user } else { 0 };
-        let user = &user.to_le_bytes()[..3];
-        let there = |r: &&[u8]| r[0] == 2 && two(r, 2) == directory && &r[6..9] == user;
-        let mut entries = table.chunks_exact(32).filter(there);
-        let entry = entries.find(|r| &r[10..10 + usize::from(r[9]).min(10)] == name)?;
-        at = Some(Walked {
-            directory,
-            entry,
-            file: two(entry, 4),
-            above,
-        });
-    }
-    at
 }
 
 /// What a WRS* is about, if the line is one and its name is there, in a table that was not refused.

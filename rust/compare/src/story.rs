@@ -1,13 +1,13 @@
 //! A story: one table, the requests of several users on it, and what befalls it on the way.
 
-use random::{counts, requests, rewrites, shelves, trees, Random};
+use random::{counts, destroys, requests, rewrites, shelves, trees, Random};
 
 use crate::case::{must_not_be, Asked, Case, Comparison, Difference};
 use crate::cut::cut_everywhere;
 use crate::levels::in_levels;
 use crate::pieces::in_pieces;
 use crate::rewritten::marked_and_empty;
-use crate::tables::{shuffled, spoiled, Start};
+use crate::tables::{shuffled, spoiled, About, Start};
 
 type Told = Result<(), Box<Difference>>;
 
@@ -19,11 +19,7 @@ pub struct Story<'a> {
     comparison: &'a mut Comparison,
     random: &'a mut Random,
     table: Vec<u8>,
-    long_texts: bool,
-    long_chains: bool,
-    trees: bool,
-    rewrites: bool,
-    counts: bool,
+    about: About,
     cast: Cast,
 }
 
@@ -42,11 +38,7 @@ impl<'a> Story<'a> {
             comparison,
             random,
             table: start.table,
-            long_texts: start.long_texts,
-            long_chains: start.long_chains,
-            trees: start.trees,
-            rewrites: start.rewrites,
-            counts: start.counts,
+            about: start.about,
             cast: Cast::Anything(others),
         }
     }
@@ -84,26 +76,24 @@ impl<'a> Story<'a> {
         };
         let length = match random.below(32) {
             0 => random.pick(&[24_000, 24_001, 24_024, 65_560]),
-            1..=20 if self.long_texts => random.pick(&[24_000, 24_000, 23_999, 12_000]),
+            1..=20 if self.about == About::LongTexts => {
+                random.pick(&[24_000, 24_000, 23_999, 12_000])
+            }
             1..=12 => random.pick(&[0, 1, 23, 24, 25, 48, 49]),
             _ => random.below(120),
         };
-        let line = match &self.cast {
-            Cast::Anything(_) if self.long_chains && !random.once_in(4) => {
-                requests::long(random, &self.table, user)
-            }
-            Cast::Anything(others) if self.trees && !random.once_in(4) => {
+        let table = &self.table;
+        let line = match (&self.cast, self.about) {
+            (Cast::Shelves(users), _) => shelves::line(random, table, users, user),
+            (_, About::LongChains) if !random.once_in(4) => requests::long(random, table, user),
+            (Cast::Anything(others), About::Trees) if !random.once_in(4) => {
                 let other = random.pick(&[1, 1, others[0], others[1]]);
-                trees::line(random, &self.table, user, other)
+                trees::line(random, table, user, other)
             }
-            Cast::Anything(_) if self.rewrites && !random.once_in(5) => {
-                rewrites::about(random, &self.table, user)
-            }
-            Cast::Anything(_) if self.counts && !random.once_in(5) => {
-                counts::about(random, &self.table, user)
-            }
-            Cast::Anything(_) => requests::line(random, &self.table, user),
-            Cast::Shelves(users) => shelves::line(random, &self.table, users, user),
+            (_, About::Rewrites) if !random.once_in(5) => rewrites::about(random, table, user),
+            (_, About::Counts) if !random.once_in(5) => counts::about(random, table, user),
+            (_, About::Destroys) if !random.once_in(6) => destroys::about(random, table, user),
+            _ => requests::line(random, table, user),
         };
         Asked {
             line,

@@ -3,7 +3,8 @@
 use filebox::NO_STOP;
 use random::counts::{miscount, uncount};
 use random::damage::{damage, litter};
-use random::{requests, rewrites, Random};
+use random::destroys::lose;
+use random::{destroys, requests, rewrites, Random};
 
 /// Make these requests of a user on a table, each with this text; each must be granted.
 fn grow_for(user: u32, table: &mut [u8], lines: impl IntoIterator<Item = String>, text: &[u8]) {
@@ -151,21 +152,90 @@ pub fn shared(entries: usize) -> Vec<u8> {
     table
 }
 
+/// Sheets that are withdrawn. KEYS, of three blocks, is entered three times in `.R`, in a capped directory Q, in user 2's `.G` and base list, and in
+/// a directory that only its own entry names. Besides, a sheet of one entry, an empty base file, one marked, one read-inhibited, one capped,
+/// one whose entry is capped; directories with an entry, capped ones, one that is shut, with their own entry alone, and an empty one.
+pub fn withdrawn() -> Vec<u8> {
+    let mut table = vec![0; 84 * 32];
+    let lines = [
+        "CRD .R",
+        "WRS M .R:KEYS",
+        "DUP .R:KEYS .R:AGAIN",
+        "CRD .R:LOST",
+        "DUP .R:LOST .R:LOST:ME",
+        "DUP .R:KEYS .R:LOST:KEYS",
+        "DUP .R:KEYS .R:LOST",
+        "CRD .R:Q",
+        "DUP .R:KEYS .R:Q:KEYS",
+        "WRS M .R:Q:A",
+        "DPR .R:Q .1",
+        "WRS M .R:LONE",
+        "WRS M .R:CUT",
+        "WRS M.6 .R:SHUT",
+        "WRS L.1 .R:CAP",
+        "WRS M .R:PEN",
+        "DUP .R:PEN .R:PEN .1",
+        "CRD .R:V",
+        "WRS M .R:V:A",
+        "DPR .R:V .2",
+        "CRD .R:D",
+        "WRS M .R:D:F",
+        "CRD .R:ME",
+        "DUP .R:ME .R:ME:ME",
+        "CRD .R:E",
+        "CRD .T",
+        "WRS M .T:A",
+        "CRD .LOOP",
+        "DUP .LOOP .LOOP:ME",
+        "CRD .W",
+        "WRS M A",
+        "DPR .W .1",
+    ];
+    grow_for(2, &mut table, [String::from("CRD .G")], b"");
+    let (long, short) = lines.split_at(11);
+    grow(
+        &mut table,
+        long.iter().map(ToString::to_string),
+        &[b'k'; 60],
+    );
+    grow(&mut table, short.iter().map(ToString::to_string), b"5.0 V");
+    grow(
+        &mut table,
+        ["WRS M .AB", "DUP .R:KEYS .000002:KEYS"].map(String::from),
+        b"",
+    );
+    grow_for(2, &mut table, [String::from("DUP .G:KEYS .KEYS")], b"");
+    let cut = beside::request(&mut table, b"WRS* M .R:CUT", b"", &mut [], 1, 2);
+    assert_eq!(cut.number, 22);
+    table
+}
+
 /// A table to begin with.
 pub struct Start {
     pub table: Vec<u8>,
     /// How many requests are to be made on it: a large table takes as long as many small ones.
     pub requests: u64,
-    /// Are the texts of its requests mostly as long as they may be?
-    pub long_texts: bool,
-    /// Have its requests mostly long chains?
-    pub long_chains: bool,
-    /// Are its requests mostly LST*?
-    pub trees: bool,
-    /// Are its requests mostly WRS*, and about what these leave?
-    pub rewrites: bool,
-    /// Do its requests mostly move the counts in headings?
-    pub counts: bool,
+    /// What these are mostly.
+    pub about: About,
+}
+
+/// What the requests on a table are mostly.
+#[derive(Debug, Clone, Copy, PartialEq, Eq)]
+pub enum About {
+    /// Of all functions.
+    Anything,
+    /// The same, with texts as long as they may be.
+    LongTexts,
+    /// With long chains.
+    LongChains,
+    /// LST*.
+    Trees,
+    /// WRS*, and about what these leave.
+    Rewrites,
+    /// Such as move the counts in headings.
+    Counts,
+    /// DST, and such as lead to files of many entries.
+    Destroys,
 }
 
 /// The tables that take long to grow.
@@ -176,6 +246,7 @@ pub struct Starts {
     knot: Vec<u8>,
     sheets: [Vec<u8>; 5],
     shared: [Vec<u8>; 3],
+    withdrawn: Vec<u8>,
 }
 
 impl Starts {
@@ -192,34 +263,33 @@ impl Starts {
             knot: knot(),
             sheets: [0, 1, 2, 5, 12].map(sheets),
             shared: [254, 255, 256].map(shared),
+            withdrawn: withdrawn(),
         }
     }
 
     /// One of these, or records that are all free.
     pub fn start(&self, random: &mut Random) -> Start {
         let free = |records: usize| vec![0; records * 32];
-        let kind = random.below(115);
-        let (table, requests) = match kind {
-            0 => (self.long[random.below(3)].clone(), 6),
-            1..=32 => (self.crowded[random.below(4)].clone(), 12),
-            33..=46 => (free(random.below(13)), 40),
-            47 => (free(200 + random.below(1_849)), 20),
-            48..=63 => (free(13 + random.below(50)), 160),
-            64..=71 => (self.nest.clone(), 60),
-            72..=83 => (self.knot.clone(), 40),
-            84..=101 => (self.sheets[random.below(5)].clone(), 40),
-            102..=109 => (self.shared[random.below(3)].clone(), 12),
-            110..=112 => (self.knot.clone(), 60),
-            _ => (free(6 + random.below(24)), 80),
+        let (table, requests, about) = match random.below(150) {
+            0 => (self.long[random.below(3)].clone(), 6, About::LongTexts),
+            1..=32 => (self.crowded[random.below(4)].clone(), 12, About::Anything),
+            33..=46 => (free(random.below(13)), 40, About::Anything),
+            47 => (free(200 + random.below(1_849)), 20, About::Anything),
+            48..=63 => (free(13 + random.below(50)), 160, About::Anything),
+            64..=71 => (self.nest.clone(), 60, About::LongChains),
+            72..=83 => (self.knot.clone(), 40, About::Trees),
+            84..=101 => (self.sheets[random.below(5)].clone(), 40, About::Rewrites),
+            102..=109 => (self.shared[random.below(3)].clone(), 12, About::Counts),
+            110..=112 => (self.knot.clone(), 60, About::Counts),
+            113 | 114 => (free(6 + random.below(24)), 80, About::Counts),
+            115..=118 => (self.sheets[random.below(5)].clone(), 40, About::Rewrites),
+            119..=148 => (self.withdrawn.clone(), 24, About::Destroys),
+            _ => (self.knot.clone(), 40, About::Destroys),
         };
         Start {
             table,
             requests,
-            long_texts: kind == 0,
-            long_chains: (64..=71).contains(&kind),
-            trees: (72..=83).contains(&kind),
-            rewrites: (84..=101).contains(&kind),
-            counts: kind > 101,
+            about,
         }
     }
 }
@@ -265,11 +335,7 @@ pub fn shelves(random: &mut Random, users: [u32; 3]) -> Start {
     Start {
         table,
         requests: if crowd > 0 { 16 } else { 64 },
-        long_texts: false,
-        long_chains: false,
-        trees: false,
-        rewrites: false,
-        counts: false,
+        about: About::Anything,
     }
 }
 
@@ -298,9 +364,10 @@ pub fn shuffled(random: &mut Random, table: &[u8]) -> Vec<u8> {
 /// The table left by a request that is stopped early.
 fn cut(random: &mut Random, table: &[u8], user: u32) -> Vec<u8> {
     let mut cut = table.to_vec();
-    let line = match random.once_in(3) {
-        true => rewrites::line(random, table, user),
-        false => requests::granted(random, table, user).into_bytes(),
+    let line = match random.below(4) {
+        0 => rewrites::line(random, table, user),
+        1 => destroys::line(random, table, user),
+        _ => requests::granted(random, table, user).into_bytes(),
     };
     let (text, stop) = (random.bytes(60), 1 + random.below(6) as u32);
     // cut or not, and perhaps refused
@@ -317,10 +384,11 @@ fn marked(random: &mut Random, table: &mut [u8]) {
     }
 }
 
-/// A table that is likely not sound: damaged, marked, counted wrongly or not at all, littered, cut, of an odd length, too long, or rubbish.
+/// A table that is likely not sound: damaged, marked, counted wrongly or not at all, with entries that name no heading, littered, cut, of
+/// an odd length, too long, or rubbish.
 pub fn spoiled(random: &mut Random, table: &[u8], user: u32) -> Vec<u8> {
     let mut spoiled = table.to_vec();
-    match random.below(22) {
+    match random.below(25) {
         0 => spoiled.truncate(random.below(table.len() + 1)),
         1 => spoiled.resize(table.len() + 1 + random.below(40), 0),
         2 => spoiled.resize(random.pick(&[65_537, 65_567, 65_568, 70_000]), 0),
@@ -332,6 +400,12 @@ pub fn spoiled(random: &mut Random, table: &[u8], user: u32) -> Vec<u8> {
         8..=10 => litter(random, &mut spoiled),
         16 | 17 => marked(random, &mut spoiled),
         18..=20 => (0..=random.below(2)).for_each(|_| miscount(random, &mut spoiled)),
+        22..=24 => {
+            lose(random, &mut spoiled);
+            if random.once_in(3) {
+                litter(random, &mut spoiled);
+            }
+        }
         21 => {
             uncount(&mut spoiled);
             if random.once_in(3) {
@@ -356,7 +430,7 @@ mod tests {
             &starts.long,
             &starts.sheets,
             &starts.shared,
-            &[starts.nest, starts.knot],
+            &[starts.nest, starts.knot, starts.withdrawn],
         ];
         for table in all.concat().iter() {
             assert!(beside::sound(table));

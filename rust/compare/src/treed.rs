@@ -6,6 +6,7 @@ use std::fmt;
 use beside::{Listed, Request};
 
 use crate::case::{Asked, Case, Outcome};
+use crate::records::{two, BASE_FILE};
 
 const DEEPEST: usize = 8;
 /// The numbers of LST*, in their order.
@@ -22,7 +23,6 @@ const KINDS: [&str; 8] = [
 ];
 /// How often each branch must be met.
 const ENOUGH: u64 = 100;
-const BASE_FILE: u16 = 65_535;
 
 /// A count for each number, each depth that was granted, and each kind of tree, of more than one level.
 #[derive(Default)]
@@ -30,11 +30,6 @@ pub struct Treed {
     numbers: [u64; NUMBERS.len()],
     depths: [u64; DEEPEST],
     kinds: [u64; KINDS.len()],
-}
-
-/// Two bytes of a record as a number.
-fn two(record: &[u8], at: usize) -> u16 {
-    u16::from_le_bytes([record[at], record[at + 1]])
 }
 
 /// A tree walked by its records: how many lines it has, and which kinds of `KINDS` it is.

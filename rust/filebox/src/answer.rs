@@ -102,7 +102,7 @@ impl Refused {
         })
     }
 
-    /// The answer; of a DEL that was refused midway, and of a call that was stopped, it says what was done.
+    /// The answer; of a DEL or a DST that was refused midway, and of a call that was stopped, it says what was done.
     pub fn answer(self) -> Answer {
         self.0
     }

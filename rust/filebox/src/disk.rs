@@ -6,6 +6,10 @@
 //! byte: the table after once the entry is there. A DEL of several names is written name by name. Counts need no flush: a heading in which they
 //! alone are others is of the last phase, and may be written at any time.
 //!
+//! A DST has two phases, which the tables before and after do not tell, since there it is the heading that counts: what differs between the table
+//! before and the one at stop number 1 (the heading, cleared), a flush, then all else that differs, in any order, a flush. Of several names it is
+//! written name by name.
+//!
 //! A `WRS*` is written by stop numbers, since old and new text may share a record: what differs between the table before and the one
 //! at stop number 1 (the heading, marked), a flush, what differs from there to the table at one store fewer than it takes (all text), a
 //! flush, the heading as it is after, a flush. Cut anywhere, it is mended to one of the two tables, or to the table after with that one
@@ -41,7 +45,7 @@ pub enum Phase {
     Last,
 }
 
-/// The phase of a record, by the tables before and after a granted request but `WRS*` (for a DEL: before and after one name).
+/// The phase of a record, by the tables before and after a granted request but `WRS*` and DST (for a DEL: before and after one name).
 /// [`Phase::Same`] for two tables of different lengths, and for a record that is not wholly there.
 pub fn phase(before: &[u8], after: &[u8], record: usize) -> Phase {
     match crate::library::disk_phase(before, after, record) {

@@ -71,6 +71,8 @@
 //!
 //! Rewrite a sheet, and every link to it sees the new text. See [`Table::rewrite`].
 //!
+//! Destroy a sheet, and every path to it goes. See [`Table::destroy`].
+//!
 //! A refusal says the number and why, the argument, and which link of its chain, the supplied `.W` counted; it leaves the table
 //! as it was:
 //!

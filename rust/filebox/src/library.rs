@@ -85,8 +85,8 @@ pub fn request(
     Answer::from(seven)
 }
 
-/// Mend a table: clear the headings that no entry names, then the text of no simple file or of a marked one, and correct the counts in the headings
-/// that are left. Exactly the first `stop` stores are made; a mend that was cut is run again. A table of document 01, without counts, is brought up to
+/// Mend a table: clear the entries that name no heading, then the headings that no entry names, then the text of no simple file or of a marked one, and correct
+/// the counts in the headings that are left. Exactly the first `stop` stores are made; a mend that was cut is run again. A table of document 01, without counts, is brought up to
 /// date by one mend.
 ///
 /// ```

@@ -10,8 +10,8 @@ pub const RECORD_BYTES: usize = 32;
 pub const MOST_RECORDS: usize = 2_048;
 /// The longest text of a file, in bytes.
 pub const LONGEST_TEXT: usize = 24_000;
-/// A stop number that no call reaches: a request makes at most 2,064 stores (a DEL of eight names that clears every record, and two counts for
-/// each name), a mend at most 2,048. `FILEBOX_NO_STOP` of the C header.
+/// A stop number that no call reaches: a request makes fewer than 4,096 stores (a DST of eight names clears a record once, and stores at most a
+/// count for each entry that it clears), a mend at most 2,048. `FILEBOX_NO_STOP` of the C header.
 pub const NO_STOP: u32 = 65_535;
 
 /// The bytes of the longest listing: 112 lines of a name of ten characters.
@@ -71,9 +71,9 @@ impl<B: AsMut<[u8]>> Table<B> {
         request(self.as_mut(), line.as_bytes(), text, reply, user, NO_STOP)
     }
 
-    /// A request that takes no text and gives no reply bytes: CRD, CPY, DUP, CHN, DEL, DPR.
+    /// A request that takes no text and gives no reply bytes: CRD, CPY, DUP, CHN, DEL, DST, DPR.
     ///
-    /// A DEL that is refused midway has done the names before:
+    /// A DEL or a DST that is refused midway has done the names before:
     ///
     /// ```
     /// use filebox::{Number, Table};
@@ -150,6 +150,44 @@ impl<B: AsMut<[u8]>> Table<B> {
         without_blank(name, Number::MalformedName, 2)?;
         let line = format!("WRS* M {name}");
         self.request(user, &line, text, &mut []).granted()
+    }
+
+    /// DST: destroy a file everywhere: its heading, its text and every entry that names it, of whatever user and in whatever directory. It
+    /// needs write on the file, and asks nothing of the directories. A directory with entries, its own included, gets 18; a name with a
+    /// blank in it 7, as in [`Table::file`]. Up to eight names at once go by [`Table::ask`].
+    ///
+    /// When a key sheet is withdrawn, every path goes:
+    ///
+    /// ```
+    /// use filebox::{Number, Table};
+    ///
+    /// let (day, night) = (1, 777);
+    /// let mut table = Table::free(16);
+    /// table.ask(day, "CRD .R").unwrap();
+    /// table.file(day, "M", ".R:KEYS", b"9 9 9").unwrap();
+    /// table.ask(night, "CRD .G").unwrap();
+    /// table.ask(day, "DUP .R:KEYS .000777:KEYS .1").unwrap();
+    /// // heading, text, two entries, and the counts of `.R` and `.G`
+    /// assert_eq!(table.destroy(day, ".R:KEYS").unwrap().stores, 6);
+    /// let refused = table.sheet(night, ".G:KEYS").unwrap_err();
+    /// assert_eq!(refused.to_string(), "11: name not there (argument 1, link 2)");
+    /// ```
+    ///
+    /// Who has an entry without the pen cannot withdraw the sheet:
+    ///
+    /// ```
+    /// use filebox::{Number, Table};
+    ///
+    /// let mut table = Table::free(16);
+    /// table.file(1, "M", ".KEYS", b"9 9 9").unwrap();
+    /// table.ask(777, "CRD .G").unwrap();
+    /// table.ask(1, "DUP .KEYS .000777:KEYS .1").unwrap();
+    /// let refused = table.destroy(777, ".G:KEYS").unwrap_err();
+    /// assert_eq!(refused.answer().number, Number::WriteInhibited);
+    /// ```
+    pub fn destroy(&mut self, user: u32, name: &str) -> Result<Answer, Refused> {
+        without_blank(name, Number::MalformedName, 1)?;
+        self.ask(user, &format!("DST {name}"))
     }
 
     /// RDS: the text of a sheet. A sheet that a cut rewrite left marked gets 23. A name with a blank in it is refused by 7, as in [`Table::file`].

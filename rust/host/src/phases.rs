@@ -19,6 +19,10 @@ pub fn write(disk: &mut impl Disk, before: &[u8], step: &Step) -> io::Result<()>
             write_differing(disk, marked, filled)?;
             write_differing(disk, filled, after)
         }
+        Step::Destroy([headless, after]) => {
+            write_differing(disk, before, headless)?;
+            write_differing(disk, headless, after)
+        }
     }
 }
 
@@ -36,7 +40,7 @@ fn write_whole(disk: &mut impl Disk, before: &[u8], after: &[u8]) -> io::Result<
     Ok(())
 }
 
-/// Write what differs, which may land in any order: one flush. What mending cleared or counted anew, or one phase of a rewrite.
+/// Write what differs, which may land in any order: one flush. What mending cleared or counted anew, or one phase of a rewrite or of a DST.
 pub fn write_differing(disk: &mut impl Disk, before: &[u8], after: &[u8]) -> io::Result<()> {
     let old = before.chunks(RECORD_BYTES);
     let new = after.chunks(RECORD_BYTES);

@@ -1,4 +1,5 @@
-//! The tables between a call's start and its end: after each name of a DEL, after each sheet of a job, and between the phases of a rewrite.
+//! The tables between a call's start and its end: after each name of a DEL or a DST, after each sheet of a job, and between the phases of a
+//! rewrite and of a DST.
 
 use filebox::{Answer, NotGreen, Number, Phase, Sheet, Table, NO_STOP, RECORD_BYTES};
 
@@ -11,18 +12,23 @@ pub enum Step {
     /// A rewrite: the tables with its heading marked, with all its text besides, and after it. Old and new text may share a record, so
     /// that the tables before and after do not tell.
     Rewrite([Vec<u8>; 3]),
+    /// One name of a DST: the tables with its heading cleared, and after it. It is the heading that counts, and entries may be many, so that the
+    /// tables before and after do not tell.
+    Destroy([Vec<u8>; 2]),
 }
 
 impl Step {
     /// The table after it.
     pub fn after(self) -> Vec<u8> {
         match self {
-            Step::Whole(after) | Step::Rewrite([_, _, after]) => after,
+            Step::Whole(after) | Step::Rewrite([_, _, after]) | Step::Destroy([_, after]) => after,
         }
     }
 }
 
-/// Byte 0 of an entry.
+/// Byte 0 of a free record, of a heading, and of an entry.
+const FREE: u8 = 0;
+const HEADING: u8 = 1;
 const ENTRY: u8 = 2;
 
 /// A request of a user: its line and its text.
@@ -54,14 +60,27 @@ impl Request<'_> {
             return (answer, vec![Step::Rewrite(tables)]);
         }
         let mut steps = Vec::new();
-        let mut least = 0;
+        let mut done = (0, table.to_vec());
         for names in 1..answer.names {
-            let (stop, between) = self.least_stop(table, names, least..answer.stores);
-            least = stop;
-            steps.push(Step::Whole(between));
+            let next = self.least_stop(table, names, done.0..answer.stores);
+            steps.push(self.step(table, done, next.1.clone()));
+            done = next;
         }
-        steps.push(Step::Whole(after));
+        steps.push(self.step(table, done, after));
         (answer, steps)
+    }
+
+    /// The step from the table at a stop number to the one after the next name. A DST clears a heading by the first store of a name, and no
+    /// other request does.
+    fn step(&self, table: &[u8], (stop, before): (u32, Vec<u8>), after: Vec<u8>) -> Step {
+        if !clears_heading(&before, &after) {
+            return Step::Whole(after);
+        }
+        let (_, first) = self.stopped(table, &mut [], stop + 1);
+        match clears_heading(&before, &first) {
+            true => Step::Destroy([first, after]),
+            false => Step::Whole(after),
+        }
     }
 
     /// The least stop number at which so many names are done, and the table then. It is in this range or at its end.
@@ -77,6 +96,12 @@ impl Request<'_> {
         }
         (low, self.stopped(table, &mut [], low).1)
     }
+}
+
+/// Is a heading cleared?
+fn clears_heading(before: &[u8], after: &[u8]) -> bool {
+    let mut pairs = before.chunks(RECORD_BYTES).zip(after.chunks(RECORD_BYTES));
+    pairs.any(|(old, new)| (old[0], new[0]) == (HEADING, FREE))
 }
 
 /// Is this what a rewrite leaves? It was granted with more than one store and changed something, and no entry: every other request of more than

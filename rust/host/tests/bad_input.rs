@@ -38,12 +38,14 @@ fn a_length_that_no_table_has() {
 fn a_table_that_is_not_to_be_mended() {
     let folder = Folder::new();
     let sheet = folder.file("sheet", b"5.0 V");
-    let mut entry_alone = [0; 64];
-    entry_alone[..12].copy_from_slice(&[2, 0, 255, 255, 1, 0, 1, 0, 0, 2, b'.', b'R']);
+    // an entry of a sheet, in a directory that is none
+    let mut astray = [0; 64];
+    astray[..11].copy_from_slice(&[2, 0, 5, 0, 1, 0, 0, 0, 0, 1, b'A']);
+    astray[32..37].copy_from_slice(&[1, 1, 0, 0, 1]);
     let text = vec![b'#'; 1_024];
     let mut half = table(8, &[("WRS M .R", &[b'x'; 48])]);
     half[64..96].fill(0);
-    for bytes in [&entry_alone[..], &text, &half] {
+    for bytes in [&astray[..], &text, &half] {
         let path = folder.file("not-sound", bytes);
         for words in commands(&path, &sheet) {
             run(&words).fails(&[&path, "mending does not make it sound", "It is as it was"]);

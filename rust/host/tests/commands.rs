@@ -231,6 +231,41 @@ fn a_request_cut_before_its_counts_is_done_and_counted_anew() {
 }
 
 #[test]
+fn a_sheet_is_withdrawn_from_every_shift() {
+    let folder = Folder::new();
+    let requests: [(&str, &[u8]); 2] = [("CRD .R", b""), ("WRS M .R:KEYS", b"9 9 9")];
+    let mut bytes = table(16, &requests);
+    let mut of_two = filebox::Table::of(&mut bytes[..]);
+    of_two.ask(777, "CRD .G").unwrap();
+    of_two.ask(1, "DUP .R:KEYS .000777:KEYS").unwrap();
+    let path = folder.file("line.table", &bytes);
+    let ran = run(&["ask", &path, "777", "RDS .G:KEYS"]);
+    assert_eq!(ran.out(), "0 0 0 1 0 5 0\n9 9 9");
+    let ran = run(&["ask", &path, "1", "DST .R:KEYS"]);
+    assert_eq!(ran.out(), "0 0 0 1 0 0 6\n");
+    let ran = run(&["ask", &path, "777", "RDS .G:KEYS"]);
+    assert_eq!((ran.status, &ran.out()[..]), (1, "11 1 2 0 0 0 0\n"));
+}
+
+#[test]
+fn show_marks_the_entries_of_a_cut_dst() {
+    let folder = Folder::new();
+    let requests: [(&str, &[u8]); 3] = [
+        ("CRD .R", b""),
+        ("WRS M .R:A", b"x"),
+        ("DUP .R:A .ABC", b""),
+    ];
+    let mut bytes = table(8, &requests);
+    let cut = filebox::request(&mut bytes, b"DST .ABC", b"", &mut [], 1, 2);
+    assert_eq!(cut.stores, 2);
+    let path = folder.file("cut", &bytes);
+    let drawn = run(&["show", &path]).out();
+    assert!(drawn.contains("   0 De..xx..\n"), "{drawn}");
+    assert!(drawn.contains("mending would clear 2"), "{drawn}");
+    assert!(!drawn.contains("ABC"), "{drawn}");
+}
+
+#[test]
 fn a_table_without_counts_is_brought_up_to_date() {
     let folder = Folder::new();
     let requests: [(&str, &[u8]); 3] = [

@@ -225,6 +225,92 @@ fn a_del_goes_name_by_name() {
 }
 
 #[test]
+fn a_dst_clears_its_heading_then_all_else_name_by_name() {
+    let requests: [(&str, &[u8]); 5] = [
+        ("CRD .R", b""),
+        ("WRS M .R:A", &[b'x'; 30]),
+        ("DUP .R:A .ABC", b""),
+        ("CRD .R:D", b""),
+        ("DUP .R:A .R:D:A", b""),
+    ];
+    let before = table(14, &requests);
+    let destroyed = |line| {
+        let (mut kept, disk) = kept(&before);
+        let answer = ask(&mut kept, line, b"").unwrap();
+        assert_eq!(&disk.bytes.borrow()[..], kept.table());
+        let calls = disk.calls.borrow().join(" ");
+        (answer.numbers(), calls)
+    };
+    // heading, two texts, three entries, the counts of `.R` and D
+    let sheet = "2 | 0 3 4 5 6 7 9 |";
+    let done = ([0, 0, 0, 1, 0, 0, 8], sheet.to_string());
+    assert_eq!(destroyed("DST .R:A"), done);
+    assert_eq!(destroyed("DST .R:D:A"), done);
+    assert_eq!(
+        destroyed("DST .R:A .R:D .R"),
+        (
+            [0, 0, 0, 3, 0, 0, 8 + 3 + 2],
+            format!("{sheet} 7 | 0 8 | 0 | 1 |")
+        )
+    );
+    assert_eq!(
+        destroyed("DST .ABC .R:D .R:A .R"),
+        ([11, 3, 2, 2, 0, 0, 8 + 3], format!("{sheet} 7 | 0 8 |"))
+    );
+    assert_eq!(
+        destroyed("DST .R:D"),
+        ([18, 1, 2, 0, 0, 0, 0], String::new())
+    );
+}
+
+#[test]
+fn after_a_disk_error_in_a_dst_the_file_is_there_or_gone_everywhere() {
+    let requests: [(&str, &[u8]); 3] = [
+        ("CRD .R", b""),
+        ("WRS M .R:A", b"5.0 V"),
+        ("DUP .R:A .ABC", b""),
+    ];
+    let before = table(10, &requests);
+    // the heading, a flush, the count of `.R`, the text and two entries, a flush
+    for fails in 0..7 {
+        let (mut kept, disk) = kept(&before);
+        *disk.fails.borrow_mut() = Some(fails);
+        let Err(Wrong::Disk(_)) = ask(&mut kept, "DST .ABC", b"") else {
+            panic!("answered, though call {fails} failed");
+        };
+        let expected = match fails {
+            0 => Number::Done,
+            _ => Number::NameNotThere,
+        };
+        for name in ["RDS .R:A", "RDS .ABC"] {
+            let answer = ask(&mut kept, name, b"").unwrap();
+            assert_eq!(answer.number, expected, "{name}, call {fails}");
+        }
+        assert_eq!(&disk.bytes.borrow()[..], kept.table());
+    }
+}
+
+#[test]
+fn opening_clears_the_entries_that_a_cut_dst_left() {
+    let requests: [(&str, &[u8]); 3] = [
+        ("CRD .R", b""),
+        ("WRS M .R:A", b"x"),
+        ("DUP .R:A .ABC", b""),
+    ];
+    let mut cut = table(8, &requests);
+    let answer = filebox::request(&mut cut, b"DST .R:A", b"", &mut [], 1, 1);
+    assert_eq!((answer.number, answer.stores), (Number::Stopped, 1));
+    let disk = Noted::default();
+    *disk.bytes.borrow_mut() = cut;
+    let (kept, answer) = Kept::open(disk.clone()).unwrap();
+    // two entries, the text, the count
+    assert_eq!(answer.stores, 4);
+    assert_eq!(kept.table(), table(8, &[("CRD .R", b"")]));
+    let calls = disk.calls.borrow().join(" ");
+    assert_eq!(calls, "0 1 2 3 4 5 6 7 | 0 3 4 5 |");
+}
+
+#[test]
 fn a_job_goes_sheet_by_sheet() {
     let (mut kept, disk) = kept(&table(12, &[("CRD .R", b"")]));
     let sheets = [

@@ -10,7 +10,7 @@ use std::time::Duration;
 
 use random::Random;
 
-use crate::seen::{emptied, equal, stations, Checked};
+use crate::seen::{emptied, equal, headless, stations, Checked};
 use crate::sent::{requests, About, Sent};
 use crate::wire::{received, ANSWER_BYTES};
 
@@ -37,6 +37,8 @@ pub struct Counts {
     pub half_stored: u64,
     /// Of these, in a rewrite, mended to the file marked and empty.
     pub half_rewritten: u64,
+    /// Of these, in a DST.
+    pub half_destroyed: u64,
     /// Kills after which the file held some but not all stores of the host's mending.
     pub half_mended: u64,
 }
@@ -87,9 +89,10 @@ impl Fixture<'_> {
     /// One host: started, asked, killed; then the file.
     fn kill_once(&mut self) -> Checked {
         let left = self.left()?;
-        let about = match self.random.once_in(4) {
-            true => About::Rewrites,
-            false => About::Anything,
+        let about = match self.random.below(4) {
+            0 => About::Rewrites,
+            1 => About::Destroys,
+            _ => About::Anything,
         };
         let sent = requests(&mut self.random, &self.table, about, SENT, LONGEST_TEXT);
         let answers = self
@@ -189,6 +192,8 @@ impl Fixture<'_> {
         let empty = emptied(|stop| request.stopped(stop));
         let marked = empty.is_some_and(|(_, empty)| empty == mended);
         self.counts.half_rewritten += u64::from(marked);
+        let destroyed = headless(|stop| request.stopped(stop)).is_some();
+        self.counts.half_destroyed += u64::from(half && destroyed);
         Ok(())
     }
 }

@@ -6,7 +6,7 @@ use host::{Kept, Request};
 use random::Random;
 
 use crate::machine::{Fault, Machine};
-use crate::seen::{emptied, equal, is_marked, tables, Checked};
+use crate::seen::{emptied, equal, headless, is_marked, tables, Checked};
 use crate::sent::{requests, About, Sent};
 
 const RECORDS: usize = 40;
@@ -31,6 +31,8 @@ pub struct Tried {
     pub marked: u64,
     /// Pulls after which a heading was counted anew.
     pub counted: u64,
+    /// Pulls after which entries that named no heading were cleared.
+    pub destroyed: u64,
     /// Disk errors that the host went on after.
     pub errors: u64,
     /// Flushes, of requests that changed something.
@@ -45,19 +47,22 @@ struct Story {
     tried: Tried,
     /// Of the request that is under way, if it is a rewrite: its file, and the table with that marked and empty.
     empty: Option<(usize, Vec<u8>)>,
-    /// The flush of each request, or of each rewrite, that is left out, from 0: a plant, which must be found.
+    /// The same, if it is a DST: the heading that its first store clears.
+    headless: Option<usize>,
+    /// The flush of each request, or of each rewrite or DST, that is left out, from 0: a plant, which must be found.
     planted: Option<u64>,
     about: About,
 }
 
 /// So many requests, each pulled at every call of the disk, and a story of pulls, kills and disk errors beside. A plant leaves
-/// out a flush of each request, from 0; where rewrites are asked, of these alone.
+/// out a flush of each request, from 0; where rewrites or DSTs are asked, of these alone.
 pub fn reorder(about: About, count: u64, seed: u64, planted: Option<u64>) -> Result<Tried, String> {
     let mut story = Story {
         random: Random::new(seed),
         table: Vec::new(),
         tried: Tried::default(),
         empty: None,
+        headless: None,
         planted,
         about,
     };
@@ -94,6 +99,7 @@ impl Story {
     fn request(&mut self, sent: &Sent) -> Checked {
         let stations = tables(|stop| sent.stopped(stop));
         self.empty = emptied(|stop| sent.stopped(stop));
+        self.headless = headless(|stop| sent.stopped(stop));
         let machine = Machine::of(&self.table);
         let mut host = opened(&machine)?;
         let (calls, flushes) = (machine.calls(), machine.flushes());
@@ -118,7 +124,11 @@ impl Story {
     fn pull(&mut self, sent: &Sent, stations: &[Vec<u8>], call: u64) -> Checked {
         let machine = Machine::of(&self.table);
         let mut host = opened(&machine)?;
-        let spared = self.about == About::Rewrites && self.empty.is_none();
+        let spared = match self.about {
+            About::Anything => false,
+            About::Rewrites => self.empty.is_none(),
+            About::Destroys => self.headless.is_none(),
+        };
         if let Some(flush) = self.planted.filter(|_| !spared) {
             machine.skip_flush(flush);
         }
@@ -149,8 +159,8 @@ impl Story {
         (0..64).fold(0, |bits, _| bits << 1 | self.random.below(2) as u64)
     }
 
-    /// What a pull left is mended to one of these tables, also where its mending is pulled in turn. Once the one entry is there,
-    /// that is the table after. Of a rewrite it is the third exactly where the heading is marked; else nothing is mended.
+    /// What a pull left is mended to one of these tables, also where its mending is pulled in turn. Once the one entry is there, or
+    /// of a DST the heading is cleared, that is the table after. Of a rewrite it is the third exactly where the heading is marked; else nothing is mended.
     fn mended(&mut self, left: &[u8], stations: &[Vec<u8>]) -> Result<Vec<u8>, String> {
         self.tried.pulls += 1;
         self.tried.halves += u64::from(stations.iter().all(|station| station != left));
@@ -164,7 +174,7 @@ impl Story {
         let whole = match (&self.empty, stations) {
             (Some((file, empty)), _) if is_marked(left, *file) => &empty[..],
             (Some(_), _) => left,
-            (None, [before, after]) if entry_there(before, after, left) => after,
+            (None, [before, after]) if self.counts(before, after, left) => after,
             (None, [before, _]) => before,
             (None, _) => &table[..],
         };
@@ -175,8 +185,17 @@ impl Story {
             .is_some_and(|(_, empty)| *empty == table);
         self.tried.marked += u64::from(marked);
         self.tried.counted += u64::from(counted_anew(left, &table));
+        self.tried.destroyed += u64::from(entries(left) > entries(&table));
         let call = self.random.below(machine.calls().max(1) as usize) as u64;
         self.mended_in_turn(left, call, &table)
+    }
+
+    /// Has the write that counts landed?
+    fn counts(&self, before: &[u8], after: &[u8], left: &[u8]) -> bool {
+        match self.headless {
+            Some(file) => left[file * 32] == 0,
+            None => entry_there(before, after, left),
+        }
     }
 
     /// Mending, pulled at this call, is mended to the same.
@@ -241,6 +260,11 @@ impl Story {
             false => Err("after a disk error, neither the table before nor after".to_string()),
         }
     }
+}
+
+/// How many entries a table has.
+fn entries(table: &[u8]) -> usize {
+    table.chunks(32).filter(|record| record[0] == 2).count()
 }
 
 /// Has a heading other counts once what was left is mended?

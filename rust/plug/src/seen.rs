@@ -5,6 +5,7 @@ pub type Checked = Result<(), String>;
 /// "stop number reached"
 const STOPPED: u32 = 22;
 const RECORD: usize = 32;
+const FREE: u8 = 0;
 const HEADING: u8 = 1;
 const TEXT: u8 = 3;
 
@@ -53,6 +54,13 @@ pub fn emptied(stopped: impl Fn(u32) -> (beside::Answer, Vec<u8>)) -> Option<(us
     heading[5] = 1;
     heading[10..12].fill(0);
     Some((file, table))
+}
+
+/// Of a DST, the number of the heading that its first store clears.
+pub fn headless(stopped: impl Fn(u32) -> (beside::Answer, Vec<u8>)) -> Option<usize> {
+    let ((_, before), (_, first)) = (stopped(0), stopped(1));
+    let mut pairs = before.chunks(RECORD).zip(first.chunks(RECORD));
+    pairs.position(|(old, new)| (old[0], new[0]) == (HEADING, FREE))
 }
 
 /// The table before and after each name, and of a rewrite the third; each table between is looked at.

@@ -1,6 +1,6 @@
 //! Requests that are sent to the host, and what the second program says that each must come to.
 
-use random::{requests, rewrites, Random};
+use random::{destroys, requests, rewrites, Random};
 
 use crate::wire::Asked;
 
@@ -11,20 +11,34 @@ pub enum About {
     Anything,
     /// Mostly a rewrite, or something about a sheet that one may have left marked.
     Rewrites,
+    /// Mostly a DST, or something that gives a file more entries.
+    Destroys,
 }
 
 impl About {
     /// The table to begin with, of so many records: free, or with a few sheets.
     pub fn begun(self, records: usize) -> Vec<u8> {
         let mut table = vec![0; records * filebox::RECORD_BYTES];
-        let lines = [
-            "CRD .R",
-            "WRS M .R:A",
-            "WRS M .R:B",
-            "WRS M .AB",
-            "WRS L .R:C",
-        ];
-        for line in lines.iter().filter(|_| self == About::Rewrites) {
+        let lines: &[&str] = match self {
+            About::Anything => &[],
+            About::Rewrites => &[
+                "CRD .R",
+                "WRS M .R:A",
+                "WRS M .R:B",
+                "WRS M .AB",
+                "WRS L .R:C",
+            ],
+            About::Destroys => &[
+                "CRD .R",
+                "WRS M .R:A",
+                "DUP .R:A .R:B",
+                "DUP .R:A .AB",
+                "CRD .R:D",
+                "DUP .R:A .R:D:A",
+                "WRS M .R:D:C",
+            ],
+        };
+        for line in lines {
             let (line, text) = (line.as_bytes(), [b's'; 60]);
             let answer = beside::request(&mut table, line, &text, &mut [], 1, filebox::NO_STOP);
             assert_eq!(answer.number, 0);
@@ -35,6 +49,7 @@ impl About {
     fn line(self, random: &mut Random, table: &[u8], user: u32) -> Vec<u8> {
         match self {
             About::Rewrites if !random.once_in(4) => rewrites::about(random, table, user),
+            About::Destroys if !random.once_in(4) => destroys::about(random, table, user),
             _ => requests::granted(random, table, user).into_bytes(),
         }
     }
@@ -75,7 +90,7 @@ impl Sent {
     }
 }
 
-/// So many requests of two users, rewrites of one, each for the table after those before, with texts of fewer bytes than this.
+/// So many requests of two users, rewrites and DSTs of one, each for the table after those before, with texts of fewer bytes than this.
 pub fn requests(
     random: &mut Random,
     table: &[u8],
@@ -88,7 +103,7 @@ pub fn requests(
     for _ in 0..count {
         let user = match about {
             About::Anything => random.pick(&[1, 1, 2]),
-            About::Rewrites => 1,
+            About::Rewrites | About::Destroys => 1,
         };
         let length = random.below(longest);
         let asked = Asked {

@@ -32,7 +32,18 @@ fn any_part_of_a_rewrite_is_mended_to_the_table_before_or_after_or_marked_and_em
     assert!(tried.flushes <= 3 * tried.changing, "{tried:?}");
 }
 
-/// A flush of each request left out is found, and where it is a rewrite's.
+#[test]
+fn any_part_of_a_dst_is_mended_to_the_table_before_or_after_some_of_its_names() {
+    let tried = reorder(About::Destroys, 2_000, 1971, None).expect("every pull");
+    println!("{tried:?}");
+    assert!(
+        tried.destroyed > 2_000 && tried.halves > 5_000 && tried.errors > 20,
+        "{tried:?}"
+    );
+    assert!(tried.flushes <= 3 * tried.changing, "{tried:?}");
+}
+
+/// A flush of each request left out is found, and where it is a rewrite's or a DST's. A DST's second flush is for what comes after it.
 #[test]
 fn one_flush_fewer_is_found() {
     let wrong = [
@@ -40,12 +51,16 @@ fn one_flush_fewer_is_found() {
         "the mended table is not what it should be",
         "mended to neither the table before nor after",
     ];
-    for about in [About::Anything, About::Rewrites] {
-        for flush in [0, 1] {
-            let found = reorder(about, 2_000, 1971, Some(flush)).expect_err("found");
-            println!("{about:?}, without flush {flush}: {found}");
-            assert!(wrong.iter().any(|wrong| found.contains(wrong)), "{found}");
-        }
+    for (about, flush) in [
+        (About::Anything, 0),
+        (About::Anything, 1),
+        (About::Rewrites, 0),
+        (About::Rewrites, 1),
+        (About::Destroys, 0),
+    ] {
+        let found = reorder(about, 2_000, 1971, Some(flush)).expect_err("found");
+        println!("{about:?}, without flush {flush}: {found}");
+        assert!(wrong.iter().any(|wrong| found.contains(wrong)), "{found}");
     }
 }
 

@@ -11,4 +11,5 @@ fn a_killed_host_is_mended_to_the_table_before_or_after() {
     assert!(counts.answered > 1_000, "{counts:?}");
     assert!(counts.half_stored > 0, "{counts:?}");
     assert!(counts.half_rewritten > 0, "{counts:?}");
+    assert!(counts.half_destroyed > 0, "{counts:?}");
 }

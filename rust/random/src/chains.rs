@@ -54,19 +54,33 @@ pub fn old(random: &mut Random, table: &[u8], user: u32) -> String {
     }
 }
 
-/// Does the chain come to a simple file?
-fn is_sheet(table: &[u8], user: u32, chain: &str) -> bool {
+/// The heading that the chain comes to.
+fn end(table: &[u8], user: u32, chain: &str) -> Option<usize> {
     let mut heading = BASE_FILE;
     for link in chain.split(':') {
-        let there = entries(table, heading, user);
-        match there.into_iter().find(|entry| name(entry) == link) {
-            Some(entry) => heading = two(entry, 4),
-            None => return false,
-        }
+        let mut there = entries(table, heading, user).into_iter();
+        heading = two(there.find(|entry| name(entry) == link)?, 4);
     }
-    table
-        .get(heading * 32..)
-        .is_some_and(|at| at[..2] == [1, 1])
+    Some(heading)
+}
+
+/// Does the chain come to a simple file?
+fn is_sheet(table: &[u8], user: u32, chain: &str) -> bool {
+    let heading = end(table, user, chain).and_then(|heading| table.get(heading * 32..));
+    heading.is_some_and(|at| at[..2] == [1, 1])
+}
+
+/// Another chain to the end of this one, where some tries come to one; else any.
+pub fn twin(random: &mut Random, table: &[u8], user: u32, chain: &str) -> String {
+    let file = end(table, user, chain);
+    let mut other = old(random, table, user);
+    for _ in 0..20 {
+        if other != chain && end(table, user, &other) == file {
+            break;
+        }
+        other = old(random, table, user);
+    }
+    other
 }
 
 /// The same, of a simple file, where some tries come to one.

@@ -41,7 +41,7 @@ pub fn damage(random: &mut Random, table: &mut [u8]) {
     }
 }
 
-/// Litter up to three free records with headings and texts such as mending clears, or nearly: of any type, at the heading
+/// Litter up to three free records with headings, entries and texts such as mending clears, or nearly: of any type, at the heading
 /// of any record or of none, with any bytes after.
 pub fn litter(random: &mut Random, table: &mut [u8]) {
     let records = table.len() / 32;
@@ -50,7 +50,7 @@ pub fn litter(random: &mut Random, table: &mut [u8]) {
         let Some(record) = table.get_mut(at..at + 32).filter(|r| r[0] == 0) else {
             continue;
         };
-        record[..2].copy_from_slice(&[random.pick(&[1, 3, 3]), random.below(3) as u8]);
+        record[..2].copy_from_slice(&[random.pick(&[1, 2, 3, 3]), random.below(3) as u8]);
         let heading = random.below(records + 1) as u16;
         record[2..4].copy_from_slice(&heading.to_le_bytes());
         if random.once_in(2) {

@@ -3,6 +3,7 @@
 pub mod chains;
 pub mod counts;
 pub mod damage;
+pub mod destroys;
 pub mod lines;
 pub mod parts;
 pub mod requests;
@@ -51,6 +52,16 @@ impl Random {
 mod tests {
     use super::*;
 
+    /// A directory, which is user 1's `.R`, and an entry A in it that names an empty sheet.
+    fn small() -> Vec<u8> {
+        let mut table = vec![0; 160];
+        table[0] = 1;
+        table[32..44].copy_from_slice(&[2, 0, 255, 255, 0, 0, 1, 0, 0, 2, b'.', b'R']);
+        table[64..75].copy_from_slice(&[2, 0, 0, 0, 3, 0, 0, 0, 0, 1, b'A']);
+        table[96..101].copy_from_slice(&[1, 1, 0, 0, 1]);
+        table
+    }
+
     #[test]
     fn a_seed_gives_the_same_again_and_another_gives_others() {
         let bytes = |seed| Random::new(seed).bytes(64);
@@ -98,12 +109,7 @@ mod tests {
 
     #[test]
     fn every_kind_of_rewrite_comes() {
-        // a directory, which is user 1's `.R`, and an entry A in it that names an empty sheet
-        let mut table = vec![0; 128];
-        table[0] = 1;
-        table[32..44].copy_from_slice(&[2, 0, 255, 255, 0, 0, 1, 0, 0, 2, b'.', b'R']);
-        table[64..75].copy_from_slice(&[2, 0, 0, 0, 3, 0, 0, 0, 0, 1, b'A']);
-        table[96..101].copy_from_slice(&[1, 1, 0, 0, 1]);
+        let table = small();
         let mut random = Random::new(1);
         let lines: Vec<Vec<u8>> = (0..3_000)
             .map(|_| rewrites::line(&mut random, &table, 1))
@@ -173,12 +179,7 @@ mod tests {
 
     #[test]
     fn every_kind_of_line_that_moves_counts_comes() {
-        // a directory, which is user 1's `.R`, and an entry A in it that names an empty sheet
-        let mut table = vec![0; 128];
-        table[0] = 1;
-        table[32..44].copy_from_slice(&[2, 0, 255, 255, 0, 0, 1, 0, 0, 2, b'.', b'R']);
-        table[64..75].copy_from_slice(&[2, 0, 0, 0, 3, 0, 0, 0, 0, 1, b'A']);
-        table[96..101].copy_from_slice(&[1, 1, 0, 0, 1]);
+        let table = small();
         let mut random = Random::new(1);
         let lines: Vec<Vec<u8>> = (0..3_000)
             .map(|_| counts::about(&mut random, &table, 1))
@@ -197,6 +198,49 @@ mod tests {
         ] {
             assert!(lines.iter().any(|met| met == line.as_bytes()), "{line}");
         }
+    }
+
+    #[test]
+    fn every_kind_of_dst_comes() {
+        let mut random = Random::new(1);
+        let lines: Vec<Vec<u8>> = (0..3_000)
+            .map(|_| destroys::about(&mut random, &small(), 1))
+            .collect();
+        for line in [
+            "DST .R:A",
+            "DST .R",
+            "DST .R:A .R:A",
+            "DST .R:A .R",
+            "DST .R .R:A",
+            "DST ",
+            "DST -",
+            "DST .1",
+            "DST .000777",
+            "DST .R:A .R:A .R:A .R:A .R:A .R:A .R:A .R:A .R:A",
+            "DUP .R .R:B",
+        ] {
+            assert!(lines.iter().any(|met| met == line.as_bytes()), "{line}");
+        }
+    }
+
+    #[test]
+    fn entries_lose_their_heading() {
+        let mut random = Random::new(1);
+        let mut met = [0; 4];
+        for _ in 0..1_000 {
+            let mut table = small();
+            destroys::lose(&mut random, &mut table);
+            let headings = table.chunks(32).filter(|record| record[0] == 1).count();
+            met[0] += usize::from(headings < 2);
+            let entry = &table[128..];
+            let named = usize::from(u16::from_le_bytes([entry[4], entry[5]]));
+            met[1] += usize::from(entry[0] == 2 && named >= 5);
+            met[2] += usize::from(entry[0] == 2 && [1, 2].contains(&named));
+            met[3] += usize::from(entry[0] == 2 && named == 4);
+        }
+        assert!(met.iter().all(|times| *times > 50), "{met:?}");
+        destroys::lose(&mut random, &mut []);
+        destroys::lose(&mut random, &mut [3; 32]);
     }
 
     #[test]

@@ -55,7 +55,7 @@ fn written(random: &mut Random) -> String {
 /// A line of one of the functions, now and then with one byte changed.
 pub fn line(random: &mut Random) -> Vec<u8> {
     let (one, two, declared) = (name(random), name(random), declaration(random));
-    let line = match random.below(22) {
+    let line = match random.below(24) {
         0..=2 => format!("CRD {one} {declared}"),
         3..=5 => written(random),
         6 | 15 | 16 => format!("RDS {one}{}", part(random)),
@@ -72,6 +72,8 @@ pub fn line(random: &mut Random) -> Vec<u8> {
             random.pick(&[".1", ".3", ".7", ".0", "M.1", "-", ""])
         ),
         19..=21 => format!("WRS* {} {one}", medium(random)),
+        22 => format!("DST {one}"),
+        23 => format!("DST {one} {two}"),
         14 => format!("LST {}", if random.once_in(3) { "." } else { one }),
         _ => {
             let name = if random.once_in(3) { "." } else { one };

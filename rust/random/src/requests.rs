@@ -24,7 +24,7 @@ pub fn declaration(random: &mut Random, lifetime: &str) -> String {
 /// A well-formed line of one of the functions over chains of the table.
 pub fn granted(random: &mut Random, table: &[u8], user: u32) -> String {
     let (one, other) = (old(random, table, user), new(random, table, user));
-    match random.below(50) {
+    match random.below(52) {
         0..=5 => format!("CRD {other} {}", declaration(random, "")),
         6..=10 => {
             let lifetime = random.pick(&["M", "L"]);
@@ -49,6 +49,8 @@ pub fn granted(random: &mut Random, table: &[u8], user: u32) -> String {
         39 | 40 => format!("LST {one}"),
         41 => "LST .".to_string(),
         46..=49 => format!("WRS* {} {one}", medium(random)),
+        50 => format!("DST {one}"),
+        51 => format!("DST {one} {}", old(random, table, user)),
         42..=44 => format!("LST* {one} {}", depth(random)),
         _ => format!("LST* . {}", depth(random)),
     }
@@ -57,7 +59,7 @@ pub fn granted(random: &mut Random, table: &[u8], user: u32) -> String {
 /// A line of one of the functions with a long chain, which may be wrong at any link.
 pub fn long(random: &mut Random, table: &[u8], user: u32) -> Vec<u8> {
     let (chain, other) = (chains::long(random, table, user), old(random, table, user));
-    let line = match random.below(14) {
+    let line = match random.below(16) {
         0 => format!("CRD {chain}"),
         1 => format!("WRS M {chain}"),
         2 => format!("RDS {chain}"),
@@ -70,6 +72,8 @@ pub fn long(random: &mut Random, table: &[u8], user: u32) -> Vec<u8> {
         9 => format!("DPR {chain} .4"),
         10 => format!("DEL {chain}"),
         12 => format!("WRS* M {chain}"),
+        14 => format!("DST {chain}"),
+        15 => format!("DST {other} {chain}"),
         11 => format!("LST* {chain} {}", depth(random)),
         _ => format!("DEL {other} {chain}"),
     };

@@ -22,7 +22,7 @@ fn misplaced(random: &mut Random, table: &[u8], user: u32, other: u32) -> String
         0 => format!(".{other:06}"),
         _ => format!(".{other:06}:{link}"),
     };
-    match random.below(15) {
+    match random.below(16) {
         0 => format!("CRD {name}"),
         1 => format!("WRS M {name}"),
         2 => format!("CPY {own} {name}"),
@@ -35,6 +35,7 @@ fn misplaced(random: &mut Random, table: &[u8], user: u32, other: u32) -> String
         10 => format!("DUP {own} {name}:{link}"),
         11 => format!("DUP {own} .{other:05}:{link}"),
         13 => format!("WRS* M {name}"),
+        14 => format!("DST {own} {name}"),
         12 => format!("RDS .{other:07}:{link}"),
         _ => format!("LST .{other:05}{}", random.pick(&["A", ".", "_"])),
     }
@@ -44,7 +45,7 @@ fn misplaced(random: &mut Random, table: &[u8], user: u32, other: u32) -> String
 fn moved(random: &mut Random, table: &[u8], user: u32) -> String {
     let shelf = random.pick(&[".G", ".T"]);
     let code = random.pick(&["", "", "", ".1", ".2", ".4"]);
-    match random.below(10) {
+    match random.below(11) {
         0..=2 => format!("CRD {shelf} {code}"),
         3 => format!("WRS M{code} {shelf}"),
         4 => format!("DUP {} {shelf} {code}", old(random, table, user)),
@@ -52,6 +53,7 @@ fn moved(random: &mut Random, table: &[u8], user: u32) -> String {
         6 => format!("CHN {shelf} {}", random.pick(&[".AB", ".T", ".G"])),
         7 => format!("CHN .AB {shelf}"),
         8 => format!("DPR {shelf} .{}", random.pick(&[1, 2, 4])),
+        9 => format!("DST {}", old(random, table, user)),
         _ => format!("DEL {shelf}"),
     }
 }

@@ -1,21 +1,23 @@
 -- Every refusal of a walk or a plan has a number of the list and the place that goes with it, argument and link.
 -- Each stands in one check with its number and its place written there, and a walk stops with 11, 12 or 13 alone, at a link of its chain.
-use mathlib.Core.Bool.{true}
+use mathlib.Core.Bool.{Bool, true}
 use mathlib.Core.List.{List, [], _∷_, _++_}
 use mathlib.Core.Logic.{inl, inr}
 use mathlib.Core.Path.{_≡_, refl}
-use Prim.Native.Nat.{ℕ, _≤_}
+use Prim.Native.Nat.{ℕ, _+_, _≤_}
 use native.Mathlib.Omega.{arith}
 use lib.ListN.{length}
 use borrow.Author.Tests.{ltb-false}
 use Rattle.paper.specs.Declaration.{Part}
 use Rattle.paper.specs.Line.{Word}
-use Rattle.paper.specs.Check.{atLink, Refusal, refusalAt, Check}
+use Rattle.paper.specs.Check.{atLink, Refusal, refusalAt, Check, check}
 use Rattle.paper.specs.Request.{Begin, own, takeOf, giveTo}
 use Rattle.paper.specs.Walk.{State}
-use Rattle.paper.specs.Effect.{Plan, Planned, plan, halted, chainOf, endOf, toHolder, toEnd, Making, making, linkTaken, linking, showing, readInhibited, notSimple, noDirectory, writeInhibited, tooShort, crdPlan, wrsPlan, rdsPlan, cpyPlan, dupPlan, chnPlan, delPlan, dprPlan, lstPlan, lstBasePlan, lstTreePlan, lstBaseTreePlan, rewritePlan}
+use Rattle.paper.specs.Store.{Store}
+use Rattle.paper.specs.Effect.{Plan, Planned, plan, halted, chainOf, endOf, toHolder, toEnd, Making, making, linkTaken, linking, storing, showing, readInhibited, notSimple, noDirectory, writeInhibited, tooShort, crdPlan, wrsPlan, rdsPlan, cpyPlan, dupPlan, chnPlan, delPlan, dstPlan, dprPlan, lstPlan, lstBasePlan, lstTreePlan, lstBaseTreePlan, rewritePlan}
 use Rattle.laws.proofs.Lists.{Every, every-append, every-parts}
 use Rattle.demands.proofs.Request.Fair.{Idle, Fair, FairCheck, Chained, ofChain, verdict-fair, fair-line, fair-linked, fair-end, fair-whole}
+use Rattle.demands.proofs.Request.Several.{Several, deletion, destruction, planOf}
 use Rattle.demands.proofs.Request.Steps.{Walks, Halts, holder-within, end-within}
 use Rattle.demands.proofs.Request.Ended.{Refused, walking, checked}
 
@@ -114,11 +116,16 @@ module _ (names : ℕ → List (List ℕ)) (t reply : List ℕ) (u : ℕ) where
       fair-toEnd names reply 1 w c t u _ (λ _ _.
       record { checks = (fair-end names 14 1 w refl c, (fair-whole names 21 2 refl (omega arith) z, tt)); fits = λ h. omega arith })
 
-  pub fair-delPlan : (a : ℕ) (w : Word) → Chained names a w → FairPlanned names reply (delPlan t u a w)
-  unfolding delPlan
-  fair-delPlan a w c =
-      fair-toEnd names reply a w c t u _ (λ _ _.
-      record { checks = (fair-end names 14 a w refl c, (fair-end names 18 a w refl c, tt)); fits = λ h. omega arith })
+  -- 14 and 18 at its end
+  fair-clearing : (a : ℕ) (w : Word) → Chained names a w → {one other : Bool} {ss : List Store}
+      → FairPlanned names reply (storing (check one 14 (endOf a w) ∷ check other 18 (endOf a w) ∷ []) ss)
+  fair-clearing a w c = record { checks = (fair-end names 14 a w refl c, (fair-end names 18 a w refl c, tt)); fits = λ h. omega arith }
+
+  -- one name of DEL or DST
+  pub fair-named : (s : Several) (a : ℕ) (w : Word) → Chained names a w → FairPlanned names reply (planOf s t u a w)
+  unfolding delPlan dstPlan
+  fair-named deletion a w c = fair-toEnd names reply a w c t u _ (λ _ _. fair-clearing a w c)
+  fair-named destruction a w c = fair-toEnd names reply a w c t u _ (λ _ _. fair-clearing a w c)
 
   -- a plan that writes: 20 where the buffer is too short
   fair-showing : (cs late : List Check) (out : List ℕ) → Every (FairCheck names) cs → Every (FairCheck names) late
@@ -173,3 +180,8 @@ module _ (names : ℕ → List (List ℕ)) (t reply : List ℕ) (u : ℕ) where
         );
         fits = λ h. omega arith;
       })
+
+-- a refusal of one name of DEL or DST, whatever line it stands in
+pub named-refused : (s : Several) (t : List ℕ) (u n : ℕ) (w : Word) (f : Refusal) → Refused (planOf s t u (n + 1) w) f → Fair (λ _. w .names) f
+named-refused s t u n w f =
+    fair-refused (λ _. w .names) [] (planOf s t u (n + 1) w) f (fair-named (λ _. w .names) t [] u s (n + 1) w (record { from = omega arith; long = refl }))

@@ -1,7 +1,7 @@
 -- A mend of whose stores any have been made, in any order, and run again ends as an uncut one: each store clears a record that mending
 -- clears, or lays a heading with other counts, so every such table stands between the table and what is left of it once cleared.
 use mathlib.Core.Bool.{Bool}
-use mathlib.Core.List.{List}
+use mathlib.Core.List.{List, _++_}
 use mathlib.Core.Logic.{_⊎_, inl, inr}
 use mathlib.Core.Path.{_≡_, refl, sym, _∙_}
 use Prim.Native.Nat.{ℕ, _<_}
@@ -11,7 +11,7 @@ use Rattle.paper.specs.Record.{blank}
 use Rattle.paper.specs.Table.{rooms, rec}
 use Rattle.paper.specs.Store.{Store, clears, run}
 use Rattle.paper.specs.Count.{recounted, recounts}
-use Rattle.paper.specs.Mend.{orphan, stray, wiped, mendFirst, mendSecond, clearStores, cleared, mendStores, mended}
+use Rattle.paper.specs.Mend.{adrift, orphan, stray, wiped, mendFirst, mendSecond, mendThird, after₁, after₂, clearStores, cleared, mendStores, mended}
 use Rattle.laws.proofs.Lists.{Every, every-append, every-imp, every-take}
 use Rattle.laws.proofs.Lay.{Whole, length-rec, kind-blank}
 use Rattle.laws.proofs.Runs.{Lays, run-each, length-run, rooms-run}
@@ -19,7 +19,7 @@ use Rattle.laws.proofs.Recounts.{Recount, every-recounts}
 use Rattle.demands.proofs.Mending.Wipe.{rec-wiped, Blanks, every-clears, cleared-is, mended-is}
 use Rattle.demands.proofs.Mending.Part.{Alike, equal, counts, Below, free, stays, Less}
 use Rattle.demands.proofs.Mending.Counts.{alike-sym, alike-trans, is-blank, but-recount, recounts-each}
-use Rattle.demands.proofs.Mending.Less.{less-refl, below-trans, less-free, after₁, less₂, cleared-less, mended-less}
+use Rattle.demands.proofs.Mending.Less.{less-refl, less-trans, below-trans, less-free, less₁, less₂, less₁₂, less₃, cleared-less, mended-less}
 use Rattle.demands.proofs.Mending.Squeeze.{squeeze}
 
 -- ---- stores that tidy s over f: each lays a record alike to the one there, or clears one that is free in f
@@ -105,9 +105,11 @@ module _ (s : List ℕ) where
   clear-tidies : Every (Tidies (cleared s) s) (clearStores s)
   unfolding clearStores
   clear-tidies =
-      every-append (Tidies (cleared s) s) (mendFirst s) (mendSecond (run s (mendFirst s)))
-      (step-tidies s s (cleared s) (orphan s) refl (unfold after₁ in less₂ s))
-      (step-tidies s (run s (mendFirst s)) (cleared s) (stray (run s (mendFirst s))) (rooms-run s (mendFirst s)) (rw (cleared-is s) (less-refl _)))
+      every-append (Tidies (cleared s) s) (mendFirst s) (mendSecond (after₁ s) ++ mendThird (after₂ s))
+      (step-tidies s s (cleared s) (adrift s) refl (unfold after₁ in less-trans (after₁ s) (after₂ s) (cleared s) (less₂ s) (less₃ s)))
+      (every-append (Tidies (cleared s) s) (mendSecond (after₁ s)) (mendThird (after₂ s))
+      (step-tidies s (after₁ s) (cleared s) (orphan (after₁ s)) (rw (less₁ s .long)) (unfold after₂ in less₃ s))
+      (step-tidies s (after₂ s) (cleared s) (stray (after₂ s)) (rw (less₁₂ s .long)) (rw (cleared-is s) (less-refl _))))
 
   -- a heading that is left is one of s
   count-tidies : Every (Tidies (cleared s) s) (recounts (cleared s))

@@ -8,12 +8,12 @@ use Prim.Native.Nat.{ℕ, _<_}
 use native.Mathlib.Omega.{arith}
 use native.Mathlib.Decide.{decLt}
 use borrow.Author.Tests.{eqb-true}
-use Rattle.paper.specs.Record.{byte, isKind, names, headingOf, blank}
+use Rattle.paper.specs.Record.{byte, isKind, names, headingNamed, headingOf, blank}
 use Rattle.paper.specs.Table.{rooms, rec}
 use Rattle.paper.specs.Entry.{named}
 use Rattle.paper.specs.Store.{run}
 use Rattle.paper.specs.Count.{recounts}
-use Rattle.paper.specs.Mend.{keepsText, orphan, stray, wiped, cleared, mended}
+use Rattle.paper.specs.Mend.{anchored, adrift, keepsText, orphan, stray, wiped, after₁, after₂, cleared, mended}
 use Rattle.laws.proofs.Tests.{truth, not-both, and-left, and-right, and-both, either}
 use Rattle.laws.proofs.Scans.{any-true, any-here}
 use Rattle.laws.proofs.Lay.{Whole, rec-past}
@@ -65,6 +65,9 @@ up q z k x r (stays a) t = sym (k x r a) ∙ t
 pub up-keeps : (x r : List ℕ) → Below x r → keepsText r ≡ true → keepsText x ≡ true
 up-keeps = up keepsText (unfold blank keepsText in refl) alike-keeps
 
+up-heading : (x r : List ℕ) → Below x r → isKind 1 r ≡ true → isKind 1 x ≡ true
+up-heading = up (isKind 1) (unfold blank in refl) (λ x r a. rw (alike-kind x r a))
+
 up-names : (h : ℕ) (x r : List ℕ) → Below x r → names h r ≡ true → names h x ≡ true
 up-names h = up (names h) (unfold blank in refl) (alike-names h)
 
@@ -86,7 +89,17 @@ module _ (s a : List ℕ) (w : Whole s) (d : Less s a) where
       let x = any-true (λ j. names h (rec a j)) (rooms s) (rw (d .long) at e) in
       any-here (λ j. names h (rec s j)) (rooms s) (x .0) (x .1) (up-names h (rec s (x .0)) (rec a (x .0)) (below (x .0)) (x .2))
 
+  up-anchored : (r : List ℕ) → anchored a r ≡ true → anchored s r ≡ true
+  unfolding anchored
+  up-anchored r = up-heading (rec s (headingNamed r)) (rec a (headingNamed r)) (below (headingNamed r))
+
   -- ---- what goes still goes
+
+  pub adrift-still : (i : ℕ) → Alike (rec s i) (rec a i) → adrift s i ≡ true → adrift a i ≡ true
+  adrift-still i x g =
+      let k : byte (rec s i) 0 ≡ 2 = eqb-true _ _ (and-left (isKind 2 (rec s i)) _ g) in
+      rw (alike-same (rec s i) (rec a i) x (rw k)) (and-both (isKind 2 (rec s i)) _ (rw k)
+      (not-down (anchored a (rec s i)) (anchored s (rec s i)) (up-anchored (rec s i)) (and-right (isKind 2 (rec s i)) _ g)))
 
   pub orphan-still : (i : ℕ) → Alike (rec s i) (rec a i) → orphan s i ≡ true → orphan a i ≡ true
   orphan-still i x g =
@@ -127,34 +140,40 @@ wiped-mono s a p q d h = record { long = rw (length-run s _, length-run a _) (d 
         let m : i < rooms s = rw (rooms-run s _) at l in
         rw (rec-wiped s p i m, rec-wiped a q i (rw (d .long) m)) (go i (d .each i m) (truth (p i)))
 
--- ---- the two steps
-
-unfoldable pub after₁ : List ℕ → List ℕ
-after₁ t = wiped (orphan t) t
-
-pub in-steps : (t : List ℕ) → cleared t ≡ wiped (stray (after₁ t)) (after₁ t)
-unfolding after₁
-in-steps t = cleared-is t
+-- ---- the three steps
 
 pub less₁ : (t : List ℕ) → Less t (after₁ t)
 unfolding after₁
-less₁ t = wiped-less t (orphan t)
+less₁ t = wiped-less t (adrift t)
 
-pub less₂ : (t : List ℕ) → Less (after₁ t) (cleared t)
-less₂ t = rw (in-steps t) (wiped-less (after₁ t) (stray (after₁ t)))
+pub less₂ : (t : List ℕ) → Less (after₁ t) (after₂ t)
+unfolding after₂
+less₂ t = wiped-less (after₁ t) (orphan (after₁ t))
+
+pub less₃ : (t : List ℕ) → Less (after₂ t) (cleared t)
+less₃ t = rw (cleared-is t) (wiped-less (after₂ t) (stray (after₂ t)))
+
+pub less₁₂ : (t : List ℕ) → Less t (after₂ t)
+less₁₂ t = less-trans t (after₁ t) (after₂ t) (less₁ t) (less₂ t)
 
 pub cleared-less : (t : List ℕ) → Less t (cleared t)
-cleared-less t = less-trans t (after₁ t) (cleared t) (less₁ t) (less₂ t)
+cleared-less t = less-trans t (after₂ t) (cleared t) (less₁₂ t) (less₃ t)
 
 pub cleared-mono : (s a : List ℕ) → Whole s → Less s a → Less (cleared s) (cleared a)
 cleared-mono s a w d =
-    rw (in-steps s, in-steps a) (wiped-mono (after₁ s) (after₁ a) (stray (after₁ s)) (stray (after₁ a)) d₁ (stray-still (after₁ s) (after₁ a) w₁ d₁))
+    rw (cleared-is s, cleared-is a) (wiped-mono (after₂ s) (after₂ a) (stray (after₂ s)) (stray (after₂ a)) d₂ (stray-still (after₂ s) (after₂ a) w₂ d₂))
   where
     w₁ : Whole (after₁ s)
     w₁ = rw (less₁ s .long) w
 
     d₁ : Less (after₁ s) (after₁ a)
-    d₁ = unfold after₁ in wiped-mono s a (orphan s) (orphan a) d (orphan-still s a w d)
+    d₁ = unfold after₁ in wiped-mono s a (adrift s) (adrift a) d (adrift-still s a w d)
+
+    w₂ : Whole (after₂ s)
+    w₂ = rw (less₂ s .long) w₁
+
+    d₂ : Less (after₂ s) (after₂ a)
+    d₂ = unfold after₂ in wiped-mono (after₁ s) (after₁ a) (orphan (after₁ s)) (orphan (after₁ a)) d₁ (orphan-still (after₁ s) (after₁ a) w₁ d₁)
 
 -- ---- and the counts
 

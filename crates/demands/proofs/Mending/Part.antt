@@ -5,11 +5,11 @@ use mathlib.Core.List.{List}
 use mathlib.Core.Path.{_≡_}
 use Prim.Native.Nat.{ℕ, _<_}
 use lib.ListN.{length, take, drop}
-use Rattle.paper.specs.Record.{byte, isKind, directory, headingNamed, headingOf, blank}
+use Rattle.paper.specs.Record.{byte, directory, headingOf, blank}
 use Rattle.paper.specs.Table.{rooms, rec}
 use Rattle.paper.specs.Entry.{named}
 use Rattle.paper.specs.Count.{countsRight}
-use Rattle.paper.specs.Mend.{keepsText}
+use Rattle.paper.specs.Mend.{anchored, keepsText}
 
 -- r is the heading x but for its counts: bytes 12-13, and 14-15 in a directory
 pub record ButCounts (x r : List ℕ) : Type 0 where
@@ -27,6 +27,7 @@ pub data Alike (x r : List ℕ) : Type 0 where
 pub data Goes (f s : List ℕ) (i : ℕ) (r : List ℕ) : Type 0 where
   heading : byte r 0 ≡ 1 → named s i ≡ false → Goes f s i r
   text : byte r 0 ≡ 3 → keepsText (rec f (headingOf r)) ≡ false → Goes f s i r
+  entry : byte r 0 ≡ 2 → anchored s r ≡ false → Goes f s i r
 
 -- record i holds f's own x, or debris r where f has a free record
 pub data Part (f s : List ℕ) (i : ℕ) (x r : List ℕ) : Type 0 where
@@ -37,10 +38,10 @@ pub record Parts (f s : List ℕ) : Type 0 where
   pub long : length s ≡ length f
   pub each : (i : ℕ) → i < rooms f → Part f s i (rec f i) (rec s i)
 
--- the clauses of soundness that mending looks after, and that entries name headings
+-- the clauses of soundness that mending looks after
 pub record Kept (f : List ℕ) : Type 0 where
   pub headings : (i : ℕ) → i < rooms f → byte (rec f i) 0 ≡ 1 → named f i ≡ true
-  pub entries : (i : ℕ) → i < rooms f → byte (rec f i) 0 ≡ 2 → isKind 1 (rec f (headingNamed (rec f i))) ≡ true
+  pub entries : (i : ℕ) → i < rooms f → byte (rec f i) 0 ≡ 2 → anchored f (rec f i) ≡ true
   pub texts : (i : ℕ) → i < rooms f → byte (rec f i) 0 ≡ 3 → keepsText (rec f (headingOf (rec f i))) ≡ true
   pub counts : (i : ℕ) → i < rooms f → byte (rec f i) 0 ≡ 1 → countsRight f i (rec f i) ≡ true
 

@@ -6,15 +6,13 @@ use mathlib.Core.Path.{_≡_}
 use Prim.Native.Nat.{ℕ, _<_}
 use Rattle.paper.specs.Table.{sized, rooms, rec}
 use Rattle.paper.specs.Sound.{shaped, sound}
-use Rattle.paper.specs.Store.{run}
 use Rattle.paper.specs.Count.{recounts}
 use Rattle.paper.specs.Mend.{mendStores, mended}
-use Rattle.laws.proofs.Runs.{length-run}
 use Rattle.demands.proofs.Sound.Clauses.{Sound, shaped-clauses}
 use Rattle.demands.proofs.Sound.Right.{Right, right-sound}
-use Rattle.demands.proofs.SoundKept.Counted.{alike-clauses}
+use Rattle.demands.proofs.SoundKept.Counted.{recounts-right}
 use Rattle.demands.proofs.Mending.Part.{Alike}
-use Rattle.demands.proofs.Mending.Counts.{recounts-each, recounts-true}
+use Rattle.demands.proofs.Mending.Counts.{recounts-each}
 use Rattle.demands.proofs.Mending.Debris.{mend-shaped, mended-shaped}
 
 -- whatever bytes 12-13 of a heading are, and 14-15 of a directory
@@ -33,9 +31,4 @@ brought-up t s e =
     c = shaped-clauses t s e
 
     right : Right (mended t)
-    right =
-        rw (mended-shaped t c)
-        (record {
-          clauses = alike-clauses 65535 t (run t (recounts t)) c (length-run t (recounts t)) (recounts-each t);
-          counts = recounts-true t;
-        })
+    right = rw (mended-shaped t c) (recounts-right t c)

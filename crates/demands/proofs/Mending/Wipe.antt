@@ -1,7 +1,7 @@
 -- Records cleared by a test, law by law those of records laid by a test: what passes is free afterwards and every other is as it was.
--- Mending is two such steps, each on the table that the last left, and then the counts.
+-- Mending is three such steps, each on the table that the last left, and then the counts.
 use mathlib.Core.Bool.{Bool, true, false, cond}
-use mathlib.Core.List.{List, []}
+use mathlib.Core.List.{List, [], _++_}
 use mathlib.Core.Logic.{_⊎_}
 use mathlib.Core.Path.{_≡_, sym, _∙_}
 use Prim.Native.Nat.{ℕ, _<_}
@@ -10,7 +10,7 @@ use Rattle.paper.specs.Record.{blank}
 use Rattle.paper.specs.Table.{rooms, rec}
 use Rattle.paper.specs.Store.{clears, run}
 use Rattle.paper.specs.Count.{recounts}
-use Rattle.paper.specs.Mend.{orphan, stray, wiped, mendFirst, mendSecond, clearStores, cleared, mendStores, mended}
+use Rattle.paper.specs.Mend.{stray, wiped, mendFirst, mendSecond, mendThird, after₁, after₂, clearStores, cleared, mendStores, mended}
 use Rattle.laws.proofs.Lists.{Every, every-take}
 use Rattle.laws.proofs.Lay.{Whole, length-blank, ext-table}
 use Rattle.laws.proofs.Runs.{Lays, run-each, run-append, length-run, rooms-run}
@@ -47,10 +47,12 @@ pub cut-wipe : (t : List ℕ) (p : ℕ → Bool) (k i : ℕ) → i < rooms t
     → (rec (run t (take k (clears p (rooms t)))) i ≡ rec t i) ⊎ Blanks p i (rec (run t (take k (clears p (rooms t)))) i)
 cut-wipe t p k = run-each (Blanks p) t _ (every-take _ k _ (every-clears p (rooms t)))
 
--- the table after the two steps
-pub cleared-is : (t : List ℕ) → cleared t ≡ wiped (stray (wiped (orphan t) t)) (wiped (orphan t) t)
-unfolding cleared clearStores
-cleared-is t = run-append t (mendFirst t) (mendSecond (run t (mendFirst t)))
+-- the table after the three steps
+pub cleared-is : (t : List ℕ) → cleared t ≡ wiped (stray (after₂ t)) (after₂ t)
+unfolding cleared clearStores after₂ after₁
+cleared-is t =
+    run-append t (mendFirst t) (mendSecond (after₁ t) ++ mendThird (after₂ t))
+    ∙ run-append (after₁ t) (mendSecond (after₁ t)) (mendThird (after₂ t))
 
 -- and after the counts
 pub mended-is : (t : List ℕ) → mended t ≡ run (cleared t) (recounts (cleared t))

@@ -3,7 +3,7 @@
 use mathlib.Core.List.{List, [], _∷_, _++_, append-assoc}
 use mathlib.Core.Logic.{_⊎_, inl, inr, by-cases, ⊎-elim}
 use mathlib.Core.Path.{_≡_, refl, sym, _∙_}
-use Prim.Native.Nat.{ℕ, zero, suc, _+_, _-_, _≤_}
+use Prim.Native.Nat.{ℕ, zero, suc, _+_, _-_, _≤_, _<_}
 use native.Mathlib.Omega.{arith}
 use native.Mathlib.Decide.{decLe}
 use lib.ListN.{length, take}
@@ -20,7 +20,7 @@ use Rattle.laws.proofs.Runs.{Lays, run-each, run-append, length-run, rooms-run}
 use Rattle.laws.proofs.Recounts.{Recount, every-recounts}
 use Rattle.demands.proofs.Mending.Part.{Alike, equal, counts, Parts, Kept, Less}
 use Rattle.demands.proofs.Mending.Counts.{alike-sym, but-recount}
-use Rattle.demands.proofs.Mending.Debris.{mended-kept, part-less, between, Loose, Left, ours, litter, left-parts, left-mends}
+use Rattle.demands.proofs.Mending.Debris.{mended-kept, part-less, between, Loose, Debris, laid, Left, ours, litter, left-parts, left-mends}
 use Rattle.demands.proofs.Mending.Again.{Tidy, Tidies, tidied, tidy-less, tidy-over}
 
 -- a store that lays debris in a free record of t
@@ -33,6 +33,13 @@ Sweep f x y r = Alike x r ⊎ ((r ≡ blank) × ((y ≡ blank) × Loose f x))
 
 abbrev pub Sweeps : (f m : List ℕ) → Store → Type 0
 Sweeps f m = Lays (λ i r. Sweep f (rec m i) (rec f i) r) (rooms m)
+
+-- .. or, in a DST, clears an entry that names no heading of m
+abbrev pub Rid : (f m x y r : List ℕ) → Type 0
+Rid f m x y r = Alike x r ⊎ ((r ≡ blank) × ((y ≡ blank) × Debris f m x))
+
+abbrev pub Rids : (f m : List ℕ) → Store → Type 0
+Rids f m = Lays (λ i r. Rid f m (rec m i) (rec f i) r) (rooms m)
 
 -- what the store that counts lays over what: an entry, over an entry, or a heading over a heading
 pub data Counts (x r : List ℕ) : Type 0 where
@@ -61,7 +68,7 @@ pub data Shaped (t : List ℕ) (stores : List Store) : Type 0 where
 littered : (t : List ℕ) → Whole t → Kept t → (ss : List Store) → Every (Litters t) ss → mended (run t ss) ≡ t
 littered t w k ss h =
     left-mends t (run t ss) k (length-run t ss)
-    (λ i l. ⊎-elim (λ e. ours (equal e)) (λ p. litter (p .0) (p .1)) (run-each (λ i r. (rec t i ≡ blank) × Loose t r) t ss h i l)) w
+    (λ i l. ⊎-elim (λ e. ours (equal e)) (λ p. litter (p .0) (laid (p .1))) (run-each (λ i r. (rec t i ≡ blank) × Loose t r) t ss h i l)) w
 
 -- the counts corrected, and whatever is done after them
 pub recounts-sweep : (f m : List ℕ) → Every (Sweeps f m) (recounts m)
@@ -83,32 +90,42 @@ pub counted-stores : (t : List ℕ) (pre : List Store) (s : Store) (last : List 
     → withCounts t (pre ++ s ∷ []) ++ last ≡ pre ++ s ∷ (recounts (counted t pre s) ++ last)
 counted-stores t pre s last = rw (counted-is t pre s) (append-assoc pre (s ∷ recounts (counted t pre s)) last)
 
+pub tidy-rids : (f m : List ℕ) (ss : List Store) → Every (Rids f m) ss → Every (Tidies f m) ss
+tidy-rids f m ss = every-imp (Rids f m) (Tidies f m) ss (λ x g. record { within = g .within; size = g .size; holds = go x (g .holds) })
+  where
+    go : (x : Store) → Rid f m (rec m (x .at)) (rec f (x .at)) (x .bytes) → Tidy (rec m (x .at)) (rec f (x .at)) (x .bytes)
+    go x (inl a) = inl a
+    go x (inr c) = inr (c .0, c .1 .0)
+
+sweeps-rid : (f m : List ℕ) (ss : List Store) → Every (Sweeps f m) ss → Every (Rids f m) ss
+sweeps-rid f m ss = every-imp (Sweeps f m) (Rids f m) ss (λ x g. record { within = g .within; size = g .size; holds = go x (g .holds) })
+  where
+    go : (x : Store) → Sweep f (rec m (x .at)) (rec f (x .at)) (x .bytes) → Rid f m (rec m (x .at)) (rec f (x .at)) (x .bytes)
+    go x (inl a) = inl a
+    go x (inr c) = inr (c .0, (c .1 .0, laid (c .1 .1)))
+
 -- what is still to be done mends, whichever of the stores are made
-module _ (f m : List ℕ) (post : List Store) (ends : run m post ≡ f) (w : Whole f) (k : Kept f) (h : Every (Sweeps f m) post) where
+module _ (f m : List ℕ) (post : List Store) (ends : run m post ≡ f) (w : Whole f) (k : Kept f) (h : Every (Rids f m) post) where
   long : length f ≡ length m
   long = rw (← ends) (length-run m post)
 
   -- m is f with counts and debris
   left : Parts f m
-  left = left-parts f m k (sym long) (λ i l. go i (rw ends at (run-each (λ i r. Sweep f (rec m i) (rec f i) r) m post h i (rw long at l))))
+  left = left-parts f m k (sym long) (λ i l. go i (rw ends at (run-each (λ i r. Rid f m (rec m i) (rec f i) r) m post h i (rw long at l))))
     where
-      go : (i : ℕ) → (rec f i ≡ rec m i) ⊎ Sweep f (rec m i) (rec f i) (rec f i) → Left f (rec f i) (rec m i)
+      go : (i : ℕ) → (rec f i ≡ rec m i) ⊎ Rid f m (rec m i) (rec f i) (rec f i) → Left f m (rec f i) (rec m i)
       go i (inl q) = ours (equal (sym q))
       go i (inr (inl a)) = ours (alike-sym (rec m i) (rec f i) a)
       go i (inr (inr c)) = litter (c .0) (c .1 .1)
 
-  tidies : (ss : List Store) → Every (Sweeps f m) ss → Every (Tidies f m) ss
-  tidies ss = every-imp (Sweeps f m) (Tidies f m) ss (λ x g. record { within = g .within; size = g .size; holds = go x (g .holds) })
-    where
-      go : (x : Store) → Sweep f (rec m (x .at)) (rec f (x .at)) (x .bytes) → Tidy (rec m (x .at)) (rec f (x .at)) (x .bytes)
-      go x (inl a) = inl a
-      go x (inr c) = inr (c .0, c .1 .0)
-
-  pub swept : (ss : List Store) → Every (Sweeps f m) ss → mended (run m ss) ≡ f
-  swept ss g =
+  -- each record as in m, or tidied
+  pub swept-any : (x : List ℕ) → length x ≡ length m → ((i : ℕ) → i < rooms m → Tidy (rec m i) (rec f i) (rec x i)) → mended x ≡ f
+  swept-any x e each =
       let d : Less m f = part-less f m w left in
-      let each = tidied f m ss (tidies ss g) in
-      between f m w left k (run m ss) (tidy-less f m (run m ss) d (length-run m ss) each) (tidy-over f m (run m ss) d (length-run m ss) each)
+      between f m w left k x (tidy-less f m x d e each) (tidy-over f m x d e each)
+
+  pub swept : (ss : List Store) → Every (Rids f m) ss → mended (run m ss) ≡ f
+  swept ss g = swept-any (run m ss) (length-run m ss) (tidied f m ss (tidy-rids f m ss g))
 
 -- the table before or the table after
 abbrev pub Cut : List ℕ → List Store → ℕ → Type 0
@@ -136,5 +153,5 @@ power-cut t stores w k d (phased pre s post e h c g) n =
         m : List ℕ
         m = counted t pre s
 
-        sweeps : Every (Sweeps (run m post) m) post
-        sweeps = rw (← run-counted t pre s post, ← e) g
+        sweeps : Every (Rids (run m post) m) post
+        sweeps = sweeps-rid (run m post) m post (rw (← run-counted t pre s post, ← e) g)

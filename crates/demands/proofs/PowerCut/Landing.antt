@@ -1,5 +1,5 @@
--- A cut plan of the right shape, mended, is the table before or the table where the stop number is not reached. So is DEL in the name
--- that is cut, and a name whose stores are all made leaves a sound table: in all, the table after some first part of the names.
+-- A cut plan of the right shape, mended, is the table before or the table where the stop number is not reached. So is DEL or DST in the
+-- name that is cut, and a name whose stores are all made leaves a sound table: in all, the table after some first part of the names.
 use mathlib.Core.List.{List, [], _∷_}
 use mathlib.Core.Logic.{_⊎_, inl, inr}
 use mathlib.Core.Path.{_≡_, refl, sym, _∙_}
@@ -9,18 +9,20 @@ use lib.ListN.{length, take}
 use Rattle.paper.specs.Line.{Word}
 use Rattle.paper.specs.Walk.{file}
 use Rattle.paper.specs.Store.{run}
-use Rattle.paper.specs.Effect.{Plan, Planned, plan, delPlan, emptied, rewritePlan}
+use Rattle.paper.specs.Effect.{Plan, Planned, plan, emptied, rewritePlan}
 use Rattle.paper.specs.Mend.{mended}
 use Rattle.paper.specs.Answer.{Outcome, Ran, ran, single, oneName, deleting}
 use Rattle.demands.proofs.Sound.Right.{Right}
+use Rattle.demands.proofs.Request.Several.{Several, deletion, destruction, planOf}
 use Rattle.demands.proofs.Request.Ended.{Passed, ran-by, passes}
-use Rattle.demands.proofs.SoundKept.Kept.{Keeps, passed-sound, del-keeps}
+use Rattle.demands.proofs.SoundKept.Kept.{Keeps, passed-sound, del-keeps, named-keeps}
 use Rattle.demands.proofs.SoundKept.Told.{emptied-right}
 use Rattle.demands.proofs.SoundKept.Rewriting.{Granted, rewrite-granted, rewrite-keeps}
 use Rattle.demands.proofs.Mending.Debris.{sound-keeps, mended-sound}
 use Rattle.demands.proofs.PowerCut.Cut.{Shaped, Cut, power-cut}
 use Rattle.demands.proofs.PowerCut.Remade.{cut-first, cut-half, emptied-again}
 use Rattle.demands.proofs.PowerCut.Plans.{Safe, del-safe}
+use Rattle.demands.proofs.PowerCut.Razing.{passed-razed}
 
 -- x is the table after, of outcomes by stop number: at some stop number the answer is 0 and the table x
 pub record Done (o : ℕ → Outcome) (x : List ℕ) : Type 0 where
@@ -98,22 +100,28 @@ module _ (t reply : List ℕ) (c : Right t) (u : ℕ) (text : List ℕ) (name : 
       (rw z s, remade (rw z (at-once t reply rewriter p v))))
       (λ p v l. cut-off k p v (rewrite-granted t (c .clauses) u text name short p v) l)
 
--- ---- DEL, name by name
+-- ---- DEL and DST, name by name
+
+-- one name whose checks pass, cut anywhere
+named-cut : (s : Several) (t : List ℕ) → Right t → (u place : ℕ) (w : Word) (p : Plan) → Passed (planOf s t u place w) p → (k : ℕ) → Cut t (p .stores) k
+named-cut deletion t c u place w p v =
+    passed-cut t c (planOf deletion t u place w) p (del-safe t (c .clauses) u place w) (del-keeps t u place w (c .clauses)) v
+named-cut destruction t c u place w p v = passed-razed t c u place w p v
 
 -- x is sound, and the table after some first part of the names
-pub record Parted (t : List ℕ) (u : ℕ) (reply : List ℕ) (n made : ℕ) (ws : List Word) (x : List ℕ) : Type 0 where
+pub record Parted (s : Several) (t : List ℕ) (u : ℕ) (reply : List ℕ) (n made : ℕ) (ws : List Word) (x : List ℕ) : Type 0 where
   pub sound : Right x
   pub names : ℕ
   pub most : names ≤ length ws
-  pub done : Done (λ k. deleting t u reply k n made (take names ws)) x
+  pub done : Done (λ k. deleting (planOf s) t u reply k n made (take names ws)) x
 
-module _ (u : ℕ) (reply : List ℕ) where
-  no-name : (t : List ℕ) (n made : ℕ) (ws : List Word) (x : List ℕ) → Right t → x ≡ t → Parted t u reply n made ws x
+module _ (s : Several) (u : ℕ) (reply : List ℕ) where
+  no-name : (t : List ℕ) (n made : ℕ) (ws : List Word) (x : List ℕ) → Right t → x ≡ t → Parted s t u reply n made ws x
   unfolding deleting
   no-name t n made ws x c q =
       rw q (record { sound = c; names = 0; most = omega arith; done = record { stop = 0; number = refl; table = refl } })
 
-  module _ (t : List ℕ) (n made : ℕ) (w : Word) (p : Plan) (v : Passed (delPlan t u (n + 1) w) p) where
+  module _ (t : List ℕ) (n made : ℕ) (w : Word) (p : Plan) (v : Passed (planOf s t u (n + 1) w) p) where
     -- the table and the numbers after the name
     abbrev t₁ : List ℕ
     t₁ = run t (p .stores)
@@ -121,50 +129,51 @@ module _ (u : ℕ) (reply : List ℕ) where
     abbrev m : ℕ
     m = length (p .stores)
 
-    name-made : (ws : List Word) (k : ℕ) → m ≤ k → deleting t u reply k n made (w ∷ ws) ≡ deleting t₁ u reply (k - m) (n + 1) (made + m) ws
+    name-made : (ws : List Word) (k : ℕ) → m ≤ k
+        → deleting (planOf s) t u reply k n made (w ∷ ws) ≡ deleting (planOf s) t₁ u reply (k - m) (n + 1) (made + m) ws
     unfolding deleting
-    name-made ws k l = rw (passes k (delPlan t u (n + 1) w) p v l)
+    name-made ws k l = rw (passes k (planOf s t u (n + 1) w) p v l)
 
-    one-more : (ws : List Word) (x : List ℕ) → Parted t₁ u reply (n + 1) (made + m) ws x → Parted t u reply n made (w ∷ ws) x
+    one-more : (ws : List Word) (x : List ℕ) → Parted s t₁ u reply (n + 1) (made + m) ws x → Parted s t u reply n made (w ∷ ws) x
     one-more ws x d = record { sound = d .sound; names = suc (d .names); most = omega (arith, d .most); done = after (d .done) }
       where
         front : List Word
         front = take (d .names) ws
 
-        after : Done (λ k. deleting t₁ u reply k (n + 1) (made + m) front) x → Done (λ k. deleting t u reply k n made (w ∷ front)) x
+        after : Done (λ k. deleting (planOf s) t₁ u reply k (n + 1) (made + m) front) x → Done (λ k. deleting (planOf s) t u reply k n made (w ∷ front)) x
         after a =
             let q : m + a .stop - m ≡ a .stop = omega arith in
-            let s : deleting t u reply (m + a .stop) n made (w ∷ front) ≡ deleting t₁ u reply (a .stop) (n + 1) (made + m) front =
+            let y : deleting (planOf s) t u reply (m + a .stop) n made (w ∷ front) ≡ deleting (planOf s) t₁ u reply (a .stop) (n + 1) (made + m) front =
             name-made front (m + a .stop) (omega arith) ∙ rw q in
-            record { stop = m + a .stop; number = rw s (a .number); table = rw s (a .table) }
+            record { stop = m + a .stop; number = rw y (a .number); table = rw y (a .table) }
 
   pub del-cut : (ws : List Word) (t : List ℕ) → Right t → (k n made : ℕ)
-      → Parted t u reply n made ws (mended (deleting t u reply k n made ws .table))
+      → Parted s t u reply n made ws (mended (deleting (planOf s) t u reply k n made ws .table))
   unfolding deleting
   del-cut [] t c k n made = no-name t n made [] (mended t) c (mended-sound t c)
   del-cut (w ∷ ws) t c k n made = go (λ p. del-cut ws (run t (p .stores)))
     where
       x : Planned
-      x = delPlan t u (n + 1) w
+      x = planOf s t u (n + 1) w
 
       sure : Keeps t x
-      sure = del-keeps t u (n + 1) w (c .clauses)
+      sure = named-keeps s t u (n + 1) w (c .clauses)
 
       -- the table after the plan has ended so, mended
       after : Ran → List ℕ
-      after y = mended (oneName t reply k n made (λ t₁ k₁ n₁ made₁. deleting t₁ u reply k₁ n₁ made₁ ws) y .table)
+      after y = mended (oneName t reply k n made (λ t₁ k₁ n₁ made₁. deleting (planOf s) t₁ u reply k₁ n₁ made₁ ws) y .table)
 
-      cut-here : (p : Plan) → Passed x p → (y : List ℕ) → (y ≡ t) ⊎ (y ≡ run t (p .stores)) → Parted t u reply n made (w ∷ ws) y
+      cut-here : (p : Plan) → Passed x p → (y : List ℕ) → (y ≡ t) ⊎ (y ≡ run t (p .stores)) → Parted s t u reply n made (w ∷ ws) y
       cut-here p v y (inl z) = no-name t n made (w ∷ ws) y c z
       cut-here p v y (inr z) =
           one-more t n made w p v ws y
           (no-name (run t (p .stores)) (n + 1) (made + length (p .stores)) ws y (passed-sound t x p sure v) z)
 
       go : ((p : Plan) → Right (run t (p .stores)) → (k n made : ℕ)
-          → Parted (run t (p .stores)) u reply n made ws (mended (deleting (run t (p .stores)) u reply k n made ws .table)))
-          → Parted t u reply n made (w ∷ ws) (after (ran k x))
+          → Parted s (run t (p .stores)) u reply n made ws (mended (deleting (planOf s) (run t (p .stores)) u reply k n made ws .table)))
+          → Parted s t u reply n made (w ∷ ws) (after (ran k x))
       go rest =
-          ran-by (λ y. Parted t u reply n made (w ∷ ws) (after y)) k x
+          ran-by (λ y. Parted s t u reply n made (w ∷ ws) (after y)) k x
           (λ f _. no-name t n made (w ∷ ws) _ c (mended-sound t c))
           (λ p v l. one-more t n made w p v ws _ (rest p (passed-sound t x p sure v) (k - length (p .stores)) (n + 1) (made + length (p .stores))))
-          (λ p v l. cut-here p v _ (passed-cut t c x p (del-safe t (c .clauses) u (n + 1) w) sure v k))
+          (λ p v l. cut-here p v _ (named-cut s t c u (n + 1) w p v k))

@@ -1,5 +1,6 @@
--- Each function's stores have the shape of the power cut: a new file first, then the entry, then counts and what it displaced;
--- an entry cleared, then counts and its file; or one store alone. What the end checks let pass has the free records that it needs.
+-- Each function's stores, but those of DST and `WRS*`, have the shape of the power cut: a new file first, then the entry, then counts and
+-- what it displaced; an entry cleared, then counts and its file; or one store alone. What the end checks let pass has the free records
+-- that it needs.
 use mathlib.Core.List.{List, [], _∷_, _++_}
 use mathlib.Core.Path.{_≡_, refl, _∙_}
 use Prim.Native.Nat.{ℕ, _≤_, _<_}

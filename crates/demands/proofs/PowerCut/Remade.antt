@@ -29,7 +29,7 @@ use Rattle.demands.proofs.SoundKept.Refilled.{Rewrite, Look, look, old,
 use Rattle.demands.proofs.SoundKept.Told.{emptied-right, refilled-right}
 use Rattle.demands.proofs.SoundKept.Rewriting.{each-bared, each-laid}
 use Rattle.demands.proofs.Mending.Part.{equal}
-use Rattle.demands.proofs.Mending.Debris.{sound-keeps, mended-sound, Left, ours, litter, body, left-mends}
+use Rattle.demands.proofs.Mending.Debris.{sound-keeps, mended-sound, laid, Left, ours, litter, body, left-mends}
 
 -- x is the table with the file marked and empty, and in free records of it text of that file
 abbrev pub HalfAt : List ℕ → ℕ → List ℕ → ℕ → Type 0
@@ -51,9 +51,9 @@ module _ (t : List ℕ) (h : ℕ) (c : Sound t) (f : Medium t h) where
       (d .long ∙ sym (length-run t (emptying t h)))
       (λ i l. go i (d .each i (rw (rooms-run t (emptying t h)) at l))) (emptied-sound t h c f .whole)
     where
-      go : (i : ℕ) → HalfAt t h x i → Left (emptied t h) (rec (emptied t h) i) (rec x i)
+      go : (i : ℕ) → HalfAt t h x i → Left (emptied t h) x (rec (emptied t h) i) (rec x i)
       go i (inl e) = ours (equal e)
-      go i (inr (z, (k, e))) = litter z (body k (rw e keeps-no))
+      go i (inr (z, (k, e))) = litter z (laid (body k (rw e keeps-no)))
 
   -- the heading marked, and nothing else done
   abbrev marked-t : List ℕ

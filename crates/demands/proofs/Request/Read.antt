@@ -15,7 +15,7 @@ use Rattle.paper.specs.Declaration.{Part, given, notGiven, isGiven, Parts, fits
 use Rattle.paper.specs.Line.{Word, words, word, legalLine}
 use Rattle.paper.specs.Octal.{partOf}
 use Rattle.paper.specs.Check.{whole, Check, check, Verdict, passed, refused, verdict}
-use Rattle.paper.specs.Request.{declaredAt, octalAt, partsAt, Begin, oldFrom, isTake, isTakeWithin, illegalBut, Request, crd, wrs, rds, cpy, dup, chn, del, dpr, lst, lstBase, lstTree, lstBaseTree, rewrite, Read, request, unread, after, needed, readAs, counted, miscounted, malformed, illegal, unfit, each, between, misnamed, readCrd, readWrs, readRds, readLst, readCpy, readDup, linkAlone, readChn, readDpr, readDel, depthOf, depthGiven, readTree, readRewrite, isFunction, isTree, isRewrite, readFunction, read, textTooLong, withText, asked}
+use Rattle.paper.specs.Request.{declaredAt, octalAt, partsAt, Begin, oldFrom, isTake, isTakeWithin, illegalBut, Request, crd, wrs, rds, cpy, dup, chn, del, dst, dpr, lst, lstBase, lstTree, lstBaseTree, rewrite, Read, request, unread, after, needed, readAs, counted, miscounted, malformed, illegal, unfit, each, between, misnamed, readCrd, readWrs, readRds, readLst, readCpy, readDup, linkAlone, readChn, readDpr, readNames, depthOf, depthGiven, readTree, readRewrite, isFunction, isTree, isRewrite, readFunction, read, textTooLong, withText, asked}
 use Rattle.paper.specs.Walk.{lastName}
 use Rattle.paper.specs.Effect.{begun}
 use Rattle.laws.proofs.Tests.{and-left, and-right, and-parts, either}
@@ -85,6 +85,7 @@ Told text (cpy from old new lifetime level code) = CpyRead (begun from old) new 
 Told text (dup from old to new code) = DupRead (begun from old) (begun to new) to code
 Told text (chn old link) = ChnRead old link
 Told text (del names) = DelRead names
+Told text (dst names) = DelRead names
 Told text (dpr name code) = DprRead name code
 Told text (lst from name) = Named (begun from name)
 Told text lstBase = Unit {0}
@@ -303,16 +304,19 @@ module _ (line text : List ℕ) where
             (based-by (eqb (length (chain (word line 1 .names))) 1) (legalBase (getD (word line 2 .names) 0 [])) (h .1 .1 .1 .1 .0) (eq-eqb _ _ one));
       })
 
-  heard-del : Heard text (readDel line)
-  unfolding readDel between
-  heard-del =
-      reader-names 1 8 1 (length (words line)) _ (λ n m w _.
+  names-read : (1 ≤ length (words line) - 1) → length (words line) - 1 ≤ 8 → Every Named (between 1 (length (words line)) line) → DelRead (drop 1 (words line))
+  unfolding between
+  names-read n m w =
       let l : length (drop 1 (words line)) ≡ length (words line) - 1 = length-drop 1 (words line) in
       record {
         names = subst (Every Named) (take-all (length (words line) - 1) (drop 1 (words line)) (omega arith)) w;
         some = rw l n;
         few = rw l m;
-      })
+      }
+
+  heard-names : (r : List Word → Request) → (DelRead (drop 1 (words line)) → Told text (r (drop 1 (words line)))) → Heard text (readNames r line)
+  unfolding readNames
+  heard-names r h = reader-names 1 8 1 (length (words line)) _ (λ n m w _. h (names-read n m w))
 
   heard-dpr : Heard text (readDpr line)
   unfolding readDpr
@@ -338,12 +342,13 @@ module _ (line text : List ℕ) where
       (either (Heard text) (isFunction 67 80 89 line) _ _ heard-cpy
       (either (Heard text) (isFunction 68 85 80 line) _ _ heard-dup
       (either (Heard text) (isFunction 67 72 78 line) _ _ heard-chn
-      (either (Heard text) (isFunction 68 69 76 line) _ _ heard-del
+      (either (Heard text) (isFunction 68 69 76 line) _ _ (heard-names del (λ h. h))
+      (either (Heard text) (isFunction 68 83 84 line) _ _ (heard-names dst (λ h. h))
       (either (Heard text) (isFunction 68 80 82 line) _ _ heard-dpr
       (either (Heard text) (isFunction 76 83 84 line) _ _ heard-lst
       (either (Heard text) (isTree line) _ _ heard-tree
       (either (Heard text) (isRewrite line) _ _ heard-rewrite
-      tt))))))))))
+      tt)))))))))))
 
   heard : Heard text (read line)
   unfolding read

@@ -14,7 +14,7 @@ use Rattle.paper.specs.Declaration.{Part, given, notGiven, wrsLifetime, dprCode
 use Rattle.paper.specs.Octal.{partOf}
 use Rattle.paper.specs.Line.{Word, words, word, legalLine}
 use Rattle.paper.specs.Check.{atLink, whole, refusalAt, Check, check, Verdict, passed, refused, verdict}
-use Rattle.paper.specs.Request.{Request, crd, wrs, rds, cpy, dup, chn, del, dpr, lst, lstBase, lstTree, lstBaseTree, rewrite, Read, request, unread, after, needed, miscounted, firstWrong, firstLink, malformed, illegal, isTake, illegalBut, each, between, misnamed, oldFrom, declaredAt, octalAt, readCrd, readWrs, readRds, readLst, readCpy, readDup, readChn, readDpr, readDel, depthGiven, readTree, readRewrite, isFunction, isTree, isRewrite, readFunction, read, textTooLong, withText, asked}
+use Rattle.paper.specs.Request.{Request, crd, wrs, rds, cpy, dup, chn, del, dst, dpr, lst, lstBase, lstTree, lstBaseTree, rewrite, Read, request, unread, after, needed, miscounted, firstWrong, firstLink, malformed, illegal, isTake, illegalBut, each, between, misnamed, oldFrom, declaredAt, octalAt, readCrd, readWrs, readRds, readLst, readCpy, readDup, readChn, readDpr, readNames, depthGiven, readTree, readRewrite, isFunction, isTree, isRewrite, readFunction, read, textTooLong, withText, asked}
 use Rattle.paper.specs.Effect.{begun}
 use Rattle.laws.proofs.Tests.{either}
 use Rattle.laws.proofs.Lists.{Every, every-append}
@@ -22,6 +22,10 @@ use Rattle.demands.proofs.Request.Formed.{chain-some}
 use Rattle.demands.proofs.Request.Fair.{Fair, FairCheck, Chained, verdict-fair, fair-line, fair-linked, fair-wrong, fair-whole}
 use Rattle.demands.proofs.Request.Begun.{old-long, new-long}
 use Rattle.demands.proofs.Request.Chains.{namesAt, IsChain, IsNone, names-by, word-some}
+
+-- several names: the next one after m is argument m + 1
+abbrev pub Chains : (ℕ → List (List ℕ)) → List Word → Type 0
+Chains names ws = (m : ℕ) (w : Word) (rest : List Word) → drop m ws ≡ w ∷ rest → Chained names (m + 1) w
 
 -- the names of a request are arguments, each as long as its chain
 abbrev pub Spoken : (ℕ → List (List ℕ)) → Request → Type 0
@@ -31,7 +35,8 @@ Spoken names (rds from name first count) = Chained names 1 (begun from name) × 
 Spoken names (cpy from old new lifetime level code) = Chained names 1 (begun from old) × (Chained names 2 new × (names 3 ≡ []))
 Spoken names (dup from old to new code) = Chained names 1 (begun from old) × Chained names 2 (begun to new)
 Spoken names (chn old link) = Chained names 1 old × (names 2 ≡ [])
-Spoken names (del ws) = (m : ℕ) (w : Word) (rest : List Word) → drop m ws ≡ w ∷ rest → Chained names (m + 1) w
+Spoken names (del ws) = Chains names ws
+Spoken names (dst ws) = Chains names ws
 Spoken names (dpr name code) = Chained names 1 name × (names 2 ≡ [])
 Spoken names (lst from name) = Chained names 1 (begun from name)
 Spoken names lstBase = Unit {0}
@@ -224,7 +229,7 @@ module _ (line : List ℕ) where
       (said-needed names 2 (dprCode (declaredAt line 2)) _ (omega arith) z (λ _. (chained 1 (omega arith) q, z)))
 
   -- each word after the first
-  next-chained : ((k : ℕ) → IsChain line k) → (m : ℕ) (w : Word) (rest : List Word) → drop m (drop 1 (words line)) ≡ w ∷ rest → Chained names (m + 1) w
+  next-chained : ((k : ℕ) → IsChain line k) → Chains names (drop 1 (words line))
   unfolding word
   next-chained q m w rest e =
       let d : Word = record { start = length line; names = [] ∷ [] } in
@@ -232,11 +237,17 @@ module _ (line : List ℕ) where
       let f : word line (m + 1) ≡ w = sym (getD-drop m (drop 1 (words line)) 0 d ∙ getD-drop 1 (words line) (m + 0) d ∙ rw i) ∙ ap (λ l. getD l 0 d) e in
       subst (Chained names (m + 1)) f (chained (m + 1) (omega arith) (q (m + 1)))
 
-  said-del : isFunction 68 69 76 line ≡ true → Said names (readDel line)
-  unfolding readDel same
-  said-del e =
-      let q : (k : ℕ) → IsChain line k = λ k. names-by line (68 ∷ 69 ∷ 76 ∷ []) k e in
-      said-after names _ _ (six 1 8, fair-misnamed 1 (length (words line)) (omega arith) (λ k _ _. q k)) (next-chained q)
+  said-names : (r : List Word → Request) → ((k : ℕ) → IsChain line k) → Spoken names (r (drop 1 (words line))) → Said names (readNames r line)
+  unfolding readNames
+  said-names r q = said-after names _ _ (six 1 8, fair-misnamed 1 (length (words line)) (omega arith) (λ k _ _. q k))
+
+  said-del : isFunction 68 69 76 line ≡ true → Said names (readNames del line)
+  unfolding same
+  said-del e = let q : (k : ℕ) → IsChain line k = λ k. names-by line (68 ∷ 69 ∷ 76 ∷ []) k e in said-names del q (next-chained q)
+
+  said-dst : isFunction 68 83 84 line ≡ true → Said names (readNames dst line)
+  unfolding same
+  said-dst e = let q : (k : ℕ) → IsChain line k = λ k. names-by line (68 ∷ 83 ∷ 84 ∷ []) k e in said-names dst q (next-chained q)
 
   said-rewrite : isRewrite line ≡ true → Said names (readRewrite line)
   unfolding readRewrite same
@@ -266,11 +277,12 @@ module _ (line : List ℕ) where
       (by (isFunction 68 85 80 line) _ _ said-dup
       (by (isFunction 67 72 78 line) _ _ said-chn
       (by (isFunction 68 69 76 line) _ _ said-del
+      (by (isFunction 68 83 84 line) _ _ said-dst
       (by (isFunction 68 80 82 line) _ _ said-dpr
       (by (isFunction 76 83 84 line) _ _ said-lst
       (by (isTree line) _ _ said-tree
       (by (isRewrite line) _ _ said-rewrite
-      (fair-line names 5 refl)))))))))))
+      (fair-line names 5 refl))))))))))))
 
   said-read : Said names (read line)
   unfolding read

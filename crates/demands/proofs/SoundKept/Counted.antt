@@ -16,16 +16,19 @@ use Rattle.paper.specs.Table.{rooms, rec, lay}
 use Rattle.paper.specs.Entry.{Holder, holder, bears}
 use Rattle.paper.specs.Sound.{implies}
 use Rattle.paper.specs.Store.{Store, run}
+use Rattle.paper.specs.Count.{recounts}
 use Rattle.laws.proofs.Numbers.{number-cong}
 use Rattle.laws.proofs.Scans.{all-cong}
 use Rattle.laws.proofs.Lists.{Every}
 use Rattle.laws.proofs.Entries.{bears-stands}
 use Rattle.laws.proofs.Lay.{lay-same, lay-other, length-lay, rooms-lay}
-use Rattle.demands.proofs.Sound.Clauses.{HeadingOwn, Own, SoundBut}
+use Rattle.laws.proofs.Runs.{length-run}
+use Rattle.demands.proofs.Sound.Clauses.{HeadingOwn, Own, SoundBut, Sound}
+use Rattle.demands.proofs.Sound.Right.{Right}
 use Rattle.demands.proofs.SoundKept.Alike.{Like, like-same, alike-sound}
 use Rattle.demands.proofs.SoundKept.Built.{heading-own}
 use Rattle.demands.proofs.Mending.Part.{ButCounts, Alike, equal, counts}
-use Rattle.demands.proofs.Mending.Counts.{but-byte, but-kind, alike-kind, alike-same, alike-entry}
+use Rattle.demands.proofs.Mending.Counts.{but-byte, but-kind, alike-kind, alike-same, alike-entry, recounts-each, recounts-true}
 
 -- ---- a heading with other counts
 
@@ -114,6 +117,11 @@ module _ (o : ℕ) (t f : List ℕ) (c : SoundBut o t) (long : length f ≡ leng
             let s = same-entry i l k in
             c .apart i j l m (rw s at k) (sym (same-bears (holder (rec t i)) (nameOf (rec t i)) j m) ∙ (rw s at e));
       })
+
+-- a table that has its clauses is sound once its counts are corrected
+pub recounts-right : (t : List ℕ) → Sound t → Right (run t (recounts t))
+recounts-right t c =
+    record { clauses = alike-clauses 65535 t (run t (recounts t)) c (length-run t (recounts t)) (recounts-each t); counts = recounts-true t }
 
 -- the same stores leave them alike
 pub run-alike : (u v : List ℕ) (ss : List Store) → length v ≡ length u → EachAlike u v

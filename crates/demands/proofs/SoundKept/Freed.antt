@@ -1,5 +1,5 @@
--- A heading that no entry names is cleared with its text: by `once` and `texts` its text records are exactly those found by position.
--- Nothing else needs them: no entry names the heading, none stands in it, and each other text record has its own heading.
+-- A heading is cleared with its text and the entries that name it: by `once` and `texts` its text records are exactly those found by position.
+-- Nothing else needs them: no other entry names the heading, none stands in it, and each other text record has its own heading.
 use mathlib.Core.Bool.{Bool, true, false, _&&_, _||_, cond}
 use mathlib.Core.List.{List}
 use mathlib.Core.Logic.{_⊎_, inl, inr, _≢_, by-cases}
@@ -15,14 +15,15 @@ use Rattle.paper.specs.Table.{rooms, rec, lay, textRoom}
 use Rattle.paper.specs.Entry.{inDirectory, stands, named, peopled}
 use Rattle.paper.specs.Block.{blocksOf}
 use Rattle.paper.specs.Sound.{inPlace}
-use Rattle.paper.specs.Store.{clear, run}
-use Rattle.paper.specs.Effect.{freed}
-use Rattle.laws.proofs.Tests.{not-both, and-left, and-right, and-both, and-no-left, or-none, or-no-left, false-by, same-truth}
-use Rattle.laws.proofs.Scans.{any-true, any-here, any-none, first-here}
+use Rattle.paper.specs.Store.{clear, clears, run}
+use Rattle.paper.specs.Effect.{freed, withEntries, destroying}
+use Rattle.laws.proofs.Tests.{not-both, and-left, and-right, and-both, and-no-left, or-none, or-no-left, or-no-right, false-by, same-truth}
+use Rattle.laws.proofs.Scans.{any-true, any-false, any-here, any-none, first-here}
 use Rattle.laws.proofs.Counts.{once-there, once-only}
-use Rattle.laws.proofs.Entries.{stands-by, names-kind, names-by, typed-kind, text-true, text-by, TextAt}
+use Rattle.laws.proofs.Entries.{stands-by, names-kind, names-heading, names-by, typed-kind, text-true, text-by, TextAt}
 use Rattle.laws.proofs.Lay.{lay-same, lay-other, length-lay, length-blank, within, kinds-apart}
-use Rattle.laws.proofs.Runs.{length-run, clears-each}
+use Rattle.laws.proofs.Runs.{run-append, length-run, rooms-run, clears-each}
+use Rattle.laws.proofs.Fills.{rec-filled}
 use Rattle.demands.proofs.Sound.Clauses.{SoundBut, Sound, simple-by}
 use Rattle.demands.proofs.Sound.Points.{text-points}
 use Rattle.demands.proofs.SoundKept.Cleared.{Cleared, Spared, cleared-sound}
@@ -104,11 +105,20 @@ module _ (o : ℕ) (t : List ℕ) (h : ℕ) (c : SoundBut o t) (k : byte (rec t 
           blanks true = refl
           blanks false = refl
 
--- a heading named by no entry, in which no entry stands
-module _ (t : List ℕ) (h : ℕ) (c : SoundBut h t) (k : byte (rec t h) 0 ≡ 1) (n : named t h ≡ false) (v : (directory (rec t h) && peopled t h) ≡ false) where
+-- .. or an entry that names it
+abbrev pub goneOf : List ℕ → ℕ → ℕ → Bool
+goneOf t h i = fileOf t h i || names h (rec t i)
+
+-- a heading in which no entry stands; none but it may be unnamed
+module _ (o : ℕ) (t : List ℕ) (h : ℕ) (c : SoundBut o t) (k : byte (rec t h) 0 ≡ 1) (only : (i : ℕ) → i < rooms t → i ≡ o → i ≡ h)
+    (v : withEntries t h ≡ false) where
   -- neither the heading nor its text
   no-file : (i m : ℕ) → byte (rec t i) 0 ≡ m → m ≢ 3 → i ≢ h → fileOf t h i ≡ false
   no-file i m e d q = or-none (eqb i h) _ (ne-eqb i h q) (and-no-left (isKind 3 (rec t i)) _ (ne-eqb _ _ (λ z. d (sym e ∙ z))))
+
+  -- nor an entry that names it: another heading
+  no-gone : (i : ℕ) → byte (rec t i) 0 ≡ 1 → i ≢ h → goneOf t h i ≡ false
+  no-gone i e q = or-none (fileOf t h i) _ (no-file i 1 e (omega arith) q) (rw e)
 
   entries-elsewhere : (i : ℕ) → i < rooms t → byte (rec t i) 0 ≡ 2 → directory (rec t (holderOf (rec t i))) ≡ true → holderOf (rec t i) ≢ h
   unfolding peopled
@@ -120,34 +130,85 @@ module _ (t : List ℕ) (h : ℕ) (c : SoundBut h t) (k : byte (rec t h) 0 ≡ 1
       (stands-by (inDirectory h) (rec t i) (record { kind = e; heading = q; user = u })) in
       not-both (and-both (directory (rec t h)) (peopled t h) (rw q at f) p) v
 
-  file-spared : Spared 65535 (fileOf t h) t
+  -- an entry that stays names another heading
+  names-other : (i : ℕ) → byte (rec t i) 0 ≡ 2 → goneOf t h i ≡ false → headingNamed (rec t i) ≢ h
+  names-other i e g q = not-both (names-by h (rec t i) e q) (or-no-right (fileOf t h i) _ g)
+
+  file-spared : Spared 65535 (goneOf t h) t
   unfolding named
   file-spared =
       record {
-        holders = λ i l g e f. no-file (holderOf (rec t i)) 1 (typed-kind 0 (rec t (holderOf (rec t i))) f) (omega arith) (entries-elsewhere i l e f);
-        targets = λ i l g e.
-            no-file (headingNamed (rec t i)) 1 (c .targets i l e) (omega arith)
-            (λ q. not-both (any-here (λ j. names h (rec t j)) (rooms t) i l (names-by h (rec t i) e q)) n);
-        named = λ i l g e. inl (by i (eqb-false i h (or-no-left (eqb i h) _ g)) (c .named i l e));
+        holders = λ i l g e f. no-gone (holderOf (rec t i)) (typed-kind 0 (rec t (holderOf (rec t i))) f) (entries-elsewhere i l e f);
+        targets = λ i l g e. no-gone (headingNamed (rec t i)) (c .targets i l e) (names-other i e g);
+        named = λ i l g e. inl (by i l (eqb-false i h (or-no-left (eqb i h) _ (or-no-left (fileOf t h i) _ g))) (c .named i l e));
         texts = λ i l e.
-            let m = text-points h t c i l e in
+            let m = text-points o t c i l e in
             rw (ne-eqb i h (kinds-apart t i h 3 1 e k (omega arith)), e, m) (alone (eqb (headingOf (rec t i)) h));
       }
     where
-      alone : (b : Bool) → b ≡ (b || false)
+      alone : (b : Bool) → (b || false) ≡ (b || false || false)
       alone true = refl
       alone false = refl
 
-      by : (i : ℕ) → i ≢ h → (named t i ≡ true) ⊎ (i ≡ h) → (j : ℕ) × (j < rooms t) × (fileOf t h j ≡ false) × (names i (rec t j) ≡ true)
-      by i d (inr q) = absurd (d q)
-      by i d (inl q) =
+      by : (i : ℕ) → i < rooms t → i ≢ h → (named t i ≡ true) ⊎ (i ≡ o) → (j : ℕ) × (j < rooms t) × (goneOf t h j ≡ false) × (names i (rec t j) ≡ true)
+      by i l d (inr q) = absurd (d (only i l q))
+      by i l d (inl q) =
           let w = any-true (λ j. names i (rec t j)) (rooms t) q in
           let e = names-kind i (rec t (w .0)) (w .2) in
-          (w .0, w .1, no-file (w .0) 2 e (omega arith) (kinds-apart t (w .0) h 2 1 e k (omega arith)), w .2)
+          let n : names h (rec t (w .0)) ≡ false =
+          false-by _ (λ x. d (sym (names-heading i (rec t (w .0)) (w .2)) ∙ names-heading h (rec t (w .0)) x)) in
+          (w .0, w .1, or-none (fileOf t h (w .0)) _ (no-file (w .0) 2 e (omega arith) (kinds-apart t (w .0) h 2 1 e k (omega arith))) n, w .2)
 
-  -- the heading cleared and its text by position: the table is sound
-  pub freed-sound : Sound (run t (freed t h))
-  freed-sound = cleared-sound h 65535 (fileOf t h) t (run t (freed t h)) c (file-cleared h t h c k) file-spared
+  -- cleared, they leave a sound table
+  pub gone-sound : (f : List ℕ) → Cleared (goneOf t h) t f → Sound f
+  gone-sound f d = cleared-sound o 65535 (goneOf t h) t f c d file-spared
+
+-- a heading named by no entry, in which no entry stands: the heading cleared and its text by position, the table is sound
+pub freed-sound : (t : List ℕ) (h : ℕ) → SoundBut h t → byte (rec t h) 0 ≡ 1 → named t h ≡ false → withEntries t h ≡ false → Sound (run t (freed t h))
+unfolding named
+freed-sound t h c k n v = gone-sound h t h c k (λ i l q. q) v (run t (freed t h)) (record { long = d .long; each = λ i l. d .each i l ∙ rw (same i l) })
+  where
+    d : Cleared (fileOf t h) t (run t (freed t h))
+    d = file-cleared h t h c k
+
+    same : (i : ℕ) → i < rooms t → goneOf t h i ≡ fileOf t h i
+    same i l = rw (any-false (λ j. names h (rec t j)) (rooms t) i l n) (alone (fileOf t h i))
+      where
+        alone : (b : Bool) → (b || false) ≡ b
+        alone true = refl
+        alone false = refl
+
+-- a file destroyed: its heading, its text by position, and every entry naming it
+module _ (t : List ℕ) (h : ℕ) (c : Sound t) (k : byte (rec t h) 0 ≡ 1) where
+  abbrev m : List ℕ
+  m = run t (freed t h)
+
+  rooms-m : rooms m ≡ rooms t
+  rooms-m = rooms-run t (freed t h)
+
+  destroyed-is : run t (destroying t h) ≡ run m (clears (λ i. names h (rec t i)) (rooms m))
+  unfolding destroying
+  destroyed-is = run-append t (freed t h) (clears (λ i. names h (rec t i)) (rooms t)) ∙ rw rooms-m
+
+  pub destroyed-cleared : Cleared (goneOf t h) t (run t (destroying t h))
+  destroyed-cleared =
+      record {
+        long = length-run t (destroying t h);
+        each = λ i l.
+            rw destroyed-is
+            (rec-filled m (λ j. names h (rec t j)) (λ _. blank) (λ _ _. length-blank) i (rw rooms-m l)
+            ∙ rw (file-cleared 65535 t h c k .each i l) (twice (fileOf t h i) (names h (rec t i)) (rec t i)));
+      }
+    where
+      twice : (a b : Bool) (r : List ℕ) → cond b blank (cond a blank r) ≡ cond (a || b) blank r
+      twice true true r = refl
+      twice true false r = refl
+      twice false true r = refl
+      twice false false r = refl
+
+  pub destroyed-sound : withEntries t h ≡ false → Sound (run t (destroying t h))
+  destroyed-sound v =
+      gone-sound 65535 t h c k (λ i l q. let z : ⊥ = omega (arith, c .few) in absurd z) v (run t (destroying t h)) destroyed-cleared
 
 -- a heading that some entry names needs no exception
 pub named-sound : (h : ℕ) (t : List ℕ) → SoundBut h t → named t h ≡ true → Sound t

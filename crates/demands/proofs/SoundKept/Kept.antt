@@ -1,5 +1,5 @@
 -- A plan keeps a table sound if its stores do so where its checks pass: a refusal stores nothing, and only 22 stops between the stores.
--- The last link of a walk finds its entry, so what CHN, DPR and DEL store is laid over an entry, or the heading that it names.
+-- The last link of a walk finds its entry, so what CHN, DPR, DEL and DST store is laid over an entry, or the heading that it names.
 use mathlib.Core.Bool.{true, false, not, _&&_, true≢false}
 use mathlib.Core.List.{List, [], _∷_, _++_}
 use mathlib.Core.Logic.{_≢_}
@@ -19,18 +19,22 @@ use Rattle.paper.specs.Entry.{find, full}
 use Rattle.paper.specs.Sound.{isBase}
 use Rattle.paper.specs.Walk.{State, start, file, reached, toDirectory, lastName, toLast}
 use Rattle.paper.specs.Store.{clear, run}
-use Rattle.paper.specs.Effect.{Plan, Planned, plan, halted, chainOf, toHolder, toEnd, isFound, Making, borne, placing, needed, displacing, losing, settled, writeInhibited, making, chnPlan, dprPlan, delPlan, rdsPlan, lstPlan, lstBasePlan, lstTreePlan, lstBaseTreePlan}
+use Rattle.paper.specs.Count.{recounts}
+use Rattle.paper.specs.Effect.{Plan, Planned, plan, halted, chainOf, toHolder, toEnd, isFound, Making, borne, placing, needed, displacing, losing, settled, writeInhibited, making, chnPlan, dprPlan, delPlan, destroying, dstPlan, rdsPlan, lstPlan, lstBasePlan, lstTreePlan, lstBaseTreePlan}
 use Rattle.paper.specs.Answer.{Outcome, ran, single, oneName, deleting}
 use Rattle.laws.proofs.Tests.{implies-by}
 use Rattle.laws.proofs.Lists.{Every, every-parts}
 use Rattle.laws.proofs.Entries.{stands-holder, link-short}
 use Rattle.laws.proofs.Lay.{length-blank, lay-other, rooms-lay, within}
-use Rattle.laws.proofs.Runs.{Lays}
+use Rattle.laws.proofs.Runs.{Lays, run-append}
 use Rattle.demands.proofs.Sound.Clauses.{Sound}
 use Rattle.demands.proofs.Sound.Right.{Right}
+use Rattle.demands.proofs.Request.Several.{Several, deletion, destruction, planOf}
 use Rattle.demands.proofs.Request.Fair.{Idle, verdict-idle}
 use Rattle.demands.proofs.Request.Steps.{last-looked, holder-by, end-by}
 use Rattle.demands.proofs.Request.Ended.{Passed, ran-by}
+use Rattle.demands.proofs.SoundKept.Freed.{destroyed-sound}
+use Rattle.demands.proofs.SoundKept.Counted.{recounts-right}
 use Rattle.demands.proofs.SoundKept.Settled.{deleted-sound}
 use Rattle.demands.proofs.SoundKept.Recoded.{recoded-sound}
 use Rattle.demands.proofs.SoundKept.Renamed.{renamed-sound}
@@ -52,7 +56,7 @@ pub end-keeps : (t : List ℕ) (u place : ℕ) (w : Word) (f : State → State �
     → Keeps t (toEnd t u place w f)
 end-keeps t u place w f = end-by (Keeps t) place (λ _ _ _. tt) t u w f
 
--- ---- DPR, DEL and CHN
+-- ---- DPR, DEL, DST and CHN
 
 pub dpr-keeps : (t : List ℕ) (u : ℕ) (name : Word) (code : ℕ) → Right t → code ≤ 7 → Keeps t (dprPlan t u name code)
 unfolding dprPlan run
@@ -74,6 +78,21 @@ del-keeps t u place name c =
     gone e l k =
         settled-gone t c e blank l k (lay t e blank) (rooms-lay t e blank)
         (λ j i d q. lay-other t e blank i length-blank d (within t i (c .whole) (omega arith)))
+
+pub dst-keeps : (t : List ℕ) (u place : ℕ) (name : Word) → Sound t → Keeps t (dstPlan t u place name)
+unfolding dstPlan
+dst-keeps t u place name c =
+    end-keeps t u place name _ (λ d s _ e v.
+    let f = last-looked t d (chainOf name) s e in
+    let h : ℕ = file t s in
+    rw (run-append t (destroying t h) (recounts (run t (destroying t h))))
+    (recounts-right (run t (destroying t h))
+    (destroyed-sound t h c (c .targets (s .entry) (f .within) (f .stands .kind)) (verdict-idle _ v .1 .0))))
+
+-- one name of either
+pub named-keeps : (s : Several) (t : List ℕ) (u place : ℕ) (name : Word) → Sound t → Keeps t (planOf s t u place name)
+named-keeps deletion = del-keeps
+named-keeps destruction = dst-keeps
 
 not-found : (f : Found) → isFound f ≡ false → f ≡ nowhere
 not-found (at i) e = absurd (true≢false e)
@@ -142,25 +161,25 @@ module _ (t : List ℕ) (m : Making)
 pub passed-sound : (t : List ℕ) (x : Planned) (p : Plan) → Keeps t x → Passed x p → Right (run t (p .stores))
 passed-sound t x p h v = let s : Keeps t (plan p) = rw (v .plan) at h in s (v .checks)
 
--- every function but DEL
+-- every function but DEL and DST
 pub single-sound : (t reply : List ℕ) (k : ℕ) → Right t → (x : Planned) → Keeps t x
     → single t reply k (ran k x) .answer .number ≢ 22 → Right (single t reply k (ran k x) .table)
 single-sound t reply k c x h =
     ran-by (λ y. single t reply k y .answer .number ≢ 22 → Right (single t reply k y .table)) k x
     (λ _ _ _. c) (λ p v _ _. passed-sound t x p h v) (λ _ _ _ d. absurd (d refl))
 
--- DEL: after each of its names, up to a refusal
-pub deleting-sound : (ws : List Word) (t : List ℕ) (u : ℕ) (reply : List ℕ) (k n made : ℕ) → Right t
-    → deleting t u reply k n made ws .answer .number ≢ 22 → Right (deleting t u reply k n made ws .table)
+-- DEL and DST: after each of the names, up to a refusal
+pub deleting-sound : (s : Several) (ws : List Word) (t : List ℕ) (u : ℕ) (reply : List ℕ) (k n made : ℕ) → Right t
+    → deleting (planOf s) t u reply k n made ws .answer .number ≢ 22 → Right (deleting (planOf s) t u reply k n made ws .table)
 unfolding deleting
-deleting-sound [] t u reply k n made c = λ _. c
-deleting-sound (w ∷ ws) t u reply k n made c = one (λ t₁. deleting-sound ws t₁ u reply)
+deleting-sound s [] t u reply k n made c = λ _. c
+deleting-sound s (w ∷ ws) t u reply k n made c = one (λ t₁. deleting-sound s ws t₁ u reply)
   where
     x : Planned
-    x = delPlan t u (n + 1) w
+    x = planOf s t u (n + 1) w
 
     more : List ℕ → ℕ → ℕ → ℕ → Outcome
-    more t₁ k₁ n₁ made₁ = deleting t₁ u reply k₁ n₁ made₁ ws
+    more t₁ k₁ n₁ made₁ = deleting (planOf s) t₁ u reply k₁ n₁ made₁ ws
 
     one : ((t₁ : List ℕ) (k₁ n₁ made₁ : ℕ) → Right t₁ → more t₁ k₁ n₁ made₁ .answer .number ≢ 22 → Right (more t₁ k₁ n₁ made₁ .table))
         → oneName t reply k n made more (ran k x) .answer .number ≢ 22 → Right (oneName t reply k n made more (ran k x) .table)
@@ -169,5 +188,5 @@ deleting-sound (w ∷ ws) t u reply k n made c = one (λ t₁. deleting-sound ws
         (λ _ _ _. c)
         (λ p v _.
         rest (run t (p .stores)) (k - length (p .stores)) (n + 1) (made + length (p .stores))
-        (passed-sound t x p (del-keeps t u (n + 1) w (c .clauses)) v))
+        (passed-sound t x p (named-keeps s t u (n + 1) w (c .clauses)) v))
         (λ _ _ _ d. absurd (d refl))

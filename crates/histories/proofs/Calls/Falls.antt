@@ -1,5 +1,5 @@
 -- Stores that only take away: each clears its record, or lays the heading there with other counts. So after more of them a table is less,
--- and a heading after some of them was one before; a mend's stores and DEL's are such.
+-- and a heading after some of them was one before; a mend's stores and those of DEL and DST are such.
 use mathlib.Core.Bool.{Bool}
 use mathlib.Core.List.{List, [], _∷_, _++_}
 use mathlib.Core.Logic.{_≢_, by-cases}
@@ -11,7 +11,7 @@ use Rattle.paper.specs.Record.{blank}
 use Rattle.paper.specs.Table.{rooms, rec, lay}
 use Rattle.paper.specs.Store.{Store, clears, run}
 use Rattle.paper.specs.Count.{recounts}
-use Rattle.paper.specs.Mend.{orphan, stray, mendFirst, mendSecond, clearStores, cleared, mendStores}
+use Rattle.paper.specs.Mend.{adrift, orphan, stray, mendFirst, mendSecond, mendThird, after₁, after₂, clearStores, cleared, mendStores}
 use Rattle.laws.proofs.Lists.{Every, every-imp}
 use Rattle.laws.proofs.Lay.{lay-same, lay-other, rooms-lay, length-lay, length-rec}
 use Rattle.laws.proofs.Runs.{Lays}
@@ -107,11 +107,12 @@ counts-fall m = counts-on (recounts m) m m refl (λ i l. equal refl) (counts-ali
 
 -- a mend's stores
 pub mend-falls : (t : List ℕ) → Falls t (mendStores t)
-unfolding mendStores clearStores cleared
+unfolding mendStores clearStores cleared after₁ after₂
 mend-falls t =
     falls-append (clearStores t) (recounts (cleared t)) t
-    (falls-append (mendFirst t) (mendSecond (run t (mendFirst t))) t (wipe t (orphan t))
-    (wipe (run t (mendFirst t)) (stray (run t (mendFirst t)))))
+    (falls-append (mendFirst t) (mendSecond (after₁ t) ++ mendThird (after₂ t)) t (wipe t (adrift t))
+    (falls-append (mendSecond (after₁ t)) (mendThird (after₂ t)) (after₁ t) (wipe (after₁ t) (orphan (after₁ t)))
+    (wipe (after₂ t) (stray (after₂ t)))))
     (counts-fall (cleared t))
   where
     wipe : (u : List ℕ) (p : ℕ → Bool) → Falls u (clears p (rooms u))

@@ -1,7 +1,7 @@
--- A mend, cut anywhere: it clears headings that no entry names, then text whose heading keeps none by then, and last it writes counts.
--- So a heading that it clears is named by no entry, and text stays whose heading keeps it and stays.
+-- A mend, cut anywhere: it clears entries that name no heading, then headings that no entry names, then text whose heading keeps none by
+-- then, and last it writes counts. So a heading that it clears was named by no entry, and text stays whose heading keeps it and stays.
 use mathlib.Core.Bool.{true, false}
-use mathlib.Core.List.{List}
+use mathlib.Core.List.{List, _++_}
 use mathlib.Core.Logic.{_⊎_, inl, inr, _≢_, by-cases, ⊎-elim}
 use mathlib.Core.Path.{_≡_, refl, sym, _∙_}
 use Prim.Native.Nat.{ℕ, _-_, _≤_, _<_}
@@ -10,16 +10,17 @@ use native.Mathlib.Decide.{decLe}
 use lib.ListN.{length, take}
 use lib.Seq.{take-append-le, take-length}
 use borrow.Author.Tests.{eqb-true, not-true}
-use Rattle.paper.specs.Record.{byte, isKind, headingOf, simple}
+use Rattle.paper.specs.Record.{byte, isKind, names, headingOf, simple}
 use Rattle.paper.specs.Table.{rooms, rec}
 use Rattle.paper.specs.Entry.{named}
 use Rattle.paper.specs.Store.{run}
-use Rattle.paper.specs.Mend.{keepsText, orphan, stray, mendFirst, mendSecond, clearStores, cleared, mendStores, mended}
+use Rattle.paper.specs.Mend.{anchored, adrift, keepsText, orphan, stray, mendFirst, mendSecond, mendThird, after₁, after₂, clearStores, cleared, mendStores, mended}
 use Rattle.paper.specs.Count.{recounts}
 use Rattle.paper.specs.Answer.{mending}
-use Rattle.laws.proofs.Tests.{not-both, and-left, and-right}
+use Rattle.laws.proofs.Tests.{not-both, and-left, and-right, false-by}
+use Rattle.laws.proofs.Scans.{any-true, any-here}
 use Rattle.laws.proofs.Lists.{every-take, take-past}
-use Rattle.laws.proofs.Entries.{typed-kind}
+use Rattle.laws.proofs.Entries.{typed-kind, names-kind, names-heading}
 use Rattle.laws.proofs.Lay.{Whole, within, kind-blank}
 use Rattle.laws.proofs.Runs.{run-each, run-append, length-run}
 use Rattle.demands.proofs.Mending.Wipe.{Blanks, cut-wipe}
@@ -46,11 +47,13 @@ keeps-kind r e = typed-kind 1 r (and-left (simple r) _ e)
 pub tidied-none : (t : List ℕ) → Tidied t t
 tidied-none t = record { less = less-refl t; last = λ h k n. absurd (n k); texts = λ _ _ _ _ _. refl }
 
+-- ---- the second step and the third
+
 module _ (t : List ℕ) (w : Whole t) where
   orphan-parts : (i : ℕ) → orphan t i ≡ true → (byte (rec t i) 0 ≡ 1) × (named t i ≡ false)
   orphan-parts i e = (eqb-true _ _ (and-left _ _ e), not-true _ (and-right (isKind 1 (rec t i)) _ e))
 
-  -- in the first step: headings
+  -- headings
   first : (s : List ℕ) → length s ≡ length t → ((i : ℕ) → i < rooms t → (rec s i ≡ rec t i) ⊎ Blanks (orphan t) i (rec s i)) → Tidied t s
   first s e each = record { less = record { long = e; each = λ i l. less i (each i l) }; last = last; texts = texts }
     where
@@ -73,16 +76,16 @@ module _ (t : List ℕ) (w : Whole t) where
           go (inr q) = let y : ⊥ = omega (arith, text-of h (rec t i) x .0, orphan-parts i (q .1) .0) in absurd y
 
   t₁ : List ℕ
-  t₁ = run t (mendFirst t)
+  t₁ = run t (mendSecond t)
 
   first-each : (i : ℕ) → i < rooms t → (rec t₁ i ≡ rec t i) ⊎ Blanks (orphan t) i (rec t₁ i)
   unfolding t₁
-  first-each i l = rw (take-length (mendFirst t)) at (cut-wipe t (orphan t) (length (mendFirst t)) i l)
+  first-each i l = rw (take-length (mendSecond t)) at (cut-wipe t (orphan t) (length (mendSecond t)) i l)
 
   done : Tidied t t₁
-  done = first t₁ (unfold t₁ in length-run t (mendFirst t)) first-each
+  done = first t₁ (unfold t₁ in length-run t (mendSecond t)) first-each
 
-  -- in the second step: text
+  -- text
   second : (s : List ℕ) → length s ≡ length t₁ → ((i : ℕ) → i < rooms t₁ → (rec s i ≡ rec t₁ i) ⊎ Blanks (stray t₁) i (rec s i)) → Tidied t s
   second s e each = record { less = record { long = e ∙ done .less .long; each = less }; last = last; texts = texts }
     where
@@ -147,14 +150,88 @@ module _ (t : List ℕ) (w : Whole t) where
               absurd (not-both m a)
 
   -- cut in one of the two
+  rest-tidied : (k : ℕ) → Tidied t (run t (take k (mendSecond t ++ mendThird (run t (mendSecond t)))))
+  unfolding t₁
+  rest-tidied k =
+      by-cases (decLe k (length (mendSecond t)))
+      (λ (l : k ≤ length (mendSecond t)). rw (take-append-le k (mendSecond t)) (first _ (length-run t _) (cut-wipe t (orphan t) k)))
+      (λ (l : ¬ (k ≤ length (mendSecond t))).
+      rw (take-past k (mendSecond t) (mendThird t₁) (omega arith), run-append)
+      (second _ (length-run t₁ _) (cut-wipe t₁ (stray t₁) (k - length (mendSecond t)))))
+
+-- ---- all steps
+
+module _ (t : List ℕ) (w : Whole t) where
+  adrift-kind : (i : ℕ) → adrift t i ≡ true → byte (rec t i) 0 ≡ 2
+  adrift-kind i e = eqb-true _ _ (and-left _ _ e)
+
+  -- in the first step: entries
+  entries : (s : List ℕ) → length s ≡ length t → ((i : ℕ) → i < rooms t → (rec s i ≡ rec t i) ⊎ Blanks (adrift t) i (rec s i)) → Tidied t s
+  entries s e each = record { less = record { long = e; each = λ i l. less i (each i l) }; last = last; texts = texts }
+    where
+      less : (i : ℕ) → (rec s i ≡ rec t i) ⊎ Blanks (adrift t) i (rec s i) → Below (rec t i) (rec s i)
+      less i (inl q) = stays (equal q)
+      less i (inr q) = free (q .0)
+
+      same : (i : ℕ) → i < rooms t → byte (rec t i) 0 ≢ 2 → rec s i ≡ rec t i
+      same i l n = ⊎-elim (λ q. q) (λ q. absurd (n (adrift-kind i (q .1)))) (each i l)
+
+      last : (h : ℕ) → byte (rec t h) 0 ≡ 1 → byte (rec s h) 0 ≢ 1 → named t h ≡ false
+      last h k n = absurd (n (rw (same h (within t h w (omega arith)) (λ (z : byte (rec t h) 0 ≡ 2). omega arith)) k))
+
+      texts : (h i : ℕ) → keepsText (rec t h) ≡ true → byte (rec s h) 0 ≡ 1 → textOf h (rec t i) ≡ true → rec s i ≡ rec t i
+      texts h i m z x =
+          let y = text-of h (rec t i) x .0 in
+          same i (within t i w (omega arith)) (λ (v : byte (rec t i) 0 ≡ 2). omega arith)
+
+  a : List ℕ
+  a = after₁ t
+
+  entry-each : (i : ℕ) → i < rooms t → (rec a i ≡ rec t i) ⊎ Blanks (adrift t) i (rec a i)
+  unfolding a after₁
+  entry-each i l = rw (take-length (mendFirst t)) at (cut-wipe t (adrift t) (length (mendFirst t)) i l)
+
+  loosed : Tidied t a
+  loosed = entries a (unfold a after₁ in length-run t (mendFirst t)) entry-each
+
+  kept-a : (i : ℕ) → i < rooms t → adrift t i ≡ false → rec a i ≡ rec t i
+  kept-a i l n = ⊎-elim (λ q. q) (λ q. absurd (not-both (q .1) n)) (entry-each i l)
+
+  -- every entry that names a heading stays
+  still-named : (h : ℕ) → byte (rec t h) 0 ≡ 1 → named a h ≡ false → named t h ≡ false
+  unfolding named anchored
+  still-named h k n =
+      false-by _ (λ e.
+      let x = any-true (λ j. names h (rec t j)) (rooms t) e in
+      not-both (any-here (λ j. names h (rec a j)) (rooms a) (x .0) (rw (loosed .less .long) (x .1)) (kept (x .0) (x .1) (x .2))) n)
+    where
+      kept : (j : ℕ) → j < rooms t → names h (rec t j) ≡ true → names h (rec a j) ≡ true
+      kept j l e = rw (kept-a j l (rw (names-kind h (rec t j) e, names-heading h (rec t j) e, k))) e
+
+  past-first : (s : List ℕ) → Tidied a s → Tidied t s
+  past-first s d = record { less = less-trans t a s (loosed .less) (d .less); last = last; texts = texts }
+    where
+      heading : (h : ℕ) → byte (rec t h) 0 ≡ 1 → rec a h ≡ rec t h
+      heading h k = kept-a h (within t h w (omega arith)) (rw k)
+
+      last : (h : ℕ) → byte (rec t h) 0 ≡ 1 → byte (rec s h) 0 ≢ 1 → named t h ≡ false
+      last h k n = still-named h k (d .last h (rw (heading h k) k) n)
+
+      texts : (h i : ℕ) → keepsText (rec t h) ≡ true → byte (rec s h) 0 ≡ 1 → textOf h (rec t i) ≡ true → rec s i ≡ rec t i
+      texts h i m z x =
+          let y = text-of h (rec t i) x .0 in
+          let e : rec a i ≡ rec t i = kept-a i (within t i w (omega arith)) (rw y) in
+          d .texts h i (rw (heading h (keeps-kind (rec t h) m)) m) z (rw e x) ∙ e
+
+  -- cut in one of the three
   cleared-tidied : (k : ℕ) → Tidied t (run t (take k (clearStores t)))
-  unfolding clearStores t₁
+  unfolding clearStores a after₁ after₂
   cleared-tidied k =
       by-cases (decLe k (length (mendFirst t)))
-      (λ (l : k ≤ length (mendFirst t)). rw (take-append-le k (mendFirst t)) (first _ (length-run t _) (cut-wipe t (orphan t) k)))
+      (λ (l : k ≤ length (mendFirst t)). rw (take-append-le k (mendFirst t)) (entries _ (length-run t _) (cut-wipe t (adrift t) k)))
       (λ (l : ¬ (k ≤ length (mendFirst t))).
-      rw (take-past k (mendFirst t) (mendSecond t₁) (omega arith), run-append)
-      (second _ (length-run t₁ _) (cut-wipe t₁ (stray t₁) (k - length (mendFirst t)))))
+      rw (take-past k (mendFirst t) (mendSecond (after₁ t) ++ mendThird (after₂ t)) (omega arith), run-append)
+      (past-first _ (rest-tidied (after₁ t) (rw (loosed .less .long) w) (k - length (mendFirst t)))))
 
   all-cleared : Tidied t (cleared t)
   unfolding cleared

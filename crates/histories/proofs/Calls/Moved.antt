@@ -1,6 +1,6 @@
--- One call: what it may do to a heading and its text. A request goes by its plan, cut anywhere; DEL by a plan for each name, all of them
--- clearings; a mend clears headings that no entry names, and text whose heading keeps none.
-use mathlib.Core.Bool.{true, false}
+-- One call: what it may do to a heading and its text. A request goes by its plan, cut anywhere; DEL and DST by a plan for each name, all of
+-- them clearings; a mend clears headings that no entry names, and text whose heading keeps none.
+use mathlib.Core.Bool.{Bool, true, false}
 use mathlib.Core.List.{List}
 use mathlib.Core.Logic.{_⊎_, inl, inr, _≢_, ⊎-elim}
 use mathlib.Core.Path.{_≡_, refl, sym, _∙_}
@@ -23,7 +23,7 @@ use Rattle.demands.proofs.SoundKept.Freed.{textOf}
 use Rattle.demands.proofs.SoundKept.Retexted.{none, some, mine-not}
 use Rattle.demands.proofs.Mending.Part.{Alike, equal, counts}
 use Rattle.demands.proofs.Mending.Counts.{but-kind}
-use Rattle.histories.proofs.Calls.Stores.{Put, heading, text, entry, cleared, recodes, rewrites, retexts, again, Kept, Of, Left, stored, rid}
+use Rattle.histories.proofs.Calls.Stores.{Put, heading, text, entry, cleared, recodes, rewrites, retexts, again, Kept, Of, Open, Left, stored, rid}
 use Rattle.histories.proofs.Calls.Held.{Held, alike-front, alike-back}
 
 -- a text record of h, in numbers
@@ -31,17 +31,17 @@ pub text-of : (h : ℕ) (r : List ℕ) → textOf h r ≡ true → (byte r 0 ≡
 text-of h r e = (eqb-true _ _ (and-left _ _ e), eqb-true _ _ (and-right (isKind 3 r) _ e))
 
 -- from t to s, by a request on the sound table t
-pub record Moved (t s : List ℕ) : Type 0 where
+pub record Moved (razes : Bool) (t s : List ℕ) : Type 0 where
   pub long : length s ≡ length t
   -- a capped heading that is still one is held, with its text
   pub held : (h : ℕ) → byte (rec t h) 0 ≡ 1 → noWrite (headingCode (rec t h)) ≡ true → byte (rec s h) 0 ≡ 1 → Held h t s
-  -- a heading that is none any more is named by no entry
-  pub last : (h : ℕ) → byte (rec t h) 0 ≡ 1 → byte (rec s h) 0 ≢ 1 → named s h ≡ false
+  -- a heading that is none any more is named by no entry, or a DST cleared it, and it could be written
+  pub last : (h : ℕ) → byte (rec t h) 0 ≡ 1 → byte (rec s h) 0 ≢ 1 → (named s h ≡ false) ⊎ Open razes t h
   -- a heading that was none lies where nothing was, and so does its text
   pub new : (h : ℕ) → byte (rec t h) 0 ≢ 1 → byte (rec s h) 0 ≡ 1 → byte (rec t h) 0 ≡ 0
   pub fresh : (h i : ℕ) → byte (rec t h) 0 ≢ 1 → textOf h (rec s i) ≡ true → byte (rec t i) 0 ≡ 0
 
-pub moved-none : (t : List ℕ) → Sound t → Moved t t
+pub moved-none : {razes : Bool} (t : List ℕ) → Sound t → Moved razes t t
 moved-none t c =
     record {
       long = refl;
@@ -75,7 +75,7 @@ put-over t h r k (rewrites mark n b a w q) = rw q (kind-rewritten (rec t h) mark
 put-over t h r k (retexts g a w m n) = absurd (mine-not g (rec t h) 1 m (omega arith) (omega arith) k)
 put-over t h r k (again b) = but-kind (rec t h) r b ∙ k
 
-module _ (t s : List ℕ) (c : Sound t) (e : length s ≡ length t) where
+module _ (razes : Bool) (t s : List ℕ) (c : Sound t) (e : length s ≡ length t) where
   -- over a capped heading nothing is laid but its counts
   put-capped : (h : ℕ) → byte (rec t h) 0 ≡ 1 → noWrite (headingCode (rec t h)) ≡ true → Put t h (rec s h) → Alike (rec t h) (rec s h)
   put-capped h k n (heading a b) = let z : ⊥ = omega arith in absurd z
@@ -89,11 +89,11 @@ module _ (t s : List ℕ) (c : Sound t) (e : length s ≡ length t) where
   put-capped h k n (again b) = counts b
 
   -- heading h may be written
-  abbrev Open : ℕ → Type 0
-  Open h = (byte (rec t h) 0 ≡ 1) × (noWrite (headingCode (rec t h)) ≡ false)
+  abbrev Free : ℕ → Type 0
+  Free h = (byte (rec t h) 0 ≡ 1) × (noWrite (headingCode (rec t h)) ≡ false)
 
   -- over text of h only a rewrite of h lays anything
-  put-over-text : (h i : ℕ) → (byte (rec t i) 0 ≡ 3) × (headingOf (rec t i) ≡ h) → Put t i (rec s i) → Open h
+  put-over-text : (h i : ℕ) → (byte (rec t i) 0 ≡ 3) × (headingOf (rec t i) ≡ h) → Put t i (rec s i) → Free h
   put-over-text h i y (heading a b) = let z : ⊥ = omega (arith, y .0) in absurd z
   put-over-text h i y (text a b d) = let z : ⊥ = omega (arith, y .0) in absurd z
   put-over-text h i y (entry (inl a) b) = let z : ⊥ = omega (arith, y .0) in absurd z
@@ -106,10 +106,10 @@ module _ (t s : List ℕ) (c : Sound t) (e : length s ≡ length t) where
   put-over-text h i y (again b) = let z : ⊥ = omega (arith, y .0, b .kind) in absurd z
 
   -- text of h that is laid lies in a free record, and so does its heading; or h is rewritten
-  put-text : (h i : ℕ) → textOf h (rec s i) ≡ true → Put t i (rec s i) → ((byte (rec t i) 0 ≡ 0) × (byte (rec t h) 0 ≡ 0)) ⊎ Open h
+  put-text : (h i : ℕ) → textOf h (rec s i) ≡ true → Put t i (rec s i) → ((byte (rec t i) 0 ≡ 0) × (byte (rec t h) 0 ≡ 0)) ⊎ Free h
   put-text h i x p = go (text-of h (rec s i) x) p
     where
-      go : (byte (rec s i) 0 ≡ 3) × (headingOf (rec s i) ≡ h) → Put t i (rec s i) → ((byte (rec t i) 0 ≡ 0) × (byte (rec t h) 0 ≡ 0)) ⊎ Open h
+      go : (byte (rec s i) 0 ≡ 3) × (headingOf (rec s i) ≡ h) → Put t i (rec s i) → ((byte (rec t i) 0 ≡ 0) × (byte (rec t h) 0 ≡ 0)) ⊎ Free h
       go y (heading a b) = let z : ⊥ = omega (arith, y .0) in absurd z
       go y (text a b d) = inl (a, rw (y .1) at d)
       go y (entry a b) = let z : ⊥ = omega (arith, y .0) in absurd z
@@ -148,7 +148,7 @@ module _ (t s : List ℕ) (c : Sound t) (e : length s ≡ length t) where
     of : Of t file i
     heading : byte (rec t file) 0 ≡ 1
     cleared : rec s file ≡ blank
-    unnamed : named s file ≡ false
+    unnamed : (named s file ≡ false) ⊎ Open razes t file
 
   module _ (each : (i : ℕ) → i < rooms t → Kept t s i ⊎ Gone i) where
     same-heading : (h : ℕ) → byte (rec t h) 0 ≡ 1 → noWrite (headingCode (rec t h)) ≡ true → byte (rec s h) 0 ≡ 1 → Alike (rec t h) (rec s h)
@@ -183,7 +183,7 @@ module _ (t s : List ℕ) (c : Sound t) (e : length s ≡ length t) where
         y : (byte (rec s i) 0 ≡ 3) × (headingOf (rec s i) ≡ h)
         y = text-of h (rec s i) x
 
-        laid : ((byte (rec t i) 0 ≡ 0) × (byte (rec t h) 0 ≡ 0)) ⊎ Open h → ⊥
+        laid : ((byte (rec t i) 0 ≡ 0) × (byte (rec t h) 0 ≡ 0)) ⊎ Free h → ⊥
         laid (inl a) = omega (arith, a .1)
         laid (inr o) = not-both n (o .1)
 
@@ -192,14 +192,14 @@ module _ (t s : List ℕ) (c : Sound t) (e : length s ≡ length t) where
         go (inl (inr p)) = absurd (laid (put-text h i x p))
         go (inr g) = let v : ⊥ = omega (arith, y .0, kind-blank (rec s i) (g .empty)) in absurd v
 
-    lost-name : (h : ℕ) → byte (rec t h) 0 ≡ 1 → byte (rec s h) 0 ≢ 1 → named s h ≡ false
+    lost-name : (h : ℕ) → byte (rec t h) 0 ≡ 1 → byte (rec s h) 0 ≢ 1 → (named s h ≡ false) ⊎ Open razes t h
     lost-name h k n = go (each h (in-t h (omega arith)))
       where
-        own : (g : Gone h) → Of t (g .file) h → named s h ≡ false
+        own : (g : Gone h) → Of t (g .file) h → (named s h ≡ false) ⊎ Open razes t h
         own g (inl q) = rw q (g .unnamed)
         own g (inr q) = let z : ⊥ = omega (arith, q .0) in absurd z
 
-        go : Kept t s h ⊎ Gone h → named s h ≡ false
+        go : Kept t s h ⊎ Gone h → (named s h ≡ false) ⊎ Open razes t h
         go (inl (inl q)) = absurd (n (rw q k))
         go (inl (inr p)) = absurd (n (put-over t h (rec s h) k p))
         go (inr g) = own g (g .of)
@@ -218,7 +218,7 @@ module _ (t s : List ℕ) (c : Sound t) (e : length s ≡ length t) where
         y : (byte (rec s i) 0 ≡ 3) × (headingOf (rec s i) ≡ h)
         y = text-of h (rec s i) x
 
-        laid : ((byte (rec t i) 0 ≡ 0) × (byte (rec t h) 0 ≡ 0)) ⊎ Open h → byte (rec t i) 0 ≡ 0
+        laid : ((byte (rec t i) 0 ≡ 0) × (byte (rec t h) 0 ≡ 0)) ⊎ Free h → byte (rec t i) 0 ≡ 0
         laid (inl a) = a .0
         laid (inr o) = absurd (n (o .0))
 
@@ -229,7 +229,7 @@ module _ (t s : List ℕ) (c : Sound t) (e : length s ≡ length t) where
         go (inl (inr p)) = laid (put-text h i x p)
         go (inr g) = let v : ⊥ = omega (arith, y .0, kind-blank (rec s i) (g .empty)) in absurd v
 
-    moved-by : Moved t s
+    moved-by : Moved razes t s
     moved-by =
         record {
           long = e;
@@ -241,7 +241,7 @@ module _ (t s : List ℕ) (c : Sound t) (e : length s ≡ length t) where
           fresh = new-text;
         }
 
-  pub moved-left : Left t s → Moved t s
+  pub moved-left : Left razes t s → Moved razes t s
   moved-left (stored each) = moved-by (λ i l. inl (each i l))
   moved-left (rid g k z n each) =
       moved-by (λ i l. ⊎-elim inl (λ x. inr (record { empty = x .0; file = g; of = x .1; heading = k; cleared = z; unnamed = n })) (each i l))

@@ -1,6 +1,6 @@
 -- Every request's plan has that shape: a new file goes to free records, an entry over the one that bears its name or to a free record,
--- DPR asks write of the joined code, and a file is freed only where the entry laid or cleared was the last to name it.
-use mathlib.Core.Bool.{true, false, not, cond}
+-- DPR, `WRS*` and DST ask write of the joined code, and else a file is freed only where the entry laid or cleared was the last to name it.
+use mathlib.Core.Bool.{Bool, true, false, not, cond}
 use mathlib.Core.List.{List, [], _∷_, _++_, append-nil}
 use mathlib.Core.Logic.{_⊎_, inl, inr, _≢_, by-cases}
 use mathlib.Core.Path.{_≡_, refl, _∙_}
@@ -12,7 +12,7 @@ use lib.Seq.{getD-take, length-take-le}
 use borrow.Author.Tests.{ltb-false}
 use Rattle.paper.specs.Scan.{Found, at, nowhere, allBelow, anyBelow}
 use Rattle.paper.specs.Record.{byte, level, headingCode, lifetime, entryCode, headingNamed, names, blank, headingRecord, nameField}
-use Rattle.paper.specs.Table.{rooms, rec, lay, frees, room}
+use Rattle.paper.specs.Table.{rooms, rec, lay, frees, room, textRoom}
 use Rattle.paper.specs.Declaration.{Part, orElse}
 use Rattle.paper.specs.Line.{Word}
 use Rattle.paper.specs.Check.{Check, passed, verdict}
@@ -20,17 +20,17 @@ use Rattle.paper.specs.Request.{Begin}
 use Rattle.paper.specs.Code.{joined, noWrite}
 use Rattle.paper.specs.Entry.{named}
 use Rattle.paper.specs.Sound.{implies}
-use Rattle.paper.specs.Block.{block, fileText}
+use Rattle.paper.specs.Block.{blocksOf, block, fileText}
 use Rattle.paper.specs.Walk.{State, applies, file, reached, toLast, lastName}
-use Rattle.paper.specs.Store.{Store, puts, run}
+use Rattle.paper.specs.Store.{Store, puts, clears, run}
 use Rattle.paper.specs.Count.{recounts}
-use Rattle.paper.specs.Effect.{Planned, plan, halted, chainOf, toHolder, toEnd, Making, borne, placing, needed, writeInhibited, making, filing, linking, newFile, freed, withCounts, lost, settled, recoded, renamed, crdPlan, wrsPlan, cpyPlan, dupPlan, chnPlan, dprPlan, delPlan, rdsPlan, lstPlan, lstBasePlan, lstTreePlan, lstBaseTreePlan, rewriting, rewritePlan}
+use Rattle.paper.specs.Effect.{Planned, plan, halted, chainOf, toHolder, toEnd, Making, borne, placing, needed, writeInhibited, making, filing, linking, newFile, freed, withCounts, lost, settled, recoded, renamed, crdPlan, wrsPlan, cpyPlan, dupPlan, chnPlan, dprPlan, delPlan, bared, dstPlan, rdsPlan, lstPlan, lstBasePlan, lstTreePlan, lstBaseTreePlan, rewriting, rewritePlan}
 use Rattle.laws.proofs.Tests.{truth, not-both, false-by, implies-use}
 use Rattle.laws.proofs.Scans.{any-here, any-none, all-true}
-use Rattle.laws.proofs.Lists.{Every, every-parts, every-append, every-imp}
+use Rattle.laws.proofs.Lists.{Every, every-parts, every-append, every-imp, every-each}
 use Rattle.laws.proofs.Fields.{text-heading, name-total, length-entry, entry-record-kind}
 use Rattle.laws.proofs.Entries.{found-stands, names-kind}
-use Rattle.laws.proofs.Lay.{Whole, lay-same, lay-other, length-lay, length-rec, rooms-lay, length-blank}
+use Rattle.laws.proofs.Lay.{Whole, lay-same, lay-other, length-lay, length-rec, rooms-lay, length-blank, kinds-apart}
 use Rattle.laws.proofs.Runs.{Lays, run-each, length-run, rooms-run}
 use Rattle.laws.proofs.Recounts.{Recount, every-recounts}
 use Rattle.laws.proofs.Rooms.{room-below, room-kind}
@@ -39,17 +39,25 @@ use Rattle.demands.proofs.Request.Fair.{Idle, verdict-idle}
 use Rattle.demands.proofs.Request.Steps.{last-looked, holder-by, end-by}
 use Rattle.demands.proofs.Request.Walked.{walk-reached}
 use Rattle.demands.proofs.SoundKept.Filed.{Roomy, Laid, each-laid, roomy, length-file, was-free, text-kind, small}
+use Rattle.demands.proofs.SoundKept.Freed.{text-found}
 use Rattle.demands.proofs.SoundKept.Emptied.{Medium}
 use Rattle.demands.proofs.SoundKept.Rewriting.{Rewrites, head-again, mine-now, each-rewrites, Grants, rewrite-grants}
+use Rattle.demands.proofs.Mending.Wipe.{Blanks, every-clears}
 use Rattle.demands.proofs.Mending.Part.{ButCounts}
 use Rattle.demands.proofs.Mending.Counts.{but-kind, but-recount}
 use Rattle.demands.proofs.Mending.Less.{recounts-less}
+use Rattle.demands.proofs.PowerCut.Razing as raze
 use Rattle.demands.proofs.PowerCut.Cut.{counted, run-counted, rooms-counted, counted-is}
-use Rattle.histories.proofs.Calls.Stores.{Put, heading, text, entry, cleared, recodes, rewrites, retexts, again, Puts, Shaped, plain, freeing, unnamed-still}
+use Rattle.histories.proofs.Calls.Stores.{Put, heading, text, entry, cleared, recodes, rewrites, retexts, again, Puts, Of, Razing, Shaped, plain, freeing, razing, unnamed-still}
 
-abbrev pub Shape : List ℕ → Planned → Type 0
-Shape t (halted f) = Unit {0}
-Shape t (plan p) = verdict (p .checks) ≡ passed → Shaped t (p .stores)
+abbrev pub Shape : Bool → List ℕ → Planned → Type 0
+Shape razes t (halted f) = Unit {0}
+Shape razes t (plan p) = verdict (p .checks) ≡ passed → Shaped razes t (p .stores)
+
+-- the stores of a DST whose checks pass
+abbrev pub Razes : List ℕ → Planned → Type 0
+Razes t (halted f) = Unit {0}
+Razes t (plan p) = verdict (p .checks) ≡ passed → Razing t (p .stores)
 
 -- a code that lets write through joined with another lets it through alone: all pairs of codes, computed
 joins : allBelow (λ a. allBelow (λ b. implies (noWrite a) (noWrite (joined a b))) 8) 8 ≡ true
@@ -62,12 +70,12 @@ own-code a b l m e =
     (implies-use (noWrite a) _ (all-true (λ b. implies (noWrite a) (noWrite (joined a b))) 8 b (omega arith)
     (all-true (λ a. allBelow (λ b. implies (noWrite a) (noWrite (joined a b))) 8) 8 a (omega arith) joins)) n) e)
 
-holder-shape : (t : List ℕ) (u place : ℕ) (w : Word) (f : State → Planned) → ((d : State) → Shape t (f d)) → Shape t (toHolder t u place w f)
-holder-shape t u place w f h = holder-by (Shape t) place (λ _ _ _. tt) t u w f (λ d _. h d)
+holder-shape : (t : List ℕ) (u place : ℕ) (w : Word) (f : State → Planned) → ((d : State) → Shape false t (f d)) → Shape false t (toHolder t u place w f)
+holder-shape t u place w f h = holder-by (Shape false t) place (λ _ _ _. tt) t u w f (λ d _. h d)
 
-end-shape : (t : List ℕ) (u place : ℕ) (w : Word) (f : State → State → Planned)
-    → ((d s : State) → toLast t d (chainOf w) ≡ reached s → Shape t (f d s)) → Shape t (toEnd t u place w f)
-end-shape t u place w f h = end-by (Shape t) place (λ _ _ _. tt) t u w f (λ d s _. h d s)
+end-shape : (razes : Bool) (t : List ℕ) (u place : ℕ) (w : Word) (f : State → State → Planned)
+    → ((d s : State) → toLast t d (chainOf w) ≡ reached s → Shape razes t (f d s)) → Shape razes t (toEnd t u place w f)
+end-shape razes t u place w f h = end-by (Shape razes t) place (λ _ _ _. tt) t u w f (λ d s _. h d s)
 
 -- new records that are no entry
 abbrev News : List ℕ → Store → Type 0
@@ -182,7 +190,7 @@ module _ (t : List ℕ) (c : Sound t) where
             not-both (any-here (λ j. names g (rec (lay t e r) j)) (rooms (lay t e r)) i (rw rooms-lay d) (names-m g i d y)) (unfold named in x)))
 
     -- the file freed where no entry names it then
-    over-shaped : byte (rec t e) 0 ≡ 2 → Shaped t (withCounts t (pre ++ puts e r ∷ []) ++ settled t e r)
+    over-shaped : byte (rec t e) 0 ≡ 2 → Shaped false t (withCounts t (pre ++ puts e r ∷ []) ++ settled t e r)
     unfolding settled lost
     over-shaped k = go (truth (named (lay t e r) g))
       where
@@ -190,13 +198,13 @@ module _ (t : List ℕ) (c : Sound t) where
         g = headingNamed (rec t e)
 
         go : (named (lay t e r) g ≡ true) ⊎ (named (lay t e r) g ≡ false)
-            → Shaped t (withCounts t (pre ++ puts e r ∷ []) ++ cond (not (named (lay t e r) g)) (freed t g) [])
+            → Shaped false t (withCounts t (pre ++ puts e r ∷ []) ++ cond (not (named (lay t e r) g)) (freed t g) [])
         go (inl x) = plain (rw (x, append-nil) (unfold main in laid))
         go (inr x) = freeing main g laid (c .targets e l k) (unnamed-main g x) (rw x (unfold main in refl))
 
   -- a new entry, after new records
   making-shape : (m : Making) (thirteen fifteen late : List Check) → (length (m .first) ≤ length (frees t) → Every (News t) (m .first))
-      → length (m .entry) ≡ 32 → byte (m .entry) 0 ≡ 2 → Shape t (making t m thirteen fifteen late)
+      → length (m .entry) ≡ 32 → byte (m .entry) 0 ≡ 2 → Shape false t (making t m thirteen fifteen late)
   unfolding making
   making-shape m thirteen fifteen late news size kind v =
       let a = every-parts Idle (thirteen ++ writeInhibited (m .place) (m .directory) ∷ fifteen) _ (verdict-idle _ v) .1 in
@@ -205,7 +213,7 @@ module _ (t : List ℕ) (c : Sound t) where
       no-heading : byte (m .entry) 0 ≢ 1
       no-heading = λ (z : byte (m .entry) 0 ≡ 1). omega arith
 
-      go : (x : Found) → borne t m ≡ x → needed m x ≤ length (frees t) → Shaped t (placing t m x)
+      go : (x : Found) → borne t m ≡ x → needed m x ≤ length (frees t) → Shaped false t (placing t m x)
       go (at e) q enough =
           let f = found-stands t (m .directory .holder) (m .name) e q in
           over-shaped (m .first) (news enough) e (f .0) (m .entry) size no-heading (entry (inr (f .1 .kind)) kind) (f .1 .kind)
@@ -215,7 +223,7 @@ module _ (t : List ℕ) (c : Sound t) where
 
   filing-shape : (place : ℕ) (w : Word) (d : State) (type lev code life n : ℕ) (body : List ℕ) (thirteen fifteen late : List Check)
       → length (lastName (chainOf w)) ≤ 10
-      → Shape t (making t (filing t place w d code (headingRecord type lev code life n) body) thirteen fifteen late)
+      → Shape false t (making t (filing t place w d code (headingRecord type lev code life n) body) thirteen fifteen late)
   filing-shape place w d type lev code life n body thirteen fifteen late l =
       making-shape (filing t place w d code head body) thirteen fifteen late
       (λ enough. file-news head body (roomy t type lev code life n body (omega (arith, length-file t head body, enough))))
@@ -227,39 +235,39 @@ module _ (t : List ℕ) (c : Sound t) where
 
   -- ---- each function
 
-  pub crd-shape : (u : ℕ) (name : Word) (lev code : Part) → length (lastName (chainOf name)) ≤ 10 → Shape t (crdPlan t u name lev code)
+  pub crd-shape : (u : ℕ) (name : Word) (lev code : Part) → length (lastName (chainOf name)) ≤ 10 → Shape false t (crdPlan t u name lev code)
   unfolding crdPlan
   crd-shape u name lev code l =
       holder-shape t u 1 name _ (λ d. filing-shape 1 name d 0 (orElse lev 0) (orElse code 0) 1 0 [] [] [] [] l)
 
   pub wrs-shape : (u : ℕ) (body : List ℕ) (life : ℕ) (lev code : Part) (name : Word) → length (lastName (chainOf name)) ≤ 10
-      → Shape t (wrsPlan t u body life lev code name)
+      → Shape false t (wrsPlan t u body life lev code name)
   unfolding wrsPlan
   wrs-shape u body life lev code name l =
       holder-shape t u 2 name _ (λ d. filing-shape 2 name d 1 (orElse lev 0) (orElse code 0) life (length body) body [] [] [] l)
 
   pub cpy-shape : (v u : ℕ) (old new : Word) (life lev code : Part) → length (lastName (chainOf new)) ≤ 10
-      → Shape t (cpyPlan t v u old new life lev code)
+      → Shape false t (cpyPlan t v u old new life lev code)
   unfolding cpyPlan
   cpy-shape v u old new life lev code l =
-      end-shape t v 1 old _ (λ _ f _. holder-shape t u 2 new _ (λ d.
+      end-shape false t v 1 old _ (λ _ f _. holder-shape t u 2 new _ (λ d.
       let source : List ℕ = rec t (file t f) in
       let body : List ℕ = fileText t (file t f) in
       filing-shape 2 new d 1 (orElse lev (level source)) (orElse code 0) (orElse life (lifetime source)) (length body) body
       _ _ _ l))
 
   pub dup-shape : (v u : ℕ) (to : Begin) (old new : Word) (code : Part) → length (lastName (chainOf new)) ≤ 10
-      → Shape t (dupPlan t v u to old new code)
+      → Shape false t (dupPlan t v u to old new code)
   unfolding dupPlan
   dup-shape v u to old new code l =
-      end-shape t v 1 old _ (λ _ f _. holder-shape t u 2 new _ (λ d.
+      end-shape false t v 1 old _ (λ _ f _. holder-shape t u 2 new _ (λ d.
       making-shape (linking t f d new code) [] _ _ (λ _. tt) (length-entry _ (d .holder .heading) (file t f) (d .holder .user) (lastName (chainOf new)) l)
       (entry-record-kind _ (d .holder .heading) (file t f) (d .holder .user) (lastName (chainOf new)))))
 
-  pub chn-shape : (u : ℕ) (old link : Word) → length (lastName (link .names)) ≤ 10 → Shape t (chnPlan t u old link)
+  pub chn-shape : (u : ℕ) (old link : Word) → length (lastName (link .names)) ≤ 10 → Shape false t (chnPlan t u old link)
   unfolding chnPlan
   chn-shape u old link b =
-      end-shape t u 1 old _ (λ d f q _.
+      end-shape false t u 1 old _ (λ d f q _.
       let g = last-looked t d (chainOf old) f q in
       plain (
         record {
@@ -284,10 +292,10 @@ module _ (t : List ℕ) (c : Sound t) where
           unfold renamed in
           List·getD-append (take 9 r) (nameField name) 0 0 (rw (front r s) (omega arith)) ∙ getD-take 9 r 0 0 (omega arith) ∙ k
 
-  pub dpr-shape : (u : ℕ) (name : Word) (code : ℕ) → code ≤ 7 → Shape t (dprPlan t u name code)
+  pub dpr-shape : (u : ℕ) (name : Word) (code : ℕ) → code ≤ 7 → Shape false t (dprPlan t u name code)
   unfolding dprPlan applies
   dpr-shape u name code b =
-      end-shape t u 1 name _ (λ d f q v.
+      end-shape false t u 1 name _ (λ d f q v.
       let g = walk-reached 65535 t c d (chainOf name) f q in
       let i = verdict-idle _ v in
       let w : noWrite (applies t (f .entry)) ≡ false = rw (g .looked .code) at (i .0) in
@@ -303,31 +311,85 @@ module _ (t : List ℕ) (c : Sound t) where
         tt,
       ))
 
-  pub del-shape : (u place : ℕ) (name : Word) → Shape t (delPlan t u place name)
+  pub del-shape : (u place : ℕ) (name : Word) → Shape false t (delPlan t u place name)
   unfolding delPlan
   del-shape u place name =
-      end-shape t u place name _ (λ d f q _.
+      end-shape false t u place name _ (λ d f q _.
       let g = last-looked t d (chainOf name) f q in
       over-shaped [] tt (f .entry) (g .within) blank length-blank (unfold blank in λ (z : _≡_ {A = ℕ} 0 1). omega arith) (cleared (g .stands .kind) refl)
       (g .stands .kind))
 
-  pub rds-shape : (u : ℕ) (reply : List ℕ) (name : Word) (first count : Part) → Shape t (rdsPlan t u reply name first count)
+  -- what follows the heading of a file that is destroyed
+  razing-post : (g : ℕ) (k : byte (rec t g) 0 ≡ 1)
+      → Every (Lays (λ i r. (i ≢ g) × (Put t i r ⊎ ((r ≡ blank) × Of t g i))) (rooms t)) (raze.post t g c k)
+  unfolding raze.post
+  razing-post g k =
+      every-append X (bared t g) (clears (λ i. names g (rec t i)) (rooms t) ++ recounts (raze.g t g c k))
+      (every-each X _ (blocksOf t g) (λ p b.
+      let y = text-found 65535 t g c k p b in
+      let q : textRoom t g p ≢ g = kinds-apart t (textRoom t g p) g 3 1 (y .1 .kind) k (omega arith) in
+      record { within = y .0; size = length-blank; holds = (q, inr (refl, inr (y .1 .kind, y .1 .heading))) }))
+      (every-append X (clears (λ i. names g (rec t i)) (rooms t)) (recounts (raze.g t g c k))
+      (every-imp _ X (clears (λ i. names g (rec t i)) (rooms t)) entries (every-clears (λ i. names g (rec t i)) (rooms t)))
+      (every-imp _ X (recounts (raze.g t g c k)) tallies (every-recounts (raze.g t g c k))))
+    where
+      X : Store → Type 0
+      X = Lays (λ i r. (i ≢ g) × (Put t i r ⊎ ((r ≡ blank) × Of t g i))) (rooms t)
+
+      entries : (x : Store) → Lays (Blanks (λ i. names g (rec t i))) (rooms t) x → X x
+      entries x l =
+          let e : byte (rec t (x .at)) 0 ≡ 2 = names-kind g (rec t (x .at)) (l .holds .1) in
+          let q : x .at ≢ g = kinds-apart t (x .at) g 2 1 e k (omega arith) in
+          record { within = l .within; size = l .size; holds = (q, inl (cleared e (l .holds .0))) }
+
+      tallies : (x : Store) → Lays (Recount (raze.g t g c k)) (rooms (raze.g t g c k)) x → X x
+      tallies x l =
+          let n : List ℕ = raze.g t g c k in
+          let i : ℕ = x .at in
+          let b : i < rooms t = rw (raze.rooms-g t g c k) at (l .within) in
+          let y = raze.stays t g c k i b (l .holds .1 .0) in
+          let q : ButCounts (rec n i) (x .bytes) = rw (l .holds .0) (but-recount n i (rec n i) (length-rec n i (l .within)) (l .holds .1 .0)) in
+          record { within = b; size = l .size; holds = (y .0, inl (again (rw (y .1) at q))) }
+
+  pub dst-razes : (u place : ℕ) (name : Word) → Razes t (dstPlan t u place name)
+  unfolding dstPlan applies
+  dst-razes u place name =
+      end-by (Razes t) place (λ _ _ _. tt) t u name _ (λ d f _ q v.
+      let g = walk-reached 65535 t c d (chainOf name) f q in
+      let w : noWrite (applies t (f .entry)) ≡ false = rw (g .looked .code) at (verdict-idle _ v .0) in
+      record {
+        file = file t f;
+        rest = raze.post t (file t f) c (g .heading);
+        kind = g .heading;
+        write = own-code (headingCode (rec t (file t f))) (entryCode (rec t (f .entry))) (g .fields .code) (entry-code _ (g .own)) w;
+        each = razing-post (file t f) (g .heading);
+        is = raze.stores-are t (file t f) c (g .heading);
+      })
+
+  pub dst-shape : (u place : ℕ) (name : Word) → Shape true t (dstPlan t u place name)
+  dst-shape u place name = go (dstPlan t u place name) (dst-razes u place name)
+    where
+      go : (x : Planned) → Razes t x → Shape true t x
+      go (halted f) h = tt
+      go (plan p) h = λ v. razing refl (h v)
+
+  pub rds-shape : (u : ℕ) (reply : List ℕ) (name : Word) (first count : Part) → Shape false t (rdsPlan t u reply name first count)
   unfolding rdsPlan
-  rds-shape u reply name first count = end-shape t u 1 name _ (λ d f _ _. plain tt)
+  rds-shape u reply name first count = end-shape false t u 1 name _ (λ d f _ _. plain tt)
 
-  pub lst-shape : (u : ℕ) (reply : List ℕ) (name : Word) → Shape t (lstPlan t u reply name)
+  pub lst-shape : (u : ℕ) (reply : List ℕ) (name : Word) → Shape false t (lstPlan t u reply name)
   unfolding lstPlan
-  lst-shape u reply name = end-shape t u 1 name _ (λ d f _ _. plain tt)
+  lst-shape u reply name = end-shape false t u 1 name _ (λ d f _ _. plain tt)
 
-  pub lst-base-shape : (u : ℕ) (reply : List ℕ) → Shape t (lstBasePlan t u reply)
+  pub lst-base-shape : (u : ℕ) (reply : List ℕ) → Shape false t (lstBasePlan t u reply)
   unfolding lstBasePlan
   lst-base-shape u reply _ = plain tt
 
-  pub lst-tree-shape : (u : ℕ) (reply : List ℕ) (name : Word) (depth : ℕ) → Shape t (lstTreePlan t u reply name depth)
+  pub lst-tree-shape : (u : ℕ) (reply : List ℕ) (name : Word) (depth : ℕ) → Shape false t (lstTreePlan t u reply name depth)
   unfolding lstTreePlan
-  lst-tree-shape u reply name depth = end-shape t u 1 name _ (λ d f _ _. plain tt)
+  lst-tree-shape u reply name depth = end-shape false t u 1 name _ (λ d f _ _. plain tt)
 
-  pub lst-base-tree-shape : (u : ℕ) (reply : List ℕ) (depth : ℕ) → Shape t (lstBaseTreePlan t u reply depth)
+  pub lst-base-tree-shape : (u : ℕ) (reply : List ℕ) (depth : ℕ) → Shape false t (lstBaseTreePlan t u reply depth)
   unfolding lstBaseTreePlan
   lst-base-tree-shape u reply depth _ = plain tt
 
@@ -340,14 +402,14 @@ module _ (t : List ℕ) (c : Sound t) where
       let w : noWrite (applies t (e .entry)) ≡ false = rw (g .looked .code) at n in
       own-code (headingCode (rec t (file t e))) (entryCode (rec t (e .entry))) (g .fields .code) (entry-code _ (g .own)) w
 
-  pub rewrite-shape : (u : ℕ) (body : List ℕ) (name : Word) → length body ≤ 24000 → Shape t (rewritePlan t u body name)
+  pub rewrite-shape : (u : ℕ) (body : List ℕ) (name : Word) → length body ≤ 24000 → Shape false t (rewritePlan t u body name)
   rewrite-shape u body name short = go (rewritePlan t u body name) (rewrite-grants t c u body name short)
     where
       put : (h : ℕ) → Medium t h → noWrite (headingCode (rec t h)) ≡ false → (i : ℕ) (r : List ℕ) → Rewrites t h i r → Put t i r
       put h f w i r (head-again q mark n b z) = rewrites mark n b (rw q (f .kind)) (rw q w) (rw q z)
       put h f w i r (mine-now a b) = retexts h (f .kind) w a b
 
-      go : (x : Planned) → Grants t u body name x → Shape t x
+      go : (x : Planned) → Grants t u body name x → Shape false t x
       go (halted f) h = tt
       go (plan p) h = λ v.
           let g = h v in

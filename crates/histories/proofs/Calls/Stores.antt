@@ -1,10 +1,11 @@
 -- What the stores of any request are, on a sound table: new records on free ones, an entry laid again or cleared, a heading with more
 -- inhibited and write not inhibited before, or with other counts, a file rewritten; and then, at most, one file freed that no entry names.
-use mathlib.Core.Bool.{false}
-use mathlib.Core.List.{List, _++_}
+-- Only a DST clears a heading first, and that is one with write not inhibited.
+use mathlib.Core.Bool.{Bool, true, false}
+use mathlib.Core.List.{List, _∷_, _++_}
 use mathlib.Core.Logic.{_⊎_, inl, inr, _≢_, by-cases, ⊎-elim}
 use mathlib.Core.Path.{_≡_, refl, _∙_}
-use Prim.Native.Nat.{ℕ, suc, _-_, _≤_, _<_}
+use Prim.Native.Nat.{ℕ, zero, suc, _-_, _≤_, _<_}
 use native.Mathlib.Omega.{arith}
 use native.Mathlib.Decide.{decLe, ℕ-discrete}
 use lib.ListN.{length, take}
@@ -46,11 +47,29 @@ pub data Put (t : List ℕ) (i : ℕ) (r : List ℕ) : Type 0 where
 abbrev pub Puts : List ℕ → Store → Type 0
 Puts t = Lays (Put t) (rooms t)
 
--- the stores of a plan: such stores, and then perhaps heading g, which no entry names by then, freed with its text
-pub data Shaped (t : List ℕ) (ss : List Store) : Type 0 where
-  plain : Every (Puts t) ss → Shaped t ss
+-- record i of t is heading g or its text
+abbrev pub Of : List ℕ → ℕ → ℕ → Type 0
+Of t g i = (i ≡ g) ⊎ ((byte (rec t i) 0 ≡ 3) × (headingOf (rec t i) ≡ g))
+
+-- heading g may be written, and is destroyed: only a DST does so
+abbrev pub Open : Bool → List ℕ → ℕ → Type 0
+Open razes t g = (razes ≡ true) × (noWrite (headingCode (rec t g)) ≡ false)
+
+-- the stores of a DST: a heading that may be written cleared, and then such stores, but for that heading, and clearings of its text
+pub record Razing (t : List ℕ) (ss : List Store) : Type 0 where
+  pub file : ℕ
+  pub rest : List Store
+  pub kind : byte (rec t file) 0 ≡ 1
+  pub write : noWrite (headingCode (rec t file)) ≡ false
+  pub each : Every (Lays (λ i r. (i ≢ file) × (Put t i r ⊎ ((r ≡ blank) × Of t file i))) (rooms t)) rest
+  pub is : ss ≡ clear file ∷ rest
+
+-- the stores of a plan: such stores, and then perhaps heading g, which no entry names by then, freed with its text; or those of a DST
+pub data Shaped (razes : Bool) (t : List ℕ) (ss : List Store) : Type 0 where
+  plain : Every (Puts t) ss → Shaped razes t ss
   freeing : (main : List Store) (g : ℕ) → Every (Puts t) main → byte (rec t g) 0 ≡ 1 → named (run t main) g ≡ false → ss ≡ main ++ freed t g
-      → Shaped t ss
+      → Shaped razes t ss
+  razing : razes ≡ true → Razing t ss → Shaped razes t ss
 
 -- what is of a kind stayed, but for its counts, where s is t with some records cleared and some counts written anew
 pub less-stays : (t s : List ℕ) → Whole t → Less t s → (i : ℕ) → byte (rec s i) 0 ≢ 0 → Alike (rec t i) (rec s i)
@@ -76,15 +95,11 @@ unnamed-still t s h w d n = false-by (named s h) (λ e. not-both (up-named t s w
 abbrev pub Kept : List ℕ → List ℕ → ℕ → Type 0
 Kept t s i = (rec s i ≡ rec t i) ⊎ Put t i (rec s i)
 
--- record i of t is heading g or its text
-abbrev pub Of : List ℕ → ℕ → ℕ → Type 0
-Of t g i = (i ≡ g) ⊎ ((byte (rec t i) 0 ≡ 3) × (headingOf (rec t i) ≡ g))
-
--- no file freed, or the heading g cleared by now
-pub data Left (t s : List ℕ) : Type 0 where
-  stored : ((i : ℕ) → i < rooms t → Kept t s i) → Left t s
-  rid : (g : ℕ) → byte (rec t g) 0 ≡ 1 → rec s g ≡ blank → named s g ≡ false
-      → ((i : ℕ) → i < rooms t → Kept t s i ⊎ ((rec s i ≡ blank) × Of t g i)) → Left t s
+-- no file freed, or the heading g cleared by now: no entry names it, or it could be written
+pub data Left (razes : Bool) (t s : List ℕ) : Type 0 where
+  stored : ((i : ℕ) → i < rooms t → Kept t s i) → Left razes t s
+  rid : (g : ℕ) → byte (rec t g) 0 ≡ 1 → rec s g ≡ blank → (named s g ≡ false) ⊎ Open razes t g
+      → ((i : ℕ) → i < rooms t → Kept t s i ⊎ ((rec s i ≡ blank) × Of t g i)) → Left razes t s
 
 module _ (t : List ℕ) (c : Sound t) (main : List Store) (laid : Every (Puts t) main) (g : ℕ) (k : byte (rec t g) 0 ≡ 1) where
   m : List ℕ
@@ -152,8 +167,8 @@ module _ (t : List ℕ) (c : Sound t) (main : List Store) (laid : Every (Puts t)
         each = λ i l. ⊎-elim (λ e. stays (equal e)) (λ e. free (e .0)) (from-m j i (rw rooms-m at l));
       }
 
-  freed-left : named m g ≡ false → (j : ℕ) → Left t (s j)
-  freed-left n j = rid g k (heading-gone j) (unnamed-still m (s j) g whole-m (lessened j) n) (λ i l. go i (at-m i l) (from-m j i l))
+  freed-left : {razes : Bool} → named m g ≡ false → (j : ℕ) → Left razes t (s j)
+  freed-left n j = rid g k (heading-gone j) (inl (unnamed-still m (s j) g whole-m (lessened j) n)) (λ i l. go i (at-m i l) (from-m j i l))
     where
       go : (i : ℕ) → Kept t m i → (rec (s j) i ≡ rec m i) ⊎ ((rec (s j) i ≡ blank) × Of t g i) → Kept t (s j) i ⊎ ((rec (s j) i ≡ blank) × Of t g i)
       go i a (inr e) = inr e
@@ -163,15 +178,47 @@ module _ (t : List ℕ) (c : Sound t) (main : List Store) (laid : Every (Puts t)
   unfolding freed run s texts
   run-freed j = refl
 
+-- a DST: the heading cleared, and some of the stores after it
+module _ (t : List ℕ) (c : Sound t) (g : ℕ) (k : byte (rec t g) 0 ≡ 1) (ss : List Store)
+    (h : Every (Lays (λ i r. (i ≢ g) × (Put t i r ⊎ ((r ≡ blank) × Of t g i))) (rooms t)) ss) where
+  abbrev after : List ℕ
+  after = run (lay t g blank) ss
+
+  razed-each : (i : ℕ) → i < rooms t → (rec after i ≡ rec (lay t g blank) i) ⊎ ((i ≢ g) × (Put t i (rec after i) ⊎ ((rec after i ≡ blank) × Of t g i)))
+  razed-each i l =
+      run-each (λ i r. (i ≢ g) × (Put t i r ⊎ ((r ≡ blank) × Of t g i))) (lay t g blank) ss (rw (rooms-lay t g blank) h) i (rw (rooms-lay t g blank) l)
+
+  razed-heading : rec after g ≡ blank
+  razed-heading = go (razed-each g (within t g (c .whole) (omega arith)))
+    where
+      go : (rec after g ≡ rec (lay t g blank) g) ⊎ ((g ≢ g) × (Put t g (rec after g) ⊎ ((rec after g ≡ blank) × Of t g g))) → rec after g ≡ blank
+      go (inl e) = e ∙ lay-same t g blank length-blank (within t g (c .whole) (omega arith))
+      go (inr x) = absurd (x .0 refl)
+
+  pub razed-kept : (i : ℕ) → i < rooms t → Kept t after i ⊎ ((rec after i ≡ blank) × Of t g i)
+  razed-kept i l =
+      by-cases (ℕ-discrete i g) (λ (q : i ≡ g). inr (rw q razed-heading, inl q)) (λ (q : i ≢ g). go q (razed-each i l))
+    where
+      go : i ≢ g → (rec after i ≡ rec (lay t g blank) i) ⊎ ((i ≢ g) × (Put t i (rec after i) ⊎ ((rec after i ≡ blank) × Of t g i)))
+          → Kept t after i ⊎ ((rec after i ≡ blank) × Of t g i)
+      go q (inl e) = inl (inl (e ∙ lay-other t g blank i length-blank q l))
+      go q (inr x) = ⊎-elim (λ p. inl (inr p)) inr (x .1)
+
 -- cut after k stores
-pub shaped-left : (t : List ℕ) → Sound t → (ss : List Store) → Shaped t ss → (k : ℕ) → Left t (run t (take k ss))
-shaped-left t c ss (plain h) k = stored (run-each (Put t) t (take k ss) (every-take _ k ss h))
-shaped-left t c ss (freeing main g h q n e) k =
+pub shaped-left : (razes : Bool) (t : List ℕ) → Sound t → (ss : List Store) → Shaped razes t ss → (k : ℕ) → Left razes t (run t (take k ss))
+unfolding run
+shaped-left b t c ss (plain h) k = stored (run-each (Put t) t (take k ss) (every-take _ k ss h))
+shaped-left b t c ss (razing z r) zero = stored (λ i l. inl refl)
+shaped-left b t c ss (razing z r) (suc j) =
+    let d = every-take _ j (r .rest) (r .each) in
+    let s : List Store = take j (r .rest) in
+    rw (r .is) (rid (r .file) (r .kind) (razed-heading t c (r .file) (r .kind) s d) (inr (z, r .write)) (razed-kept t c (r .file) (r .kind) s d))
+shaped-left b t c ss (freeing main g h q n e) k =
     rw e
     (by-cases (decLe k (length main))
     (λ (l : k ≤ length main). rw (take-append-le k main) (stored (run-each (Put t) t (take k main) (every-take _ k main h))))
     (λ (l : ¬ (k ≤ length main)).
     rw (take-past k main (freed t g) (omega arith), run-append) (past (k - length main) (k - length main - 1) (omega arith))))
   where
-    past : (a j : ℕ) → a ≡ suc j → Left t (run (run t main) (take a (freed t g)))
+    past : (a j : ℕ) → a ≡ suc j → Left b t (run (run t main) (take a (freed t g)))
     past a j z = unfold m in rw (z, run-freed t c main h g q j) (freed-left t c main h g q n j)

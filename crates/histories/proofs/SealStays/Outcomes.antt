@@ -14,11 +14,11 @@ use Rattle.paper.specs.Record.{byte, headingCode}
 use Rattle.paper.specs.Table.{sized, rooms, rec}
 use Rattle.paper.specs.Line.{Word}
 use Rattle.paper.specs.Check.{Refusal, Verdict, passed, refused, verdict}
-use Rattle.paper.specs.Request.{Request, crd, wrs, rds, cpy, dup, chn, del, dpr, lst, lstBase, lstTree, lstBaseTree, rewrite, Read, request, unread, asked}
+use Rattle.paper.specs.Request.{Request, crd, wrs, rds, cpy, dup, chn, del, dst, dpr, lst, lstBase, lstTree, lstBaseTree, rewrite, Read, request, unread, asked}
 use Rattle.paper.specs.Code.{noRead}
 use Rattle.paper.specs.Sound.{sound}
 use Rattle.paper.specs.Store.{Store, run}
-use Rattle.paper.specs.Effect.{Planned, crdPlan, wrsPlan, rdsPlan, cpyPlan, dupPlan, chnPlan, delPlan, dprPlan, lstPlan, lstBasePlan, lstTreePlan, lstBaseTreePlan, rewritePlan, listOf, begun}
+use Rattle.paper.specs.Effect.{Planned, crdPlan, wrsPlan, rdsPlan, cpyPlan, dupPlan, chnPlan, dprPlan, lstPlan, lstBasePlan, lstTreePlan, lstBaseTreePlan, rewritePlan, listOf, begun}
 use Rattle.paper.specs.Mend.{mendStores, mended}
 use Rattle.paper.specs.Answer.{Outcome, refusing, ran, single, oneName, deleting, granted, entrance, acted, admitted, requested, mendable, mendRun, mending}
 use Rattle.laws.proofs.Tests.{truth, same-truth}
@@ -30,20 +30,21 @@ use Rattle.demands.proofs.Sound.Right.{sound-right, right-sound}
 use Rattle.demands.proofs.Request.Formed.{named-last}
 use Rattle.demands.proofs.Request.Fair.{verdict-idle}
 use Rattle.demands.proofs.Request.Read.{Told, Right, read-right}
+use Rattle.demands.proofs.Request.Several.{Several, deletion, destruction, planOf}
 use Rattle.demands.proofs.Request.Ended.{ran-by, refuses}
-use Rattle.demands.proofs.SoundKept.Kept.{passed-sound, del-keeps}
+use Rattle.demands.proofs.SoundKept.Kept.{passed-sound, named-keeps}
 use Rattle.demands.proofs.Mending.Counts.{alike-kind, alike-byte}
 use Rattle.demands.proofs.Mending.Again.{mend-tidies}
 use Rattle.demands.proofs.Mending.Debris.{nothing-to-mend, sound-keeps}
 use Rattle.histories.specs.History.{Call, asks, mends, called, heads}
 use Rattle.histories.proofs.Calls.Stores.{less-stays}
-use Rattle.histories.proofs.Calls.Shapes.{Shape, crd-shape, wrs-shape, cpy-shape, dup-shape, chn-shape, dpr-shape, del-shape, rds-shape, lst-shape, lst-base-shape, lst-tree-shape, lst-base-tree-shape, rewrite-shape}
+use Rattle.histories.proofs.Calls.Shapes.{Shape, crd-shape, wrs-shape, cpy-shape, dup-shape, chn-shape, dpr-shape, rds-shape, lst-shape, lst-base-shape, lst-tree-shape, lst-base-tree-shape, rewrite-shape}
 use Rattle.histories.proofs.Calls.Falls.{falls-less, falls-take, mend-falls}
 use Rattle.histories.proofs.Calls.Anywhere.{Fits, lays-fit}
-use Rattle.histories.proofs.Calls.Requests.{passed-shaped}
+use Rattle.histories.proofs.Calls.Requests.{razes, named-shape, passed-shaped}
 use Rattle.histories.proofs.Calls.Mendable.{Mendable, mendable-whole}
 use Rattle.histories.proofs.SealStays.Veils.{Veil, run-veil, mend-veil}
-use Rattle.histories.proofs.SealStays.Plans.{Same, one, neither, crd-same, wrs-same, cpy-same, dup-same, chn-same, dpr-same, del-same, rds-same, lst-same, lst-base-same, lst-tree-same, lst-base-tree-same, rewrite-same}
+use Rattle.histories.proofs.SealStays.Plans.{Same, one, neither, crd-same, wrs-same, cpy-same, dup-same, chn-same, dpr-same, named-same, rds-same, lst-same, lst-base-same, lst-tree-same, lst-base-tree-same, rewrite-same}
 use Rattle.histories.proofs.SealStays.Stays.{Sealed, Hidden, equal, veiled, gone-equal, stores-hidden, all-hidden}
 
 -- two outcomes that show the same, over tables that differ in a sealed text alone
@@ -61,58 +62,60 @@ module _ (h : ℕ) (t s reply : List ℕ) (v : Veil h t s) (c : Sound t) (k : by
   still : Hidden h t s
   still = veiled v (λ _. n)
 
-  single-agree : (j : ℕ) (x y : Planned) → Shape t x → Same x y → Agree h (single t reply j (ran j x)) (single s reply j (ran j y))
+  single-agree : (j : ℕ) (x y : Planned) → Shape false t x → Same x y → Agree h (single t reply j (ran j x)) (single s reply j (ran j y))
   single-agree j x y d (neither f a b) = rw (refuses j x f a, refuses j y f b) (record { answer = refl; reply = refl; tables = still })
   single-agree j x y d (one e) =
       rw e (ran-by (λ z. Agree h (single t reply j z) (single s reply j z)) j x
       (λ f _. record { answer = refl; reply = refl; tables = still })
-      (λ p q _. record { answer = refl; reply = refl; tables = all-hidden h t c k n s v (p .stores) (passed-shaped t x p d q) })
-      (λ p q _. record { answer = refl; reply = refl; tables = stores-hidden h t c k n s v (p .stores) (passed-shaped t x p d q) j }))
+      (λ p q _. record { answer = refl; reply = refl; tables = all-hidden h t c k n false s v (p .stores) (passed-shaped false t x p d q) })
+      (λ p q _. record { answer = refl; reply = refl; tables = stores-hidden h t c k n false s v (p .stores) (passed-shaped false t x p d q) j }))
 
--- DEL, from name to name
-del-agree : (h : ℕ) (ws : List Word) (t s : List ℕ) (u : ℕ) (reply : List ℕ) (k n made : ℕ) → Sound t → Sound s → Hidden h t s
-    → Agree h (deleting t u reply k n made ws) (deleting s u reply k n made ws)
+-- DEL and DST, from name to name
+del-agree : (b : Several) (h : ℕ) (ws : List Word) (t s : List ℕ) (u : ℕ) (reply : List ℕ) (k n made : ℕ) → Sound t → Sound s → Hidden h t s
+    → Agree h (deleting (planOf b) t u reply k n made ws) (deleting (planOf b) s u reply k n made ws)
 unfolding deleting
-del-agree h [] t s u reply k n made c d q = record { answer = refl; reply = refl; tables = q }
-del-agree h (w ∷ ws) t s u reply k n made c d (equal e) = rw e (agree-refl h _)
-del-agree h (w ∷ ws) t s u reply k n made c d (veiled v q) = go (truth (heads h t)) (λ t₁ s₁. del-agree h ws t₁ s₁ u reply)
+del-agree b h [] t s u reply k n made c d q = record { answer = refl; reply = refl; tables = q }
+del-agree b h (w ∷ ws) t s u reply k n made c d (equal e) = rw e (agree-refl h _)
+del-agree b h (w ∷ ws) t s u reply k n made c d (veiled v q) = go (truth (heads h t)) (λ t₁ s₁. del-agree b h ws t₁ s₁ u reply)
   where
     x : Planned
-    x = delPlan t u (n + 1) w
+    x = planOf b t u (n + 1) w
 
     y : Planned
-    y = delPlan s u (n + 1) w
+    y = planOf b s u (n + 1) w
 
     more : List ℕ → ℕ → ℕ → ℕ → Outcome
-    more t₁ k₁ n₁ made₁ = deleting t₁ u reply k₁ n₁ made₁ ws
+    more t₁ k₁ n₁ made₁ = deleting (planOf b) t₁ u reply k₁ n₁ made₁ ws
 
     Rest : Type 0
     Rest = (t₁ s₁ : List ℕ) (k₁ n₁ made₁ : ℕ) → Sound t₁ → Sound s₁ → Hidden h t₁ s₁ → Agree h (more t₁ k₁ n₁ made₁) (more s₁ k₁ n₁ made₁)
 
-    by : (z : heads h t ≡ true) → Rest → Same x y → Agree h (oneName t reply k n made more (ran k x)) (oneName s reply k n made more (ran k y))
+    by : (z : heads h t ≡ true) → Rest → Same x y
+        → Agree h (oneName t reply k n made more (ran k x)) (oneName s reply k n made more (ran k y))
     by z rest (neither f a b) = rw (refuses k x f a, refuses k y f b) (record { answer = refl; reply = refl; tables = veiled v q })
     by z rest (one e) =
         rw e (ran-by (λ r. Agree h (oneName t reply k n made more r) (oneName s reply k n made more r)) k x
         (λ f _. record { answer = refl; reply = refl; tables = veiled v q })
         (λ p r _.
         rest (run t (p .stores)) (run s (p .stores)) (k - length (p .stores)) (n + 1) (made + length (p .stores))
-        (passed-sound t x p (del-keeps t u (n + 1) w c) r .clauses)
-        (passed-sound s y p (del-keeps s u (n + 1) w d) (rw e r) .clauses)
-        (all-hidden h t c (eqb-true _ _ z) (q z) s v (p .stores) (passed-shaped t x p (del-shape t c u (n + 1) w) r)))
+        (passed-sound t x p (named-keeps b t u (n + 1) w c) r .clauses)
+        (passed-sound s y p (named-keeps b s u (n + 1) w d) (rw e r) .clauses)
+        (all-hidden h t c (eqb-true _ _ z) (q z) (razes b) s v (p .stores) (passed-shaped (razes b) t x p (named-shape b t c u (n + 1) w) r)))
         (λ p r _. record {
           answer = refl;
           reply = refl;
-          tables = stores-hidden h t c (eqb-true _ _ z) (q z) s v (p .stores) (passed-shaped t x p (del-shape t c u (n + 1) w) r) k;
+          tables = stores-hidden h t c (eqb-true _ _ z) (q z) (razes b) s v (p .stores) (passed-shaped (razes b) t x p (named-shape b t c u (n + 1) w) r) k;
         }))
 
-    go : (heads h t ≡ true) ⊎ (heads h t ≡ false) → Rest → Agree h (deleting t u reply k n made (w ∷ ws)) (deleting s u reply k n made (w ∷ ws))
-    go (inl z) rest = by z rest (del-same h t s v c (q z) u (n + 1) w)
+    go : (heads h t ≡ true) ⊎ (heads h t ≡ false) → Rest
+        → Agree h (deleting (planOf b) t u reply k n made (w ∷ ws)) (deleting (planOf b) s u reply k n made (w ∷ ws))
+    go (inl z) rest = by z rest (named-same h t s v c (q z) b u (n + 1) w)
     go (inr z) rest = rw (gone-equal h t s v c z) (agree-refl h _)
 
 -- every request on sound tables, the heading sealed
 module _ (h : ℕ) (t s text reply : List ℕ) (u j : ℕ) (v : Veil h t s) (c : Sound t) (d : Sound s) (k : byte (rec t h) 0 ≡ 1)
     (n : noRead (headingCode (rec t h)) ≡ true) where
-  by-plan : (x y : Planned) → Shape t x → Same x y → Agree h (single t reply j (ran j x)) (single s reply j (ran j y))
+  by-plan : (x y : Planned) → Shape false t x → Same x y → Agree h (single t reply j (ran j x)) (single s reply j (ran j y))
   by-plan = single-agree h t s reply v c k n j
 
   granted-agree : (r : Request) → Told text r → Agree h (granted t text reply u j r) (granted s text reply u j r)
@@ -143,7 +146,8 @@ module _ (h : ℕ) (t s text reply : List ℕ) (u j : ℕ) (v : Veil h t s) (c :
       (dup-shape t c a (listOf u to) to b (begun to new) code l) (dup-same h t s v c n a (listOf u to) to b (begun to new) code l)
   granted-agree (chn old link) w =
       by-plan (chnPlan t u old link) (chnPlan s u old link) (chn-shape t c u old link (link-short _ (w .link) .1)) (chn-same h t s v c n u old link)
-  granted-agree (del names) w = del-agree h names t s u reply j 0 0 c d (veiled v (λ _. n))
+  granted-agree (del names) w = del-agree deletion h names t s u reply j 0 0 c d (veiled v (λ _. n))
+  granted-agree (dst names) w = del-agree destruction h names t s u reply j 0 0 c d (veiled v (λ _. n))
   granted-agree (dpr name code) w =
       by-plan (dprPlan t u name code) (dprPlan s u name code) (dpr-shape t c u name code (w .code)) (dpr-same h t s v c n u name code)
   granted-agree (lst from name) w =

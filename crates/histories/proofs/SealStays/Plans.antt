@@ -9,7 +9,7 @@ use native.Mathlib.Omega.{arith}
 use native.Mathlib.Decide.{ℕ-discrete}
 use lib.ListN.{length}
 use Rattle.paper.specs.Scan.{Found, at, nowhere, allBelow}
-use Rattle.paper.specs.Record.{byte, level, headingCode, lifetime, entryCode, rewritten, blank}
+use Rattle.paper.specs.Record.{byte, level, headingCode, lifetime, entryCode, names, rewritten, blank}
 use Rattle.paper.specs.Table.{rooms, rec, room}
 use Rattle.paper.specs.Declaration.{Part, orElse}
 use Rattle.paper.specs.Line.{Word}
@@ -19,8 +19,8 @@ use Rattle.paper.specs.Code.{joined, noRead}
 use Rattle.paper.specs.Sound.{implies}
 use Rattle.paper.specs.Block.{blocksOf, fileText}
 use Rattle.paper.specs.Walk.{State, start, applies, file, Walked, reached, stopped, toDirectory, toLast, lastName, lastFrom, endFrom, ended}
-use Rattle.paper.specs.Store.{Store, puts, clear, run}
-use Rattle.paper.specs.Effect.{Planned, onward, inward, chainOf, endOf, toHolder, toEnd, Making, borne, placing, displacing, readInhibited, linkTaken, making, filing, linking, newFile, withCounts, crdPlan, wrsPlan, cpyPlan, dupPlan, chnPlan, dprPlan, delPlan, rdsPlan, lstPlan, lstBasePlan, lstTreePlan, lstBaseTreePlan, emptying, laying, rewriting, rewritePlan}
+use Rattle.paper.specs.Store.{Store, puts, clear, clears, run}
+use Rattle.paper.specs.Effect.{Planned, onward, inward, chainOf, endOf, toHolder, toEnd, Making, borne, placing, displacing, readInhibited, linkTaken, making, filing, linking, newFile, withCounts, crdPlan, wrsPlan, cpyPlan, dupPlan, chnPlan, dprPlan, delPlan, freed, destroying, dstPlan, rdsPlan, lstPlan, lstBasePlan, lstTreePlan, lstBaseTreePlan, emptying, laying, rewriting, rewritePlan}
 use Rattle.laws.proofs.Tests.{implies-use}
 use Rattle.laws.proofs.Scans.{all-true}
 use Rattle.laws.proofs.Lists.{Every, every-append, join-cong, every-each}
@@ -29,11 +29,13 @@ use Rattle.laws.proofs.Entries.{found-stands}
 use Rattle.laws.proofs.Rewritten.{length-rewritten}
 use Rattle.laws.proofs.Lay.{length-rec, length-blank, within}
 use Rattle.demands.proofs.Sound.Clauses.{Sound, entry-code}
+use Rattle.demands.proofs.Request.Several.{Several, deletion, destruction, planOf}
 use Rattle.demands.proofs.Request.Ended.{Refused, checked}
 use Rattle.demands.proofs.Request.Walked.{Reached, walk-reached}
-use Rattle.histories.proofs.Calls.Anywhere.{Fits, file-fits}
-use Rattle.histories.proofs.SealStays.Veils.{Veil, rooms-veil, named-veil, rec-veil, directory-veil, find-veil, full-veil, frees-veil, text-room-veil, run-veil, counts-veil}
-use Rattle.histories.proofs.SealStays.Walks.{to-directory-veil, to-last-veil, losing-veil, settled-veil, file-text-veil, directory-lines-veil, base-lines-veil, directory-tree-veil, base-tree-veil}
+use Rattle.histories.proofs.Calls.Anywhere.{Fits, lays-fit, file-fits}
+use Rattle.histories.proofs.Calls.Requests.{freed-clears}
+use Rattle.histories.proofs.SealStays.Veils.{Veil, rooms-veil, named-veil, rec-veil, directory-veil, find-veil, full-veil, names-veil, peopled-veil, frees-veil, text-room-veil, fills-cong, run-veil, counts-veil, clears-fit}
+use Rattle.histories.proofs.SealStays.Walks.{freed-veil, to-directory-veil, to-last-veil, losing-veil, settled-veil, file-text-veil, directory-lines-veil, base-lines-veil, directory-tree-veil, base-tree-veil}
 
 -- one plan, or refused alike
 pub data Same (x y : Planned) : Type 0 where
@@ -188,6 +190,38 @@ module _ (h : ℕ) (t s : List ℕ) (v : Veil h t s) (c : Sound t) (seal : noRea
         settled-veil h t s v c (f .entry) blank l k length-blank,
         counts-veil h t s (c .whole) v (clear (f .entry) ∷ []) (length-blank, tt),
       )))
+
+  pub dst-same : (u place : ℕ) (name : Word) → Same (dstPlan t u place name) (dstPlan s u place name)
+  unfolding dstPlan
+  dst-same u place name =
+      end-same u place name _ _ (λ d f r.
+      let g : ℕ = file t f in
+      one (rw (
+        file-same f,
+        directory-veil h t s v g,
+        peopled-veil h t s v g,
+        destroying-same g (r .heading),
+        counts-veil h t s (c .whole) v (destroying t g) (destroying-fit g (r .heading)),
+      )))
+    where
+      entries-same : (g : ℕ) → clears (λ i. names g (rec s i)) (rooms s) ≡ clears (λ i. names g (rec t i)) (rooms t)
+      entries-same g =
+          fills-cong (λ i. names g (rec s i)) (λ i. names g (rec t i)) (λ _. blank) (λ _. blank) (rooms s) (rooms t) (rooms-veil h t s v)
+          (names-veil h t s v g) (λ _ _. refl)
+
+      destroying-same : (g : ℕ) → byte (rec t g) 0 ≡ 1 → destroying s g ≡ destroying t g
+      destroying-same g k = unfold destroying in rw (freed-veil h t s v g k, entries-same g)
+
+      destroying-fit : (g : ℕ) → byte (rec t g) 0 ≡ 1 → Every Fits (destroying t g)
+      destroying-fit g k =
+          unfold destroying in
+          every-append Fits (freed t g) (clears (λ i. names g (rec t i)) (rooms t)) (lays-fit _ (rooms t) (freed t g) (freed-clears t c g k))
+          (clears-fit (λ i. names g (rec t i)) (rooms t))
+
+  -- one name of either
+  pub named-same : (b : Several) (u place : ℕ) (name : Word) → Same (planOf b t u place name) (planOf b s u place name)
+  named-same deletion = del-same
+  named-same destruction = dst-same
 
   pub lst-same : (u : ℕ) (reply : List ℕ) (name : Word) → Same (lstPlan t u reply name) (lstPlan s u reply name)
   unfolding lstPlan

@@ -1,6 +1,6 @@
 -- The same stores on two such tables keep them such: each lays one record in one place of both. And the seal stays while the heading is
 -- one: only DPR lays it again with another code, with every bit that it had, and `WRS*` and counts keep its code.
-use mathlib.Core.Bool.{true, false}
+use mathlib.Core.Bool.{Bool, true, false}
 use mathlib.Core.List.{List}
 use mathlib.Core.Logic.{_⊎_, inl, inr}
 use mathlib.Core.Path.{_≡_, refl, sym}
@@ -79,9 +79,9 @@ module _ (h : ℕ) (t : List ℕ) (c : Sound t) (k : byte (rec t h) 0 ≡ 1) (n 
   kept-sealed s (inl e) = rw e n
   kept-sealed s (inr p) = put-sealed (rec s h) p
 
-  left-sealed : (s : List ℕ) → Left t s → Sealed h s
-  left-sealed s (stored each) z = kept-sealed s (each h in-h)
-  left-sealed s (rid g q y m each) z = go (each h in-h)
+  left-sealed : (b : Bool) (s : List ℕ) → Left b t s → Sealed h s
+  left-sealed b s (stored each) z = kept-sealed s (each h in-h)
+  left-sealed b s (rid g q y m each) z = go (each h in-h)
     where
       go : Kept t s h ⊎ ((rec s h ≡ blank) × Of t g h) → noRead (headingCode (rec s h)) ≡ true
       go (inl e) = kept-sealed s e
@@ -91,10 +91,10 @@ module _ (h : ℕ) (t : List ℕ) (c : Sound t) (k : byte (rec t h) 0 ≡ 1) (n 
           let x : ⊥ = omega arith in absurd x
 
   -- the first k stores of one list
-  pub stores-hidden : (s : List ℕ) → Veil h t s → (ss : List Store) → Shaped t ss → (j : ℕ) → Hidden h (run t (take j ss)) (run s (take j ss))
-  stores-hidden s v ss d j =
-      veiled (run-veil h (take j ss) t s (c .whole) (every-take _ j ss (shaped-fits t c ss d)) v)
-      (left-sealed (run t (take j ss)) (shaped-left t c ss d j))
+  pub stores-hidden : (b : Bool) (s : List ℕ) → Veil h t s → (ss : List Store) → Shaped b t ss → (j : ℕ) → Hidden h (run t (take j ss)) (run s (take j ss))
+  stores-hidden b s v ss d j =
+      veiled (run-veil h (take j ss) t s (c .whole) (every-take _ j ss (shaped-fits b t c ss d)) v)
+      (left-sealed b (run t (take j ss)) (shaped-left b t c ss d j))
 
-  pub all-hidden : (s : List ℕ) → Veil h t s → (ss : List Store) → Shaped t ss → Hidden h (run t ss) (run s ss)
-  all-hidden s v ss d = rw (take-length ss) at (stores-hidden s v ss d (length ss))
+  pub all-hidden : (b : Bool) (s : List ℕ) → Veil h t s → (ss : List Store) → Shaped b t ss → Hidden h (run t ss) (run s ss)
+  all-hidden b s v ss d = rw (take-length ss) at (stores-hidden b s v ss d (length ss))

@@ -1,7 +1,7 @@
 -- Two tables that differ at most in the text bytes of heading h: every test that the definitions make of a record gives the same, since
 -- a text record is told by its first 8 bytes, and an entry, a heading and a free record are the same in both.
 use mathlib.Core.Bool.{Bool, true, false, _&&_, not}
-use mathlib.Core.List.{List, [], _∷_, _++_, map}
+use mathlib.Core.List.{List, [], _∷_, map}
 use mathlib.Core.Logic.{_≢_, by-cases}
 use mathlib.Core.Path.{_≡_, refl, sym, _∙_}
 use Prim.Native.Nat.{ℕ, _+_, _≤_, _<_}
@@ -17,13 +17,14 @@ use Rattle.paper.specs.Table.{rooms, rec, lay, frees, place, textRoom}
 use Rattle.paper.specs.Entry.{Holder, stands, bears, find, crowd, full, named, inDirectory, peopled}
 use Rattle.paper.specs.Store.{Store, puts, fills, clears, run}
 use Rattle.paper.specs.Count.{namings, countsRight, recounted, untrue, recounts}
-use Rattle.paper.specs.Mend.{keepsText, orphan, stray, mendFirst, mendSecond, clearStores, cleared, mendStores}
+use Rattle.paper.specs.Mend.{anchored, adrift, keepsText, orphan, stray, wiped, mendFirst, mendSecond, mendThird, after₁, after₂, clearStores, cleared, mendStores}
 use Rattle.laws.proofs.Tests.{and-left}
 use Rattle.laws.proofs.Numbers.{number-cong}
 use Rattle.laws.proofs.Scans.{any-cong, first-cong}
 use Rattle.laws.proofs.Counts.{count-cong}
 use Rattle.laws.proofs.Lists.{Every, every-imp, every-append, every-below, list-cong}
 use Rattle.laws.proofs.Lay.{Whole, lay-same, length-lay}
+use Rattle.laws.proofs.Runs.{length-run}
 use Rattle.demands.proofs.Mending.Wipe.{Blanks, every-clears}
 use Rattle.histories.proofs.Calls.Anywhere.{Fits, lays-fit, lay-past, rec-apart}
 
@@ -44,7 +45,7 @@ map-same : (f g : ℕ → Store) (xs : List ℕ) → Every (λ i. f i ≡ g i) x
 map-same f g [] h = refl
 map-same f g (x ∷ xs) h = rw (h .0, map-same f g xs (h .1))
 
-fills-cong : (p q : ℕ → Bool) (a b : ℕ → List ℕ) (m n : ℕ) → m ≡ n → ((i : ℕ) → p i ≡ q i) → ((i : ℕ) → q i ≡ true → a i ≡ b i) → fills p a m ≡ fills q b n
+pub fills-cong : (p q : ℕ → Bool) (a b : ℕ → List ℕ) (m n : ℕ) → m ≡ n → ((i : ℕ) → p i ≡ q i) → ((i : ℕ) → q i ≡ true → a i ≡ b i) → fills p a m ≡ fills q b n
 unfolding fills
 fills-cong p q a b m n e f g =
     rw (e, list-cong p q n (λ i _. f i))
@@ -212,29 +213,51 @@ counts-veil h t s w v ss q = recounts-veil h (run t ss) (run s ss) (run-veil h s
 
 -- ---- mending clears the same records of both, and writes the same counts
 
-clears-fit : (p : ℕ → Bool) (n : ℕ) → Every Fits (clears p n)
+pub clears-fit : (p : ℕ → Bool) (n : ℕ) → Every Fits (clears p n)
 clears-fit p n = lays-fit (Blanks p) n (clears p n) (every-clears p n)
 
+-- a step clears the same records of both
+clears-cong : (p q : ℕ → Bool) (m n : ℕ) → m ≡ n → ((i : ℕ) → p i ≡ q i) → clears p m ≡ clears q n
+clears-cong p q m n e f = fills-cong p q _ _ m n e f (λ _ _. refl)
+
+module _ (h : ℕ) (a b : List ℕ) (u : Veil h a b) where
+  first-veil : mendFirst b ≡ mendFirst a
+  unfolding anchored
+  first-veil =
+      clears-cong (adrift b) (adrift a) (rooms b) (rooms a) (rooms-veil h a b u)
+      (λ i. rw (kind-veil h a b u 2 i, named-veil h a b u i, kind-veil h a b u 1 (headingNamed (rec a i))))
+
+  second-veil : mendSecond b ≡ mendSecond a
+  second-veil =
+      clears-cong (orphan b) (orphan a) (rooms b) (rooms a) (rooms-veil h a b u) (λ i. rw (kind-veil h a b u 1 i, unnamed-veil h a b u i))
+
+  third-veil : mendThird b ≡ mendThird a
+  third-veil =
+      clears-cong (stray b) (stray a) (rooms b) (rooms a) (rooms-veil h a b u)
+      (λ i. rw (kind-veil h a b u 3 i, number-veil h a b u 2 i 2 (omega arith), keeps-veil h a b u (headingOf (rec a i))))
+
+  -- .. and leaves them such
+  wiped-veil : Whole a → (p q : ℕ → Bool) → clears q (rooms b) ≡ clears p (rooms a) → Veil h (wiped p a) (wiped q b)
+  wiped-veil w p q e = rw e (run-veil h (clears p (rooms a)) a b w (clears-fit p (rooms a)) u)
+
 pub mend-veil : (h : ℕ) (t s : List ℕ) → Whole t → Veil h t s → mendStores s ≡ mendStores t
-unfolding mendStores clearStores cleared
-mend-veil h t s w v =
-    rw (
-      first,
-      second (run t (mendFirst t)) (run s (mendFirst t)) v₁,
-      counts-veil h t s w v (mendFirst t ++ mendSecond (run t (mendFirst t)))
-          (every-append Fits (mendFirst t) _ (clears-fit (orphan t) (rooms t)) (clears-fit (stray (run t (mendFirst t))) (rooms (run t (mendFirst t))))),
-    )
+unfolding mendStores cleared
+mend-veil h t s w v = rw (clear-veil, counts-veil h t s w v (clearStores t) clear-fits)
   where
-    v₁ : Veil h (run t (mendFirst t)) (run s (mendFirst t))
-    v₁ = run-veil h (mendFirst t) t s w (clears-fit (orphan t) (rooms t)) v
+    v₁ : Veil h (after₁ t) (after₁ s)
+    v₁ = unfold after₁ in wiped-veil h t s v w (adrift t) (adrift s) (first-veil h t s v)
 
-    clears-cong : (p q : ℕ → Bool) (m n : ℕ) → m ≡ n → ((i : ℕ) → p i ≡ q i) → clears p m ≡ clears q n
-    clears-cong p q m n e f = fills-cong p q _ _ m n e f (λ _ _. refl)
+    w₁ : Whole (after₁ t)
+    w₁ = unfold after₁ in rw (length-run t (mendFirst t)) w
 
-    first : mendFirst s ≡ mendFirst t
-    first = clears-cong (orphan s) (orphan t) (rooms s) (rooms t) (rooms-veil h t s v) (λ i. rw (kind-veil h t s v 1 i, unnamed-veil h t s v i))
+    v₂ : Veil h (after₂ t) (after₂ s)
+    v₂ = unfold after₂ in wiped-veil h (after₁ t) (after₁ s) v₁ w₁ (orphan (after₁ t)) (orphan (after₁ s)) (second-veil h (after₁ t) (after₁ s) v₁)
 
-    second : (a b : List ℕ) → Veil h a b → mendSecond b ≡ mendSecond a
-    second a b u =
-        clears-cong (stray b) (stray a) (rooms b) (rooms a) (rooms-veil h a b u)
-        (λ i. rw (kind-veil h a b u 3 i, number-veil h a b u 2 i 2 (omega arith), keeps-veil h a b u (headingOf (rec a i))))
+    clear-veil : clearStores s ≡ clearStores t
+    clear-veil = unfold clearStores in rw (first-veil h t s v, second-veil h (after₁ t) (after₁ s) v₁, third-veil h (after₂ t) (after₂ s) v₂)
+
+    clear-fits : Every Fits (clearStores t)
+    clear-fits =
+        unfold clearStores in
+        every-append Fits (mendFirst t) _ (clears-fit (adrift t) (rooms t))
+        (every-append Fits (mendSecond (after₁ t)) _ (clears-fit (orphan (after₁ t)) (rooms (after₁ t))) (clears-fit (stray (after₂ t)) (rooms (after₂ t))))

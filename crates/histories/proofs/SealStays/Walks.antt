@@ -61,7 +61,7 @@ module _ (h : ℕ) (t s : List ℕ) (v : Veil h t s) where
 
   -- ---- an entry laid or cleared, and its file
 
-  freed-veil : (g : ℕ) → byte (rec t g) 0 ≡ 1 → freed s g ≡ freed t g
+  pub freed-veil : (g : ℕ) → byte (rec t g) 0 ≡ 1 → freed s g ≡ freed t g
   unfolding freed
   freed-veil g k =
       rw (rec-veil h t s v g (λ (z : byte (rec t g) 0 ≡ 3). omega arith))

@@ -1,5 +1,5 @@
 -- The pass leaves every clause but four, each compared with what it counted; what fails refutes soundness, with or without its counts.
--- Where there are few entries of base files no list is crowded; else the crowds decide. No entry goes, so twins and crowds are the table's.
+-- Where there are few entries of base files no list is crowded; else the crowds decide. All of it is said of the table without the records that go.
 use mathlib.Core.Bool.{true}
 use mathlib.Core.Path.{_≡_, refl, sym, _∙_}
 use native.Mathlib.Omega.{arith}
@@ -12,8 +12,9 @@ use Rattle.judge_laws.specs.Mask.{without}
 use Rattle.judge_laws.specs.Twins.{noTwins}
 use Rattle.judge_laws.proofs.Chains.{chains-none}
 use Rattle.judge_laws.proofs.Crowds.{ranked-none}
-use Rattle.judge_laws.proofs.Pass.{refuted-total, refuted-twins, passed-none, passed-single, passed-all, passed-few}
+use Rattle.judge_laws.proofs.Pass.{refuted-total, passed-none, passed-single, passed-all, passed-few}
 use Rattle.judge_laws.proofs.Counts.{sound-not-shaped, sound-not-headed, headed-named, sound-headed}
+use Rattle.judge_laws.proofs.Sound.{shaped-not-twins}
 use Rattle.laws.proofs.Sound.{sized-whole}
 use Rattle.judge.proofs.is_sound.Statement.{statement}
 use Rattle.judge.proofs.is_sound.Tie as tie
@@ -98,9 +99,9 @@ returns-5 : tie.Need-returns-5
 returns-5 c =
     let c11 = c .before .before .before .before .before .before .before .before .before .before .before in
     let a = c11 .before .before .before .before .before .before .before .before .before .before .before .before .before in
-    let w = sized-whole (a .args .table .now) (a .pre) in
-    sym (sound-not-shaped (a .args .counted) (without (a .args .gone .now) (a .args .table .now))
-    (refuted-twins (a .args .gone .now) (a .args .table .now) (w .0) (sym (c .before .none-are-twins .ensures .0) ∙ not-true _ (c .if5 .taken))))
+    let u = without (a .args .gone .now) (a .args .table .now) in
+    sym (sound-not-shaped (a .args .counted) u
+    (shaped-not-twins u (sym (c .before .none-are-twins .ensures .0) ∙ not-true _ (c .if5 .taken))))
 
 returns-6 : tie.Need-returns-6
 returns-6 c =
@@ -116,7 +117,7 @@ returns-6 c =
     let l = c23 .lay-out .ensures .1 (omega arith) in
     let p = c13 .pass-all .ensures .1 (not-false _ (c9 .before .before .if2 .left)) in
     let n : allHeaded (a .args .counted) (without g t) ≡ true = sym (c5 .before .are-named .ensures) ∙ not-false _ (c5 .if4 .left) in
-    let o : noTwins t ≡ true = sym (c .before .before .before .none-are-twins .ensures .0) ∙ not-false _ (c .before .before .if5 .left) in
+    let o : noTwins (without g t) ≡ true = sym (c .before .before .before .none-are-twins .ensures .0) ∙ not-false _ (c .before .before .if5 .left) in
     sym (sound-headed (a .args .counted) (without g t) n
     ∙ passed-all g t (w .0) _ _ _ _ _ _ _ _ _ (l .0) p (c9 .if3 .left ∙ l .1) (headed-named (a .args .counted) (without g t) n) o
     ∙ passed-few g t (w .0) _ _ _ _ _ _ _ _ _ (l .0) p (w .1) (c .if6 .taken))
@@ -147,7 +148,7 @@ returns-7 c =
     let l = c27 .lay-out .ensures .1 (omega arith) in
     let p = c17 .pass-all .ensures .1 (not-false _ (c13 .before .before .if2 .left)) in
     let n : allHeaded (a .args .counted) (without g t) ≡ true = sym (c9 .before .are-named .ensures) ∙ not-false _ (c9 .if4 .left) in
-    let o : noTwins t ≡ true = sym (c6 .before .none-are-twins .ensures .0) ∙ not-false _ (c6 .if5 .left) in
+    let o : noTwins (without g t) ≡ true = sym (c6 .before .none-are-twins .ensures .0) ∙ not-false _ (c6 .if5 .left) in
     c .crowd-all .ensures
     ∙ sym (sound-headed (a .args .counted) (without g t) n
     ∙ passed-all g t (w .0) _ _ _ _ _ _ _ _ _ (l .0) p (c13 .if3 .left ∙ l .1) (headed-named (a .args .counted) (without g t) n) o)

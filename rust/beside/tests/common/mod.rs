@@ -2,6 +2,8 @@
 //! ask requests at, and a generator of numbers.
 #![allow(dead_code)]
 
+pub mod told;
+
 use beside::Answer;
 
 /// The byte that fills a reply buffer before each request.

@@ -4,7 +4,7 @@ use native.Mathlib.Omega.{arith}
 use borrow.Author.Needs.{needs}
 use Rattle.paper.specs.Table.{rec}
 use Rattle.laws.proofs.Lay.{length-rec}
-use Rattle.judge_laws.proofs.Counts.{says-number}
+use Rattle.records.proofs.Said.{says-number}
 use Rattle.judge.proofs.counts.is_said.Statement.{statement}
 use Rattle.judge.proofs.counts.is_said.Tie as tie
 

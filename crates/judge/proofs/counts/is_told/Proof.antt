@@ -6,7 +6,7 @@ use borrow.Author.Needs.{needs}
 use Rattle.paper.specs.Record.{isKind}
 use Rattle.paper.specs.Table.{rec}
 use Rattle.laws.proofs.Tests.{and-both, and-no-right}
-use Rattle.judge_laws.proofs.Counts.{tells-not, tells-file, tells-directory}
+use Rattle.records.proofs.Said.{tells-not, tells-file, tells-directory}
 use Rattle.judge.proofs.counts.is_told.Statement.{statement}
 use Rattle.judge.proofs.counts.is_told.Tie as tie
 

@@ -4,6 +4,7 @@ use mathlib.Core.Path.{sym, ap, _∙_}
 use Prim.Native.Nat.{_+_}
 use native.Mathlib.Omega.{arith}
 use borrow.Author.Needs.{needs}
+use Rattle.judge_laws.specs.Mask.{without}
 use Rattle.judge_laws.proofs.Crowds.{rank-first, rank-next}
 use Rattle.judge.proofs.crowds.rank_of.Statement.{statement}
 use Rattle.judge.proofs.crowds.rank_of.Tie as tie
@@ -11,7 +12,7 @@ use Rattle.judge.proofs.crowds.rank_of.Tie as tie
 returns : tie.Need-returns
 returns c =
     let a = c .before .before in
-    sym (rank-first (a .args .t .now) (a .args .i) (a .args .last) (a .pre .2) (a .pre .4) (omega arith))
+    sym (rank-first (without (a .args .gone .now) (a .args .t .now)) (a .args .i) (a .args .last) (a .pre .2) (a .pre .4) (omega arith))
 
 sub-wide : tie.Need-sub-wide
 sub-wide c = search needs
@@ -30,7 +31,8 @@ returns-2 c =
     let c4 = c .before .before .before .before in
     let a = c4 in
     ap (λ m. m + 1) (c .wide .ensures .0) ∙ sym
-    (rank-next (a .args .t .now) (a .args .rank .now) (a .args .i) (a .args .last) (a .pre .3) (a .pre .2) (a .pre .4) (omega arith))
+    (rank-next (without (a .args .gone .now) (a .args .t .now)) (a .args .rank .now) (a .args .i) (a .args .last) (a .pre .3) (a .pre .2) (a .pre .4)
+    (omega arith))
 
 pub rank-of-spec : {M : Type 1} → statement M
 rank-of-spec =

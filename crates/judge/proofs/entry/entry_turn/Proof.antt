@@ -8,7 +8,8 @@ use borrow.Author.Tests.{not-true, not-false}
 use Rattle.judge_laws.specs.Mask.{without}
 use Rattle.judge_laws.specs.Shapes.{entryRight}
 use Rattle.paper.specs.Table.{rec}
-use Rattle.judge_laws.proofs.Pass.{entry-names, entry-stands, refuted-entry, refuted-crowd, refuted-twin}
+use Rattle.judge_laws.proofs.Pass.{entry-names, entry-stands, refuted-entry, refuted-twin}
+use Rattle.judge_laws.proofs.Sound.{shaped-not-crowded}
 use Rattle.judge.proofs.entry.entry_turn.Statement.{statement}
 use Rattle.judge.proofs.entry.entry_turn.Tie as tie
 
@@ -40,7 +41,7 @@ hold-turn-requires c κs =
 returns-2 : tie.Need-returns-2
 returns-2 c =
     let a = c .before .before .before .before .before .before .before in (
-      λ f. refuted-crowd (a .args .gone .now) (a .args .t .now) (a .pre .1) (c .before .hold-turn .ensures .0 (not-true _ (c .if2 .taken))),
+      λ f. shaped-not-crowded (without (a .args .gone .now) (a .args .t .now)) (c .before .hold-turn .ensures .0 (not-true _ (c .if2 .taken))),
       λ f. absurd (true≢false (sym f)),
     )
 

@@ -10,7 +10,10 @@ use Rattle.paper.specs.Entry.{named}
 use Rattle.paper.specs.Sound.{implies}
 use Rattle.paper.specs.Table.{rec}
 use Rattle.laws.proofs.Tests.{and-no-left}
-use Rattle.judge_laws.proofs.Counts.{namings-all, holdings-all, named-tells, counts-tell, headed-other, headed-gone, headed-stays}
+use Rattle.judge_laws.specs.Mask.{without}
+use Rattle.judge_laws.proofs.Mask.{rooms-without}
+use Rattle.records.proofs.Numbered.{namings-all, holdings-all, named-tells, counts-tell}
+use Rattle.judge_laws.proofs.Counts.{headed-other, headed-gone, headed-stays}
 use Rattle.judge.proofs.pass.is_named.Statement.{statement}
 use Rattle.judge.proofs.pass.is_named.Tie as tie
 
@@ -44,25 +47,27 @@ returns-3 c =
     let stays = c .before .before in
     let kind = stays .before .before .before in
     let a = kind .before .before in
-    let t = a .args .t .now in
+    let v = a .args .t .now in
+    let t = without (a .args .gone .now) v in
     let i = a .args .i in
-    let n : named t i ≡ false =
-    sym (named-tells t (a .args .named .now) i (namings-all t (a .args .named .now) (a .pre .3)) (omega arith)) ∙ ap not (eq-eqb _ _ (c .if3 .taken)) in
-    sym (headed-stays (a .args .gone .now) t (a .pre .1) (a .args .counted) i
+    let x = namings-all t (a .args .named .now) (rw (rooms-without (a .args .gone .now) v) (a .pre .3)) in
+    let n : named t i ≡ false = sym (named-tells t (a .args .named .now) i x (omega arith)) ∙ ap not (eq-eqb _ _ (c .if3 .taken)) in
+    sym (headed-stays (a .args .gone .now) v (a .pre .1) (a .args .counted) i
     (sym (kind .raw-of .ensures) ∙ stays .before .before .if1 .left) (eq-eqb _ _ (stays .if2 .left))
-    ∙ and-no-left (named t i) (implies (a .args .counted) (countsRight t i (rec t i))) n)
+    ∙ and-no-left (named t i) (implies (a .args .counted) (countsRight t i (rec v i))) n)
 
 returns-4 : tie.Need-returns-4
 returns-4 c =
     let stays = c .before .before .before in
     let kind = stays .before .before .before in
     let a = kind .before .before in
-    let t = a .args .t .now in
+    let v = a .args .t .now in
+    let t = without (a .args .gone .now) v in
     let i = a .args .i in
-    let n : named t i ≡ true =
-    sym (named-tells t (a .args .named .now) i (namings-all t (a .args .named .now) (a .pre .3)) (omega arith)) ∙ ap not (ne-eqb _ _ (c .before .if3 .left)) in
+    let x = namings-all t (a .args .named .now) (rw (rooms-without (a .args .gone .now) v) (a .pre .3)) in
+    let n : named t i ≡ true = sym (named-tells t (a .args .named .now) i x (omega arith)) ∙ ap not (ne-eqb _ _ (c .before .if3 .left)) in
     let e : a .args .counted ≡ false = not-true _ (c .if4 .taken) in
-    sym (headed-stays (a .args .gone .now) t (a .pre .1) (a .args .counted) i
+    sym (headed-stays (a .args .gone .now) v (a .pre .1) (a .args .counted) i
     (sym (kind .raw-of .ensures) ∙ stays .before .before .if1 .left) (eq-eqb _ _ (stays .if2 .left))
     ∙ rw (n, e))
 
@@ -90,16 +95,17 @@ returns-5 c =
     let stays = some .before .before in
     let kind = stays .before .before .before in
     let a = kind .before .before in
-    let t = a .args .t .now in
+    let v = a .args .t .now in
+    let t = without (a .args .gone .now) v in
     let i = a .args .i in
-    let x = namings-all t (a .args .named .now) (a .pre .3) in
-    let y = holdings-all t (a .args .held .now) (a .pre .4) in
+    let x = namings-all t (a .args .named .now) (rw (rooms-without (a .args .gone .now) v) (a .pre .3)) in
+    let y = holdings-all t (a .args .held .now) (rw (rooms-without (a .args .gone .now) v) (a .pre .4)) in
     let n : named t i ≡ true = sym (named-tells t (a .args .named .now) i x (omega arith)) ∙ ap not (ne-eqb _ _ (some .if3 .left)) in
     let e : a .args .counted ≡ true = not-false _ (c .before .before .before .before .if4 .left) in
     c .is-told .ensures
     ∙ rw (c .before .before .before .wide16 .ensures .0, c .before .wide .ensures .0)
-    (counts-tell t (a .args .named .now) (a .args .held .now) i (rec t i) x y (omega arith)
-    ∙ sym (headed-stays (a .args .gone .now) t (a .pre .1) (a .args .counted) i
+    (counts-tell t (a .args .named .now) (a .args .held .now) i (rec v i) x y (omega arith)
+    ∙ sym (headed-stays (a .args .gone .now) v (a .pre .1) (a .args .counted) i
     (sym (kind .raw-of .ensures) ∙ stays .before .before .if1 .left) (eq-eqb _ _ (stays .if2 .left))
     ∙ rw (n, e)))
 

@@ -8,10 +8,12 @@ use lib.ListN.{length-set}
 use borrow.Author.Needs.{needs}
 use borrow.Author.Tests.{not-true, not-false}
 use Rattle.judge_laws.specs.Chains.{lastIn}
+use Rattle.judge_laws.specs.Mask.{without}
 use Rattle.judge_laws.specs.Twins.{twinTo, hashOf}
 use Rattle.paper.specs.Scan.{anyBelow}
 use Rattle.paper.specs.Table.{rec}
 use Rattle.judge_laws.proofs.Chains.{chains-entry}
+use Rattle.judge_laws.proofs.Mask.{rec-entry}
 use Rattle.judge_laws.proofs.Twins.{hash-below}
 use Rattle.judge.proofs.twins.chain_turn.Statement.{statement}
 use Rattle.judge.proofs.twins.chain_turn.Tie as tie
@@ -45,11 +47,14 @@ twin-before-requires : tie.Need-twin-before-requires
 twin-before-requires c κs =
     let c3 = c .before .before .before in
     let a = c3 .before .before .before in
-    let t = a .args .t .now in
+    let t = without (a .args .gone .now) (a .args .t .now) in
+    let q = rec-entry (a .args .gone .now) (a .args .t .now) (a .args .i) (a .pre .0) (a .pre .2) in
+    let b = c3 .hash-of .ensures .0 ∙ ap hashOf (sym q) in
     let h = a .pre .3 .chains (omega arith) in (
       omega arith,
       omega arith,
-      c .wide16 .ensures .0 ∙ h .heads (c3 .hash-of .result) (omega arith) ∙ ap (λ b. lastIn hashOf t b (a .args .i)) (c3 .hash-of .ensures .0),
+      a .pre .2,
+      c .wide16 .ensures .0 ∙ h .heads (c3 .hash-of .result) (omega arith) ∙ ap (λ b. lastIn hashOf t b (a .args .i)) b,
       h .nexts,
     )
 
@@ -57,7 +62,7 @@ returns-2 : tie.Need-returns-2
 returns-2 c =
     let w = c .before .before .twin-before .ensures in
     let a = c .before .before .before .before .before .before .before .before .before in
-    let t = a .args .t .now in (
+    let t = without (a .args .gone .now) (a .args .t .now) in (
       λ f. let e : anyBelow (twinTo t (a .args .i)) (a .args .i) ≡ true = w .0 (not-true _ (c .if2 .taken)) in rw (a .pre .2, e),
       λ f. absurd (true≢false (sym f ∙ not-true _ (c .if2 .taken))),
       w .2,
@@ -90,14 +95,16 @@ returns-3 c =
     let w = c .before .before .twin-before .ensures in
     let c6 = c .before .before .before .before .before .before in
     let a = c6 .before .before .before in
-    let t = a .args .t .now in
+    let t = without (a .args .gone .now) (a .args .t .now) in
+    let q = rec-entry (a .args .gone .now) (a .args .t .now) (a .args .i) (a .pre .0) (a .pre .2) in
+    let b = c6 .hash-of .ensures .0 ∙ ap hashOf (sym q) in
     let r = not-false _ (c .if2 .left) in
     let none : 0 < c .before .before .twin-before .result .left → anyBelow (twinTo t (a .args .i)) (a .args .i) ≡ false = λ l. w .1 r l in (
       λ f. absurd (true≢false (sym r ∙ f)),
       λ f. (
         λ l. rw (a .pre .2, none l),
         record {
-          chains = λ l. rw (c6 .hash-of .ensures .0)
+          chains = λ l. rw b
               (chains-entry hashOf t (a .args .head .now) (a .args .next .now) (a .args .i) (a .pre .3 .chains (omega arith)) (hash-below (rec t (a .args .i)))
               (omega arith) (a .pre .2));
           head-long = rw length-set (a .pre .3 .head-long);

@@ -53,35 +53,41 @@ read-chn-requires c κs = tt
 enum-told-7 : tie.Need-enum-told-7
 enum-told-7 c = search needs
 
-read-del-requires : tie.Need-read-del-requires
-read-del-requires c κs = tt
+read-names-requires : tie.Need-read-names-requires
+read-names-requires c κs = tt
 
 enum-told-8 : tie.Need-enum-told-8
 enum-told-8 c = search needs
 
-read-dpr-requires : tie.Need-read-dpr-requires
-read-dpr-requires c κs = tt
+read-names-requires-2 : tie.Need-read-names-requires-2
+read-names-requires-2 c κs = tt
 
 enum-told-9 : tie.Need-enum-told-9
 enum-told-9 c = search needs
 
-read-lst-requires : tie.Need-read-lst-requires
-read-lst-requires c κs = tt
+read-dpr-requires : tie.Need-read-dpr-requires
+read-dpr-requires c κs = tt
 
 enum-told-10 : tie.Need-enum-told-10
 enum-told-10 c = search needs
 
-read-tree-requires : tie.Need-read-tree-requires
-read-tree-requires c κs = tt
+read-lst-requires : tie.Need-read-lst-requires
+read-lst-requires c κs = tt
 
 enum-told-11 : tie.Need-enum-told-11
 enum-told-11 c = search needs
 
-read-rewrite-requires : tie.Need-read-rewrite-requires
-read-rewrite-requires c κs = tt
+read-tree-requires : tie.Need-read-tree-requires
+read-tree-requires c κs = tt
 
 enum-told-12 : tie.Need-enum-told-12
 enum-told-12 c = search needs
+
+read-rewrite-requires : tie.Need-read-rewrite-requires
+read-rewrite-requires c κs = tt
+
+enum-told-13 : tie.Need-enum-told-13
+enum-told-13 c = search needs
 
 returns : tie.Need-returns
 returns c =
@@ -130,41 +136,48 @@ returns-7 c =
     let told = c .before in
     let of = told .before .before in
     let f = first-word _ _ _ _ _ (of .before .before .word-at .ensures) (of .before .lone-word .ensures) (of .of .ensures) in
-    rw (f (told .enum-told7 .given .1)) (c .read-del .ensures)
+    rw (f (told .enum-told7 .given .1)) (c .read-names .ensures)
 
 returns-8 : tie.Need-returns-8
 returns-8 c =
     let told = c .before in
     let of = told .before .before in
     let f = first-word _ _ _ _ _ (of .before .before .word-at .ensures) (of .before .lone-word .ensures) (of .of .ensures) in
-    rw (f (told .enum-told8 .given .1)) (c .read-dpr .ensures)
+    rw (f (told .enum-told8 .given .1)) (c .read-names2 .ensures)
 
 returns-9 : tie.Need-returns-9
 returns-9 c =
     let told = c .before in
     let of = told .before .before in
     let f = first-word _ _ _ _ _ (of .before .before .word-at .ensures) (of .before .lone-word .ensures) (of .of .ensures) in
-    rw (f (told .enum-told9 .given .1)) (c .read-lst .ensures)
+    rw (f (told .enum-told9 .given .1)) (c .read-dpr .ensures)
 
 returns-10 : tie.Need-returns-10
 returns-10 c =
     let told = c .before in
     let of = told .before .before in
     let f = first-word _ _ _ _ _ (of .before .before .word-at .ensures) (of .before .lone-word .ensures) (of .of .ensures) in
-    rw (f (told .enum-told10 .given .1)) (c .read-tree .ensures)
+    rw (f (told .enum-told10 .given .1)) (c .read-lst .ensures)
 
 returns-11 : tie.Need-returns-11
 returns-11 c =
     let told = c .before in
     let of = told .before .before in
     let f = first-word _ _ _ _ _ (of .before .before .word-at .ensures) (of .before .lone-word .ensures) (of .of .ensures) in
-    rw (f (told .enum-told11 .given .1)) (c .read-rewrite .ensures)
+    rw (f (told .enum-told11 .given .1)) (c .read-tree .ensures)
 
 returns-12 : tie.Need-returns-12
 returns-12 c =
+    let told = c .before in
+    let of = told .before .before in
+    let f = first-word _ _ _ _ _ (of .before .before .word-at .ensures) (of .before .lone-word .ensures) (of .of .ensures) in
+    rw (f (told .enum-told12 .given .1)) (c .read-rewrite .ensures)
+
+returns-13 : tie.Need-returns-13
+returns-13 c =
     let of = c .before .before in
     let f = first-word _ _ _ _ _ (of .before .before .word-at .ensures) (of .before .lone-word .ensures) (of .of .ensures) in
-    rw (f (c .enum-told12 .given .1))
+    rw (f (c .enum-told13 .given .1))
 
 pub read-function-spec : {M : Type 1} → statement M
 read-function-spec =
@@ -186,16 +199,18 @@ read-function-spec =
     enum-told-6
     read-chn-requires
     enum-told-7
-    read-del-requires
+    read-names-requires
     enum-told-8
-    read-dpr-requires
+    read-names-requires-2
     enum-told-9
-    read-lst-requires
+    read-dpr-requires
     enum-told-10
-    read-tree-requires
+    read-lst-requires
     enum-told-11
-    read-rewrite-requires
+    read-tree-requires
     enum-told-12
+    read-rewrite-requires
+    enum-told-13
     returns
     returns-2
     returns-3
@@ -207,4 +222,5 @@ read-function-spec =
     returns-9
     returns-10
     returns-11
-    returns-12)
+    returns-12
+    returns-13)

@@ -89,28 +89,37 @@ unfolding functionOf same
 returns-8 c =
     let s = c .before .args in
     let x : s .a ≡ 68 = omega arith in
-    let y : s .b ≡ 80 = omega arith in
-    let z : s .c ≡ 82 = omega arith in
+    let y : s .b ≡ 83 = omega arith in
+    let z : s .c ≡ 84 = omega arith in
     rw (x, y, z)
 
 returns-9 : tie.Need-returns-9
 unfolding functionOf same
 returns-9 c =
     let s = c .before .args in
+    let x : s .a ≡ 68 = omega arith in
+    let y : s .b ≡ 80 = omega arith in
+    let z : s .c ≡ 82 = omega arith in
+    rw (x, y, z)
+
+returns-10 : tie.Need-returns-10
+unfolding functionOf same
+returns-10 c =
+    let s = c .before .args in
     let x : s .a ≡ 76 = omega arith in
     let y : s .b ≡ 83 = omega arith in
     let z : s .c ≡ 84 = omega arith in
     rw (x, y, z)
 
-returns-10 : tie.Need-returns-10
+returns-11 : tie.Need-returns-11
 unfolding functionOf
-returns-10 c =
+returns-11 c =
     let s = c .before .args in
     let no = no-letters (s .a) (s .b) (s .c) in
     let r = c .match .rest in
-    let q = r .0 .0 .0 .0 in
+    let q = r .0 .0 .0 .0 .0 in
     rw (no 67 82 68 (q .0 .0 .0 .0 .1), no 87 82 83 (q .0 .0 .0 .1), no 82 68 83 (q .0 .0 .1), no 67 80 89 (q .0 .1), no 68 85 80 (q .1))
-    (rw (no 67 72 78 (r .0 .0 .0 .1), no 68 69 76 (r .0 .0 .1), no 68 80 82 (r .0 .1), no 76 83 84 (r .1))
+    (rw (no 67 72 78 (r .0 .0 .0 .0 .1), no 68 69 76 (r .0 .0 .0 .1), no 68 83 84 (r .0 .0 .1), no 68 80 82 (r .0 .1), no 76 83 84 (r .1))
     (rw (no-four (s .a) (s .b) (s .c) 76 83 84 42, no-four (s .a) (s .b) (s .c) 87 82 83 42)))
 
 pub of-letters-spec : {M : Type 1} → statement M
@@ -130,4 +139,5 @@ of-letters-spec =
     returns-7
     returns-8
     returns-9
-    returns-10)
+    returns-10
+    returns-11)
