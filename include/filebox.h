@@ -1,8 +1,9 @@
 /*
  * The file box: requests and mending over a table that the caller lends (document 01, "Records, requests and replies of the file box"),
- * with parts of a sheet, trees, rewrites, gives and takes, files destroyed everywhere, and counts in the headings (document 02), and the
- * lamp, which files the sheets of a job and reads each back (its request m). Link with libfilebox_c.a, which `rt staticlib filebox_c`
- * writes for x86-64; it keeps nothing between calls, allocates nothing, and needs of the C library at most memcpy, memmove and memset.
+ * with parts of a sheet, trees, rewrites, gives and takes, files destroyed everywhere, counts in the headings and names of six bits a
+ * character in the entries (document 02), and the lamp, which files the sheets of a job and reads each back (its request m). Link with
+ * libfilebox_c.a, which `rt staticlib filebox_c` writes for x86-64; it keeps nothing between calls, allocates nothing, and needs of the C
+ * library at most memcpy, memmove and memset.
  *
  * The functions are proved for every table, line, text, reply buffer, sheets, texts, read-back buffer, chain, user and stop number:
  * whatever the bytes are, a call returns, with one of the numbers below. The proof begins where C hands its arguments over, so these the
@@ -23,7 +24,13 @@
 extern "C" {
 #endif
 
-/* A record has 32 bytes; a table has 0 to 2,048 of them, and all bytes 0 is a table of free records. */
+/*
+ * A record has 32 bytes; a table has 0 to 2,048 of them, and all bytes 0 is a table of free records. An entry (byte 0 is 2) holds its name in
+ * bytes 10 to 17, as one number, the low byte first: ten codes of six bits, a character less 32, the first character highest, 0 after the
+ * last; byte 9 and bytes 18 to 31 are 0. So the entry .R of user 1 that names record 0 is 2, 0, 255, 255, 0, 0, 1, nine zeros, 178, 3,
+ * fourteen zeros. A table from before, with the name's length in byte 9 and its characters from byte 10 on, is not sound (2): see
+ * filebox_to_six.
+ */
 #define FILEBOX_RECORD 32u
 #define FILEBOX_MOST_RECORDS 2048u
 /* The longest request line and the longest text, in bytes. Of RDS and LST no reply has more bytes than such a text. */
@@ -129,12 +136,29 @@ struct filebox_answer filebox_request(uint8_t *table, size_t table_length, const
 /*
  * Mending, after a power cut: clears every entry that names no heading, then every heading that no entry names, then every text record whose
  * heading is not a simple file's, or is marked; then corrects the counts of the headings that are left, a store for each that has an untrue
- * one. A mark stays. A sound table is left as it is. A table of document 01, which has no counts, is brought up to date by one mend.
+ * one. A mark stays. A sound table is left as it is. A table without counts is brought up to date by one mend.
  *
  * Done (0): the table is sound. Refused (1, 2): it is as lent. Stopped (22): the first stop stores stand, and a mend cut anywhere and run
  * again ends as an uncut one. place, link, names, displaced and bytes are 0.
  */
 struct filebox_answer filebox_mend(uint8_t *table, size_t table_length, uint32_t stop);
+
+/*
+ * Conversion of a table of the old layout, in which an entry has the length of its name in byte 9 and its characters in bytes 10 to 19, to names
+ * of six bits, and back. Each entry is converted in its place and all else stays. Every request answers on the converted table as it did on the old
+ * one, and leaves the conversion of what it left there; a table converted there and back is the table lent, byte for byte.
+ *
+ * 0: table was sound in the layout that it is converted from, and is now sound in the other one.
+ * 1: its length is no multiple of 32, or above 65,536. It is as lent.
+ * 2: it is not sound in the layout that it is converted from. It is as lent. So a table that has entries gets 2 from the second of two calls of
+ *    the same function; one without entries is of both layouts, and gets 0 and stays. A table that was cut gets 2 until it is mended, by the
+ *    library that wrote it.
+ *
+ * There is no stop number, and nothing is promised of a conversion that the power cuts, not even that mending helps: convert a copy, and put it
+ * in the table's place when it is whole.
+ */
+uint32_t filebox_to_six(uint8_t *table, size_t table_length);
+uint32_t filebox_from_six(uint8_t *table, size_t table_length);
 
 /*
  * A job sheet: a record of 32 bytes for each sheet, in order. Its first 10 bytes are the link name under which the sheet is filed, zeros

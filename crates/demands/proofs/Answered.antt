@@ -15,6 +15,7 @@ use lib.ListN.{length, take, drop, length-append, length-drop}
 use lib.Seq.{drop-append-seam}
 use lib.Dec.{eqb}
 use borrow.Author.Tests.{ne-eqb}
+use Rattle.paper.specs.Layout.{boxed}
 use Rattle.paper.specs.Line.{Word}
 use Rattle.paper.specs.Check as paper
 use Rattle.paper.specs.Check.{Place, Refusal}
@@ -113,10 +114,10 @@ module _ (t line reply : List ℕ) where
       rw q (answered-whole _ (0 + k) 22 (0 + m) (0 + k) refl refl (omega arith) (length-run t₁ (take (0 + k - made₁) (p .stores)) ∙ h .size))
 
 -- demand 1: for every table, line, text, reply buffer, user and stop number
-pub answered : (t line text reply : List ℕ) (u k : ℕ) → Answered t line reply k (requested t line text reply u k)
+pub answered : (t line text reply : List ℕ) (u k : ℕ) → Answered t line reply k (requested boxed t line text reply u k)
 answered t line text reply u k = go (came t line text reply u)
   where
-    go : Came t line text reply u → Answered t line reply k (requested t line text reply u k)
+    go : Came t line text reply u → Answered t line reply k (requested boxed t line text reply u k)
     go (lent f h e) = rw (e k) (answered-refused t line reply t k 0 0 f h (omega arith) refl)
     go (planned r q d p h e) = rw (e k) (answered-single t line reply k p h)
     go (deletes v ws q s e) = rw (e k) (rw zero-add at (answered-deleted t line reply v u k ws _ s (deleted v t u reply k 0 0 ws)))
@@ -132,10 +133,10 @@ abbrev pub Lends : List ℕ → Outcome → Type 0
 Lends t o = o .answer .number ≢ 0 → o .answer .number ≢ 22 → (o .table ≡ t) × (o .answer .stores ≡ 0)
 
 -- "All but DEL and 22 leave the table as lent"; document 02: "whatever demand 1 .. [excepts] .. for a DEL of several names holds for DST too"
-pub refusal-lends : (t line text reply : List ℕ) (u k : ℕ) → NoDel line text → Lends t (requested t line text reply u k)
+pub refusal-lends : (t line text reply : List ℕ) (u k : ℕ) → NoDel line text → Lends t (requested boxed t line text reply u k)
 refusal-lends t line text reply u k d = go (came t line text reply u)
   where
-    go : Came t line text reply u → Lends t (requested t line text reply u k)
+    go : Came t line text reply u → Lends t (requested boxed t line text reply u k)
     go (lent f h e) = rw (e k) (λ _ _. (refl, refl))
     go (planned r q x P h e) =
         rw (e k)
@@ -149,10 +150,10 @@ CountsOne o = o .answer .names ≡ cond (eqb (o .answer .number) 0) 1 0
 counts-none : (names : ℕ → List (List ℕ)) (t reply : List ℕ) (f : Refusal) → Fair names f → CountsOne (refusing t reply f)
 counts-none names t reply f h = rw (ne-eqb (f .number) 0 (λ (z : f .number ≡ 0). omega (arith, fair-some names f h)))
 
-pub names-done : (t line text reply : List ℕ) (u k : ℕ) → NoDel line text → CountsOne (requested t line text reply u k)
+pub names-done : (t line text reply : List ℕ) (u k : ℕ) → NoDel line text → CountsOne (requested boxed t line text reply u k)
 names-done t line text reply u k d = go (came t line text reply u)
   where
-    go : Came t line text reply u → CountsOne (requested t line text reply u k)
+    go : Came t line text reply u → CountsOne (requested boxed t line text reply u k)
     go (lent f h e) = rw (e k) (counts-none (namesAt line) t reply f h)
     go (planned r q x P h e) =
         rw (e k)
@@ -164,12 +165,12 @@ names-done t line text reply u k d = go (came t line text reply u)
 pub record Stopped (t line text reply : List ℕ) (u k : ℕ) : Type 0 where
   pub stores : List Store
   pub more : k < length stores
-  pub table : requested t line text reply u k .table ≡ run t (take k stores)
-  pub made : requested t line text reply u k .answer .stores ≡ k
+  pub table : requested boxed t line text reply u k .table ≡ run t (take k stores)
+  pub made : requested boxed t line text reply u k .answer .stores ≡ k
   pub uncut : (j : ℕ) → length stores ≤ j
-      → (requested t line text reply u j .answer .number ≡ 0) × (requested t line text reply u j .table ≡ run t stores)
+      → (requested boxed t line text reply u j .answer .number ≡ 0) × (requested boxed t line text reply u j .table ≡ run t stores)
 
-pub stop-cuts : (t line text reply : List ℕ) (u k : ℕ) → NoDel line text → requested t line text reply u k .answer .number ≡ 22
+pub stop-cuts : (t line text reply : List ℕ) (u k : ℕ) → NoDel line text → requested boxed t line text reply u k .answer .number ≡ 22
     → Stopped t line text reply u k
 stop-cuts t line text reply u k d n = go (came t line text reply u)
   where
@@ -191,11 +192,11 @@ stop-cuts t line text reply u k d n = go (came t line text reply u)
 
 -- a request that is a DEL or a DST is refused before it is tried, or goes name by name
 pub del-came : (X : Outcome → Type 0) (v : Several) (t line text reply : List ℕ) (u k : ℕ) (ws : List Word) → asked line text ≡ request (asking v ws)
-    → ((f : Refusal) → Fair (namesAt line) f → X (refusing t reply f)) → X (deleting (planOf v) t u reply k 0 0 ws) → X (requested t line text reply u k)
+    → ((f : Refusal) → Fair (namesAt line) f → X (refusing t reply f)) → X (deleting (planOf v) t u reply k 0 0 ws) → X (requested boxed t line text reply u k)
 del-came X v t line text reply u k ws q a b = go v q b (came t line text reply u)
   where
     go : (v : Several) → asked line text ≡ request (asking v ws) → X (deleting (planOf v) t u reply k 0 0 ws) → Came t line text reply u
-        → X (requested t line text reply u k)
+        → X (requested boxed t line text reply u k)
     go v q b (lent f h e) = rw (e k) (a f h)
     go deletion q b (planned r p x P h e) = let c : r ≡ del ws = cc in absurd (true≢false (rw c at x))
     go destruction q b (planned r p x P h e) = let c : r ≡ dst ws = cc in absurd (true≢false (rw c at x))
@@ -206,14 +207,14 @@ del-came X v t line text reply u k ws q a b = go v q b (came t line text reply u
 
 -- a DEL or a DST leaves the table, and has made the stores, of the names that it did, but for 22; there it stopped in the next one
 pub del-leaves : (v : Several) (t line text reply : List ℕ) (u k : ℕ) (ws : List Word) → asked line text ≡ request (asking v ws)
-    → requested t line text reply u k .answer .number ≢ 22 → Leaves v t u reply k ws (requested t line text reply u k)
+    → requested boxed t line text reply u k .answer .number ≢ 22 → Leaves v t u reply k ws (requested boxed t line text reply u k)
 del-leaves v t line text reply u k ws q =
     del-came (λ o. o .answer .number ≢ 22 → Leaves v t u reply k ws o) v t line text reply u k ws q
     (λ f h _. front-none v t u reply k 0 0 ws .alone)
     (λ n. deleted-leaves v t u reply k ws _ n (deleted v t u reply k 0 0 ws))
 
 pub del-stops : (v : Several) (t line text reply : List ℕ) (u k : ℕ) (ws : List Word) → asked line text ≡ request (asking v ws)
-    → requested t line text reply u k .answer .number ≡ 22 → DelStopped v t u reply k ws (requested t line text reply u k)
+    → requested boxed t line text reply u k .answer .number ≡ 22 → DelStopped v t u reply k ws (requested boxed t line text reply u k)
 del-stops v t line text reply u k ws q =
     del-came (λ o. o .answer .number ≡ 22 → DelStopped v t u reply k ws o) v t line text reply u k ws q
     (λ f h n. absurd (fair-uncut (namesAt line) f h n))

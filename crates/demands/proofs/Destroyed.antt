@@ -12,6 +12,7 @@ use lib.ListN.{length}
 use borrow.Author.Tests.{eqb-true, eq-eqb}
 use Rattle.paper.specs.Scan.{anyBelow}
 use Rattle.paper.specs.Record.{byte, isKind, holderOf, names, blank}
+use Rattle.paper.specs.Layout.{boxed}
 use Rattle.paper.specs.Table.{sized, rooms, rec}
 use Rattle.paper.specs.Line.{Word}
 use Rattle.paper.specs.Check.{passed, verdict}
@@ -54,8 +55,8 @@ use Rattle.demands.proofs.Standing.Razed.{Destroys, Razed, still, other
 pub record Doomed (t : List ℕ) (u : ℕ) (w : Word) (ss : List Store) : Type 0 where
   pub directory : State
   pub end : State
-  pub walked : toDirectory t 1 (start u) (chainOf w) ≡ reached directory
-  pub last : toLast t directory (chainOf w) ≡ reached end
+  pub walked : toDirectory boxed t 1 (start u) (chainOf w) ≡ reached directory
+  pub last : toLast boxed t directory (chainOf w) ≡ reached end
   pub kind : byte (rec t (file t end)) 0 ≡ 1
   pub write : noWrite (end .code) ≡ false
   pub childless : withEntries t (file t end) ≡ false
@@ -65,7 +66,7 @@ abbrev Dooms : List ℕ → ℕ → Word → Planned → Type 0
 Dooms t u w (plan p) = verdict (p .checks) ≡ passed → Doomed t u w (p .stores)
 Dooms t u w (halted f) = Unit {0}
 
-dst-dooms : (t : List ℕ) → Sound t → (u place : ℕ) (w : Word) → Dooms t u w (dstPlan t u place w)
+dst-dooms : (t : List ℕ) → Sound t → (u place : ℕ) (w : Word) → Dooms t u w (dstPlan boxed t u place w)
 unfolding dstPlan
 dst-dooms t c u place w =
     end-by (Dooms t u w) place (λ _ _ _. tt) t u w _ (λ d f q r v.
@@ -82,7 +83,7 @@ dst-dooms t c u place w =
       stores = refl;
     })
 
-pub passed-doomed : (t : List ℕ) → Sound t → (u place : ℕ) (w : Word) (p : Plan) → Passed (dstPlan t u place w) p → Doomed t u w (p .stores)
+pub passed-doomed : (t : List ℕ) → Sound t → (u place : ℕ) (w : Word) (p : Plan) → Passed (dstPlan boxed t u place w) p → Doomed t u w (p .stores)
 passed-doomed t c u place w p v = let s : Dooms t u w (plan p) = rw (v .plan) at (dst-dooms t c u place w) in s (v .checks)
 
 -- ---- what it leaves
@@ -100,7 +101,7 @@ pub record Gone (t s : List ℕ) (h : ℕ) : Type 0 where
   -- no entry of any user in any directory names it
   pub unnamed : named s h ≡ false
   -- no walk of any user comes to it
-  pub unreached : (v : ℕ) (ns : List (List ℕ)) (d f : State) → toDirectory s 1 (start v) ns ≡ reached d → toLast s d ns ≡ reached f → file s f ≢ h
+  pub unreached : (v : ℕ) (ns : List (List ℕ)) (d f : State) → toDirectory boxed s 1 (start v) ns ≡ reached d → toLast boxed s d ns ≡ reached f → file s f ≢ h
   -- and nothing else has changed but the holders' counts
   pub others : (i : ℕ) → i < rooms t → goneOf t h i ≡ false → Else t s h i
 
@@ -212,7 +213,7 @@ module _ (t : List ℕ) (h : ℕ) (r : Right t) (k : byte (rec t h) 0 ≡ 1) whe
         go (inr x) = same (unheld x)
 
 -- no walk comes to a heading that no entry names
-no-walk : (s : List ℕ) (h : ℕ) → named s h ≡ false → (ns : List (List ℕ)) (d f : State) → toLast s d ns ≡ reached f → file s f ≢ h
+no-walk : (s : List ℕ) (h : ℕ) → named s h ≡ false → (ns : List (List ℕ)) (d f : State) → toLast boxed s d ns ≡ reached f → file s f ≢ h
 unfolding named
 no-walk s h n ns d f q e =
     let x = last-looked s d ns f q in
@@ -235,8 +236,8 @@ razed-gone t h r k =
 pub record NameGone (t : List ℕ) (u : ℕ) (w : Word) (m s : List ℕ) : Type 0 where
   pub directory : State
   pub end : State
-  pub walked : toDirectory t 1 (start u) (chainOf w) ≡ reached directory
-  pub last : toLast t directory (chainOf w) ≡ reached end
+  pub walked : toDirectory boxed t 1 (start u) (chainOf w) ≡ reached directory
+  pub last : toLast boxed t directory (chainOf w) ≡ reached end
   pub gone : Gone t m (file t end)
   pub unnamed : named s (file t end) ≡ false
   pub heading : rec s (file t end) ≡ blank
@@ -280,17 +281,17 @@ doomed-gone t u w ss s c e d =
     q : Gone t (run t ss) h
     q = subst (λ (x : List Store). Gone t (run t x) h) (sym (e .stores)) (razed-gone t h c (e .kind))
 
-deleting-gone : (u : ℕ) (ws : List Word) (t reply : List ℕ) (k n made : ℕ) → Right t → deleting dstPlan t u reply k n made ws .answer .number ≡ 0
-    → AllGone u ws t (deleting dstPlan t u reply k n made ws .table)
+deleting-gone : (u : ℕ) (ws : List Word) (t reply : List ℕ) (k n made : ℕ) → Right t → deleting (dstPlan boxed) t u reply k n made ws .answer .number ≡ 0
+    → AllGone u ws t (deleting (dstPlan boxed) t u reply k n made ws .table)
 unfolding deleting
 deleting-gone u [] t reply k n made c = λ _. refl
 deleting-gone u (w ∷ ws) t reply k n made c = one (λ t₁. deleting-gone u ws t₁ reply)
   where
     x : Planned
-    x = dstPlan t u (n + 1) w
+    x = dstPlan boxed t u (n + 1) w
 
     more : List ℕ → ℕ → ℕ → ℕ → Outcome
-    more t₁ k₁ n₁ made₁ = deleting dstPlan t₁ u reply k₁ n₁ made₁ ws
+    more t₁ k₁ n₁ made₁ = deleting (dstPlan boxed) t₁ u reply k₁ n₁ made₁ ws
 
     name-gone : (p : Plan) → Passed x p → (s : List ℕ) → Destroys (run t (p .stores)) s → NameGone t u w (run t (p .stores)) s
     name-gone p v s d = doomed-gone t u w (p .stores) s c (passed-doomed t (c .clauses) u (n + 1) w p v) d
@@ -310,8 +311,9 @@ deleting-gone u (w ∷ ws) t reply k n made c = one (λ t₁. deleting-gone u ws
         (λ p v l z. let b : ⊥ = omega (arith, z) in absurd b)
 
 -- the theorem: after a granted DST of user u, on any sound table, each name's file is gone everywhere
-pub destroyed-everywhere : (t line text reply : List ℕ) (u k : ℕ) (ws : List Word) → sized t ≡ true → sound t ≡ true
-    → asked line text ≡ request (dst ws) → requested t line text reply u k .answer .number ≡ 0 → AllGone u ws t (requested t line text reply u k .table)
+pub destroyed-everywhere : (t line text reply : List ℕ) (u k : ℕ) (ws : List Word) → sized t ≡ true → sound boxed t ≡ true
+    → asked line text ≡ request (dst ws) → requested boxed t line text reply u k .answer .number ≡ 0
+    → AllGone u ws t (requested boxed t line text reply u k .table)
 destroyed-everywhere t line text reply u k ws a b q =
     del-came (λ o. o .answer .number ≡ 0 → AllGone u ws t (o .table)) destruction t line text reply u k ws q
     (λ f h z. let y : ⊥ = omega (arith, z, fair-some (namesAt line) f h) in absurd y)

@@ -10,6 +10,7 @@ use lib.Dec.{ltb}
 use lib.ListN.{length, take}
 use lib.Seq.{take-all, length-take-le}
 use borrow.Author.Tests.{lt-ltb, lt-leb, ltb-true, ltb-false}
+use Rattle.paper.specs.Layout.{boxed}
 use Rattle.paper.specs.Line.{legalLine}
 use Rattle.paper.specs.Check.{Verdict, passed, refused, verdict}
 use Rattle.paper.specs.Request.{Read, request, unread, read, asked, withText, crd, wrs, rds, cpy, dup, chn, del, dst, dpr, lst, lstBase, lstTree, lstBaseTree, rewrite}
@@ -39,7 +40,7 @@ read-cut line = go (fits 257 line)
         rw (long-line line (omega arith), long-line (take 257 line) (omega arith))
 
 module _ (t reply : List ℕ) (u k : ℕ) (text : List ℕ) (l : 24000 < length text) (m : 24000 < length (take 24001 text)) where
-  acted-long : (r : Read) → acted t (take 24001 text) reply u k (withText (take 24001 text) r) ≡ acted t text reply u k (withText text r)
+  acted-long : (r : Read) → acted boxed t (take 24001 text) reply u k (withText (take 24001 text) r) ≡ acted boxed t text reply u k (withText text r)
   unfolding granted verdict
   acted-long (unread f) = refl
   acted-long (request (crd name level code)) = refl
@@ -58,26 +59,27 @@ module _ (t reply : List ℕ) (u k : ℕ) (text : List ℕ) (l : 24000 < length 
   acted-long (request (rewrite name)) = rw (lt-ltb 24000 (length text) l, lt-ltb 24000 (length (take 24001 text)) m)
 
 -- a line cut after 257 bytes
-pub line-cut : (t line text reply : List ℕ) (u k : ℕ) → requested t (take 257 line) text reply u k ≡ requested t line text reply u k
+pub line-cut : (t line text reply : List ℕ) (u k : ℕ) → requested boxed t (take 257 line) text reply u k ≡ requested boxed t line text reply u k
 unfolding requested asked
-line-cut t line text reply u k = go (entrance t u)
+line-cut t line text reply u k = go (entrance boxed t u)
   where
-    go : (v : Verdict) → admitted t (take 257 line) text reply u k v ≡ admitted t line text reply u k v
+    go : (v : Verdict) → admitted boxed t (take 257 line) text reply u k v ≡ admitted boxed t line text reply u k v
     go (refused r) = refl
     go passed = rw (read-cut line)
 
 -- a text cut after 24,001 bytes
-text-cut : (t line text reply : List ℕ) (u k : ℕ) → requested t line (take 24001 text) reply u k ≡ requested t line text reply u k
+text-cut : (t line text reply : List ℕ) (u k : ℕ) → requested boxed t line (take 24001 text) reply u k ≡ requested boxed t line text reply u k
 unfolding requested asked
-text-cut t line text reply u k = go (fits 24001 text) (entrance t u)
+text-cut t line text reply u k = go (fits 24001 text) (entrance boxed t u)
   where
     go : (length text ≤ 24001) ⊎ (24001 < length text) → (v : Verdict)
-        → admitted t line (take 24001 text) reply u k v ≡ admitted t line text reply u k v
+        → admitted boxed t line (take 24001 text) reply u k v ≡ admitted boxed t line text reply u k v
     go f (refused r) = refl
     go (inl l) passed = rw (take-all 24001 text l)
     go (inr l) passed =
         let n : length (take 24001 text) ≡ 24001 = length-take-le 24001 text (omega arith) in
         acted-long t reply u k text (omega arith) (omega arith) (read line)
 
-pub requested-cut : (t line text reply : List ℕ) (u k : ℕ) → requested t (take 257 line) (take 24001 text) reply u k ≡ requested t line text reply u k
+pub requested-cut : (t line text reply : List ℕ) (u k : ℕ)
+    → requested boxed t (take 257 line) (take 24001 text) reply u k ≡ requested boxed t line text reply u k
 requested-cut t line text reply u k = line-cut t line (take 24001 text) reply u k ∙ text-cut t line text reply u k

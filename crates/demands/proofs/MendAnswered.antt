@@ -9,6 +9,7 @@ use native.Mathlib.Omega.{arith}
 use lib.ListN.{length, take}
 use lib.Dec.{leb}
 use borrow.Author.Tests.{leb-true, leb-false}
+use Rattle.paper.specs.Layout.{boxed}
 use Rattle.paper.specs.Table.{sized}
 use Rattle.paper.specs.Check as paper
 use Rattle.paper.specs.Check.{refusalAt, verdict}
@@ -21,17 +22,17 @@ use Rattle.laws.proofs.Runs.{length-run}
 -- the four ways of a mending: 1, 2, 0 and 22
 pub data MendCame (t : List ℕ) (k : ℕ) (o : Outcome) : Type 0 where
   unsized : sized t ≡ false → o ≡ refusing t [] (refusalAt 1 (paper.whole 0)) → MendCame t k o
-  unsound : sized t ≡ true → sound (mended t) ≡ false → o ≡ refusing t [] (refusalAt 2 (paper.whole 0)) → MendCame t k o
-  whole : sized t ≡ true → sound (mended t) ≡ true → length (mendStores t) ≤ k
+  unsound : sized t ≡ true → sound boxed (mended t) ≡ false → o ≡ refusing t [] (refusalAt 2 (paper.whole 0)) → MendCame t k o
+  whole : sized t ≡ true → sound boxed (mended t) ≡ true → length (mendStores t) ≤ k
       → o ≡ record { answer = plain 0 (paper.whole 0) 0 (length (mendStores t)); table = mended t; reply = [] } → MendCame t k o
-  cutOff : sized t ≡ true → sound (mended t) ≡ true → k < length (mendStores t)
+  cutOff : sized t ≡ true → sound boxed (mended t) ≡ true → k < length (mendStores t)
       → o ≡ record { answer = plain 22 (paper.whole 0) 0 k; table = run t (take k (mendStores t)); reply = [] } → MendCame t k o
 
-pub mend-came : (t : List ℕ) (k : ℕ) → MendCame t k (mending t k)
+pub mend-came : (t : List ℕ) (k : ℕ) → MendCame t k (mending boxed t k)
 unfolding mending mendable verdict mended
-mend-came t k = go (sized t) refl (sound (mended t)) refl (leb (length (mendStores t)) k) refl
+mend-came t k = go (sized t) refl (sound boxed (mended t)) refl (leb (length (mendStores t)) k) refl
   where
-    go : (a : Bool) → sized t ≡ a → (b : Bool) → sound (mended t) ≡ b → (c : Bool) → leb (length (mendStores t)) k ≡ c → MendCame t k (mending t k)
+    go : (a : Bool) → sized t ≡ a → (b : Bool) → sound boxed (mended t) ≡ b → (c : Bool) → leb (length (mendStores t)) k ≡ c → MendCame t k (mending boxed t k)
     go false p b q c r = unsized p (rw p)
     go true p false q c r = unsound p q (rw (p, q))
     go true p true q true r = whole p q (leb-true _ _ r) (rw (p, q, r))
@@ -52,9 +53,9 @@ mend-plain : (t : List ℕ) (k n s : ℕ) (t₁ : List ℕ) → ((n ≡ 0) ⊎ (
 mend-plain t k n s t₁ a b c d =
     record { number = a; zeros = (refl, refl, refl, refl); reply = refl; size = b; lent = c; stop = d }
 
-pub mend-answered : (t : List ℕ) (k : ℕ) → MendAnswered t k (mending t k)
+pub mend-answered : (t : List ℕ) (k : ℕ) → MendAnswered t k (mending boxed t k)
 unfolding mended
-mend-answered t k = go (mending t k) (mend-came t k)
+mend-answered t k = go (mending boxed t k) (mend-came t k)
   where
     never : {X : Type 0} (n : ℕ) → n < 22 → n ≡ 22 → X
     never n l e = let z : ⊥ = omega arith in absurd z

@@ -18,6 +18,7 @@ use native.Mathlib.Omega.{arith}
 use lib.ListN.{length}
 use lib.Dec.{leb}
 use borrow.Author.Tests.{eqb-true, le-leb}
+use Rattle.paper.specs.Layout.{boxed}
 use Rattle.paper.specs.Table.{sized}
 use Rattle.paper.specs.Check as paper
 use Rattle.paper.specs.Check.{Verdict, passed, refused, verdict}
@@ -44,8 +45,8 @@ abbrev pub mendedWhole : List ℕ → Outcome
 mendedWhole t = record { answer = plain 0 (paper.whole 0) 0 (length (mendStores t)); table = mended t; reply = [] }
 
 -- where the end is sound and the stop number covers the stores, it answers 0
-pub mend-whole : (t : List ℕ) (k : ℕ) → sized (mended t) ≡ true → sound (mended t) ≡ true → length (mendStores t) ≤ k
-    → mending t k ≡ mendedWhole t
+pub mend-whole : (t : List ℕ) (k : ℕ) → sized (mended t) ≡ true → sound boxed (mended t) ≡ true → length (mendStores t) ≤ k
+    → mending boxed t k ≡ mendedWhole t
 unfolding mending mendable verdict mended
 mend-whole t k s e l = let z : sized t ≡ true = rw length-run at s in rw (z, e, le-leb _ _ l)
 
@@ -54,19 +55,19 @@ unfolding mended
 sized-mended t a = rw length-run a
 
 -- what mending answers 0 on is sound
-pub mend-sound : (t : List ℕ) (k : ℕ) → mending t k .answer .number ≡ 0
-    → (sized (mending t k .table) ≡ true) × (sound (mending t k .table) ≡ true)
+pub mend-sound : (t : List ℕ) (k : ℕ) → mending boxed t k .answer .number ≡ 0
+    → (sized (mending boxed t k .table) ≡ true) × (sound boxed (mending boxed t k .table) ≡ true)
 mend-sound t k z = go (mend-came t k)
   where
-    go : MendCame t k (mending t k) → (sized (mending t k .table) ≡ true) × (sound (mending t k .table) ≡ true)
+    go : MendCame t k (mending boxed t k) → (sized (mending boxed t k .table) ≡ true) × (sound boxed (mending boxed t k .table) ≡ true)
     go (unsized a e) = let n : ⊥ = omega (arith, rw e at z) in absurd n
     go (unsound a b e) = let n : ⊥ = omega (arith, rw e at z) in absurd n
     go (whole a b l e) = rw e (sized-mended t a, b)
     go (cutOff a b l e) = let n : ⊥ = omega (arith, rw e at z) in absurd n
 
 -- a sound table is left as it is, with no store, whatever the stop number
-pub mend-nothing : (t : List ℕ) (k : ℕ) → sized t ≡ true → sound t ≡ true
-    → mending t k ≡ record { answer = plain 0 (paper.whole 0) 0 0; table = t; reply = [] }
+pub mend-nothing : (t : List ℕ) (k : ℕ) → sized t ≡ true → sound boxed t ≡ true
+    → mending boxed t k ≡ record { answer = plain 0 (paper.whole 0) 0 0; table = t; reply = [] }
 unfolding mending mendable verdict run
 mend-nothing t k s e =
     let c = sound-keeps t (sound-right t s e) in
@@ -81,10 +82,10 @@ abbrev numberOf : Verdict → ℕ
 numberOf passed = 0
 numberOf (refused f) = f .number
 
-uncut : (t : List ℕ) (k : ℕ) → (mending t k .answer .number ≡ 22 → ⊥)
-    → (mending t k .table ≡ end (mendable t) t) × (mending t k .answer .number ≡ numberOf (mendable t))
+uncut : (t : List ℕ) (k : ℕ) → (mending boxed t k .answer .number ≡ 22 → ⊥)
+    → (mending boxed t k .table ≡ end (mendable boxed t) t) × (mending boxed t k .answer .number ≡ numberOf (mendable boxed t))
 unfolding mending mended
-uncut t k = go (mendable t) (truth (leb (length (mendStores t)) k))
+uncut t k = go (mendable boxed t) (truth (leb (length (mendStores t)) k))
   where
     go : (v : Verdict) → (leb (length (mendStores t)) k ≡ true) ⊎ (leb (length (mendStores t)) k ≡ false)
         → (mendRun t k (mendStores t) v .answer .number ≡ 22 → ⊥)
@@ -94,10 +95,10 @@ uncut t k = go (mendable t) (truth (leb (length (mendStores t)) k))
     go passed (inr c) z = absurd (z (rw c))
 
 -- a stop number that covers the stores is not reached
-pub mend-enough : (t : List ℕ) (k : ℕ) → length (mendStores t) ≤ k → mending t k .answer .number ≡ 22 → ⊥
+pub mend-enough : (t : List ℕ) (k : ℕ) → length (mendStores t) ≤ k → mending boxed t k .answer .number ≡ 22 → ⊥
 mend-enough t k l z = go (mend-came t k)
   where
-    go : MendCame t k (mending t k) → ⊥
+    go : MendCame t k (mending boxed t k) → ⊥
     go (unsized a e) = omega (arith, rw e at z)
     go (unsound a b e) = omega (arith, rw e at z)
     go (whole a b m e) = omega (arith, rw e at z)
@@ -105,35 +106,35 @@ mend-enough t k l z = go (mend-came t k)
 
 module _ (t : List ℕ) (k : ℕ) where
   -- a mend cut anywhere has the end of the table that it began with
-  pub mended-again : mended (mending t k .table) ≡ mended t
+  pub mended-again : mended (mending boxed t k .table) ≡ mended t
   mended-again = go (mend-came t k)
     where
       size : sized t ≡ true → Whole t
       size a = eqb-true _ _ (and-left _ _ a)
 
-      go : MendCame t k (mending t k) → mended (mending t k .table) ≡ mended t
+      go : MendCame t k (mending boxed t k) → mended (mending boxed t k .table) ≡ mended t
       go (unsized a e) = rw e
       go (unsound a b e) = rw e
       go (whole a b m e) = rw e (mended-twice t (size a))
       go (cutOff a b m e) = rw e (again t (size a) k)
 
-  same-verdict : mendable (mending t k .table) ≡ mendable t
+  same-verdict : mendable boxed (mending boxed t k .table) ≡ mendable boxed t
   unfolding mendable verdict
   same-verdict = rw (mend-answered t k .size, mended-again)
 
-  same-end : end (mendable t) (mending t k .table) ≡ end (mendable t) t
-  same-end = go (mendable t) refl
+  same-end : end (mendable boxed t) (mending boxed t k .table) ≡ end (mendable boxed t) t
+  same-end = go (mendable boxed t) refl
     where
-      go : (v : Verdict) → mendable t ≡ v → end v (mending t k .table) ≡ end v t
+      go : (v : Verdict) → mendable boxed t ≡ v → end v (mending boxed t k .table) ≡ end v t
       go passed e = mended-again
       go (refused f) e = unfold mending in rw e
 
 -- "a mend cut anywhere and run again ends as an uncut one"
 pub mend-again : (t : List ℕ) (k k₁ k₂ : ℕ)
-    → (mending (mending t k .table) k₁ .answer .number ≡ 22 → ⊥) → (mending t k₂ .answer .number ≡ 22 → ⊥)
-    → (mending (mending t k .table) k₁ .table ≡ mending t k₂ .table)
-    × (mending (mending t k .table) k₁ .answer .number ≡ mending t k₂ .answer .number)
+    → (mending boxed (mending boxed t k .table) k₁ .answer .number ≡ 22 → ⊥) → (mending boxed t k₂ .answer .number ≡ 22 → ⊥)
+    → (mending boxed (mending boxed t k .table) k₁ .table ≡ mending boxed t k₂ .table)
+    × (mending boxed (mending boxed t k .table) k₁ .answer .number ≡ mending boxed t k₂ .answer .number)
 mend-again t k k₁ k₂ a b =
-    let u = uncut (mending t k .table) k₁ a in
+    let u = uncut (mending boxed t k .table) k₁ a in
     let v = uncut t k₂ b in
     (u .0 ∙ rw (same-verdict t k) (same-end t k) ∙ sym (v .0), u .1 ∙ rw (same-verdict t k) (sym (v .1)))

@@ -10,6 +10,7 @@ use lib.Seq.{take-all, take-length, take-append-seam, drop-drop}
 use lib.Dec.{eqb}
 use borrow.Author.Tests.{le-ltb, le-leb, ltb-false, not-false}
 use Rattle.paper.specs.Record.{marked, simple}
+use Rattle.paper.specs.Layout.{boxed}
 use Rattle.paper.specs.Table.{rec, sized}
 use Rattle.paper.specs.Declaration.{Part, given, notGiven, orElse}
 use Rattle.paper.specs.Name.{same, all, counting}
@@ -95,7 +96,7 @@ octal-asked n l =
 pub record Readable (t : List ℕ) (u : ℕ) (name : Word) : Type 0 where
   pub directory : State
   pub end : State
-  pub walk : ended t (start u) (chainOf name) ≡ arrived directory end
+  pub walk : ended boxed t (start u) (chainOf name) ≡ arrived directory end
   pub reads : noRead (end .code) ≡ false
   pub simple : simple (rec t (file t end)) ≡ true
   pub unmarked : marked (rec t (file t end)) ≡ false
@@ -115,7 +116,7 @@ bringing t s reply = record { answer = granting false (length s) 0; table = t; r
 -- such a part is brought
 rds-brings : (t : List ℕ) (u : ℕ) (reply : List ℕ) (k : ℕ) (name : Word) (first count : Part) (r : Readable t u name)
     → Holds (textOf t u name r) reply first count
-    → single t reply k (ran k (rdsPlan t u reply name first count)) ≡ bringing t (part (textOf t u name r) first count) reply
+    → single t reply k (ran k (rdsPlan boxed t u reply name first count)) ≡ bringing t (part (textOf t u name r) first count) reply
 unfolding rdsPlan verdict run
 rds-brings t u reply k name first count r h =
     rw (r .walk, r .reads, r .simple, le-ltb _ _ (h .fits), r .unmarked, le-ltb _ _ (h .within), le-leb 0 k (omega arith))
@@ -125,10 +126,10 @@ record Brought (t : List ℕ) (u : ℕ) (reply : List ℕ) (name : Word) (first 
   pub readable : Readable t u name
   pub holds : Holds (textOf t u name readable) reply first count
 
-plan-brought : (t : List ℕ) (u : ℕ) (reply : List ℕ) (name : Word) (first count : Part) (p : Plan) → Passed (rdsPlan t u reply name first count) p
+plan-brought : (t : List ℕ) (u : ℕ) (reply : List ℕ) (name : Word) (first count : Part) (p : Plan) → Passed (rdsPlan boxed t u reply name first count) p
     → Brought t u reply name first count
 unfolding rdsPlan
-plan-brought t u reply name first count p v = go (ended t (start u) (chainOf name)) refl v
+plan-brought t u reply name first count p v = go (ended boxed t (start u) (chainOf name)) refl v
   where
     checks : State → List Check
     checks f =
@@ -142,7 +143,7 @@ plan-brought t u reply name first count p v = go (ended t (start u) (chainOf nam
     shown : State → Plan
     shown f = record { checks = checks f; stores = []; displaced = false; reply = part (fileText t (file t f)) first count }
 
-    go : (x : End) → ended t (start u) (chainOf name) ≡ x → Passed (inward 1 x (λ _ f. plan (shown f))) p → Brought t u reply name first count
+    go : (x : End) → ended boxed t (start u) (chainOf name) ≡ x → Passed (inward 1 x (λ _ f. plan (shown f))) p → Brought t u reply name first count
     go (astray n link) e h = let z = h .plan in clash (cc)
     go (arrived d f) e h =
         let q = h .plan in
@@ -154,13 +155,13 @@ plan-brought t u reply name first count p v = go (ended t (start u) (chainOf nam
         }
 
 rds-brought : (t : List ℕ) (u : ℕ) (reply : List ℕ) (k : ℕ) (name : Word) (first count : Part)
-    → single t reply k (ran k (rdsPlan t u reply name first count)) .answer .number ≡ 0 → Brought t u reply name first count
+    → single t reply k (ran k (rdsPlan boxed t u reply name first count)) .answer .number ≡ 0 → Brought t u reply name first count
 rds-brought t u reply k name first count =
-    ran-by (λ x. single t reply k x .answer .number ≡ 0 → Brought t u reply name first count) k (rdsPlan t u reply name first count)
+    ran-by (λ x. single t reply k x .answer .number ≡ 0 → Brought t u reply name first count) k (rdsPlan boxed t u reply name first count)
     (λ f v n.
     let names : ℕ → List (List ℕ) = λ a. cond (eqb a 1) (name .names) [] in
     let fair = fair-rdsPlan names t reply u name first count (record { from = omega arith; long = refl }) refl in
-    let g = fair-refused names reply (rdsPlan t u reply name first count) f fair v in
+    let g = fair-refused names reply (rdsPlan boxed t u reply name first count) f fair v in
     let z : ⊥ = omega (arith, fair-some names f g, n) in absurd z)
     (λ p v _ _. plan-brought t u reply name first count p v)
     (λ p v _ n. let z : ⊥ = omega arith in absurd z)
@@ -170,7 +171,7 @@ rds-brought t u reply k name first count =
 -- an RDS of this name was answered 0, and what the entrance and the walk let through once they let through again
 pub record Granted (t : List ℕ) (u : ℕ) (from : Begin) (name : Word) : Type 0 where
   pub sized : sized t ≡ true
-  pub sound : sound t ≡ true
+  pub sound : sound boxed t ≡ true
   pub user : u ≤ 999999
   pub readable : Readable t (listOf u from) (begun from name)
 
@@ -181,22 +182,22 @@ module _ (t line text reply : List ℕ) (u k : ℕ) (from : Begin) (name : Word)
     (asks : asked line text ≡ request (rds from name first count)) where
   -- whatever part was asked for: any part that starts within the text and fits is brought, and nothing else
   pub part-read : (g : Granted t u from name) → Holds (grantedText t u from name g) reply first count
-      → requested t line text reply u k ≡ bringing t (part (grantedText t u from name g) first count) reply
+      → requested boxed t line text reply u k ≡ bringing t (part (grantedText t u from name g) first count) reply
   unfolding granted
   part-read g h =
       admits t line text reply u k (rds from name first count) (g .sized) (g .sound) (g .user) asks
       ∙ rds-brings t (listOf u from) reply k (begun from name) first count (g .readable) h
 
   -- answered 0: the part asked for, of the text of the one file that the name comes to
-  pub part-shown : requested t line text reply u k .answer .number ≡ 0
+  pub part-shown : requested boxed t line text reply u k .answer .number ≡ 0
       → (g : Granted t u from name) × Holds (grantedText t u from name g) reply first count
-      × (requested t line text reply u k ≡ bringing t (part (grantedText t u from name g) first count) reply)
+      × (requested boxed t line text reply u k ≡ bringing t (part (grantedText t u from name g) first count) reply)
   unfolding granted
   part-shown n = go (course t line text reply u)
     where
       go : Course t line text reply u
           → (g : Granted t u from name) × Holds (grantedText t u from name g) reply first count
-          × (requested t line text reply u k ≡ bringing t (part (grantedText t u from name g) first count) reply)
+          × (requested boxed t line text reply u k ≡ bringing t (part (grantedText t u from name g) first count) reply)
       go (untried f h e) = let m : f .number ≡ 0 = rw (e k) at n in let z : ⊥ = omega (arith, fair-some (namesAt line) f h) in absurd z
       go (tried r a e) =
           let q : r ≡ rds from name first count = request-same (sym (a .asked) ∙ asks) in
@@ -225,7 +226,7 @@ written o = take (o .answer .bytes) (o .reply)
 
 module _ (t : List ℕ) (u : ℕ) (from : Begin) (name : Word) where
   abbrev pub answerTo : Piece from name → Outcome
-  answerTo x = requested t (x .line) (x .text) (x .buffer) u (x .stop)
+  answerTo x = requested boxed t (x .line) (x .text) (x .buffer) u (x .stop)
 
   -- what the pieces wrote, one after another
   unfoldable pub joined : List (Piece from name) → List ℕ
@@ -261,13 +262,13 @@ module _ (t : List ℕ) (u : ℕ) (from : Begin) (name : Word) where
 
   -- for any cutting points: the whole was read, so each piece is, and joined in order they are the whole
   pub parts-join : (line text reply : List ℕ) (k : ℕ) → asked line text ≡ request (rds from name notGiven notGiven)
-      → requested t line text reply u k .answer .number ≡ 0
-      → (xs : List (Piece from name)) → Following (written (requested t line text reply u k)) 0 xs
-      → Every (λ x. (answerTo x .answer .number ≡ 0) × (answerTo x .table ≡ t)) xs × (joined xs ≡ written (requested t line text reply u k))
+      → requested boxed t line text reply u k .answer .number ≡ 0
+      → (xs : List (Piece from name)) → Following (written (requested boxed t line text reply u k)) 0 xs
+      → Every (λ x. (answerTo x .answer .number ≡ 0) × (answerTo x .table ≡ t)) xs × (joined xs ≡ written (requested boxed t line text reply u k))
   parts-join line text reply k asks n xs h =
       let p = part-shown t line text reply u k from name notGiven notGiven asks n in
       let s : List ℕ = grantedText t u from name (p .0) in
-      let w : written (requested t line text reply u k) ≡ s =
+      let w : written (requested boxed t line text reply u k) ≡ s =
       rw (p .2, part-whole s) (take-append-seam s (drop (length s) reply)) in
       let f : Following s 0 xs = rw w at h in
       (pieces-granted (p .0) 0 xs f, rw w (pieces-join (p .0) 0 xs f))
@@ -287,10 +288,10 @@ dashes-read line dashed i j a b w l m e f = rw (l, m, e, f)
 
 pub dashes-whole : (t line dashed text reply : List ℕ) (u k i j a b : ℕ) (w : Word) → legalLine line ≡ true → legalLine dashed ≡ true
     → words line ≡ rdsWord i ∷ w ∷ [] → words dashed ≡ rdsWord j ∷ w ∷ dashWord a ∷ dashWord b ∷ []
-    → requested t dashed text reply u k ≡ requested t line text reply u k
+    → requested boxed t dashed text reply u k ≡ requested boxed t line text reply u k
 unfolding requested asked
-dashes-whole t line dashed text reply u k i j a b w l m e f = go (entrance t u)
+dashes-whole t line dashed text reply u k i j a b w l m e f = go (entrance boxed t u)
   where
-    go : (v : Verdict) → admitted t dashed text reply u k v ≡ admitted t line text reply u k v
+    go : (v : Verdict) → admitted boxed t dashed text reply u k v ≡ admitted boxed t line text reply u k v
     go passed = rw (dashes-read line dashed i j a b w l m e f)
     go (refused x) = refl

@@ -11,6 +11,7 @@ use lib.Dec.{ltb}
 use borrow.Author.Tests.{ltb-false, not-true, eq-eqb}
 use Rattle.paper.specs.Scan.{Found, at, nowhere, allBelow}
 use Rattle.paper.specs.Record.{byte, isKind, entryCode, headingNamed, names}
+use Rattle.paper.specs.Layout.{boxed}
 use Rattle.paper.specs.Table.{sized, rooms, rec, lay, frees, room, textRoom}
 use Rattle.paper.specs.Declaration.{Part, orElse}
 use Rattle.paper.specs.Line.{Word}
@@ -38,7 +39,7 @@ use Rattle.demands.proofs.Sound.Clauses.{Sound, sound-clauses, entry-co
 use Rattle.demands.proofs.Request.Chains.{namesAt}
 use Rattle.demands.proofs.Request.Spoken.{Spoken}
 use Rattle.demands.proofs.Request.Fair.{Idle, fair-some, verdict-idle}
-use Rattle.demands.proofs.Request.Formed.{named-last, within-else}
+use Rattle.demands.proofs.Request.Formed.{within-else}
 use Rattle.demands.proofs.Request.Read.{Told, DupRead}
 use Rattle.demands.proofs.Request.Course.{Course, untried, tried, course}
 use Rattle.demands.proofs.Request.Steps.{Walks, holder-by, end-by}
@@ -96,14 +97,14 @@ Fresh (giveTo n) t e = byte (rec t e) 0 ≡ 0
 pub record Received (t : List ℕ) (v : ℕ) (old : Word) (to : Begin) (s : List ℕ) : Type 0 where
   pub directory : State
   pub giver : State
-  pub walked : toDirectory t 1 (start v) (chainOf old) ≡ reached directory
-  pub last : toLast t directory (chainOf old) ≡ reached giver
+  pub walked : toDirectory boxed t 1 (start v) (chainOf old) ≡ reached directory
+  pub last : toLast boxed t directory (chainOf old) ≡ reached giver
   pub entry : ℕ
   pub handed : Handed t giver s entry
   pub fresh : Fresh to t entry
 
 module _ (t : List ℕ) (c : Sound t) (d f g : State) (new : Word) (code : Part) (old : List (List ℕ))
-    (r : Reached t g (lastName old) f) (b : orElse code 0 ≤ 7) (n : length (lastName (chainOf new)) ≤ 10) where
+    (r : Reached t g (lastName old) f) (b : orElse code 0 ≤ 7) where
   abbrev h : ℕ
   h = file t f
 
@@ -111,10 +112,10 @@ module _ (t : List ℕ) (c : Sound t) (d f g : State) (new : Word) (code : Part)
   j = joined (entryCode (rec t (f .entry))) (orElse code 0)
 
   abbrev entry : List ℕ
-  entry = linking t f d new code .entry
+  entry = linking boxed t f d new code .entry
 
   size : length entry ≡ 32
-  size = length-entry j (d .holder .heading) h (d .holder .user) (lastName (chainOf new)) n
+  size = length-entry j (d .holder .heading) h (d .holder .user) (lastName (chainOf new))
 
   is-entry : byte entry 0 ≡ 2
   is-entry = entry-record-kind j (d .holder .heading) h (d .holder .user) (lastName (chainOf new))
@@ -239,7 +240,7 @@ Hands t v old to (plan p) = verdict (p .checks) ≡ passed → Received t v old 
 Hands t v old to (halted f) = Unit {0}
 
 dup-hands : (t : List ℕ) → Sound t → (v u : ℕ) (to : Begin) (old new : Word) (code : Part) → DupRead old new to code
-    → Hands t v old to (dupPlan t v u to old new code)
+    → Hands t v old to (dupPlan boxed t v u to old new code)
 unfolding dupPlan making
 dup-hands t c v u to old new code x =
     end-by (Hands t v old to) 1 (λ _ _ _. tt) t v old _ (λ g f q r. holder-by (Hands t v old to) 2 (λ _ _ _. tt) t u new _ (λ d _. makes g f d q r))
@@ -247,22 +248,20 @@ dup-hands t c v u to old new code x =
     most : orElse code 0 ≤ 7
     most = within-else 0 7 0 code (x .code) (omega arith) (omega arith) .1
 
-    short : length (lastName (chainOf new)) ≤ 10
-    short = named-last new (x .new) .short
-
-    makes : (g f d : State) → toDirectory t 1 (start v) (chainOf old) ≡ reached g → toLast t g (chainOf old) ≡ reached f
-        → Hands t v old to (making t (linking t f d new code) [] (linkTaken t to (linking t f d new code)) [])
+    makes : (g f d : State) → toDirectory boxed t 1 (start v) (chainOf old) ≡ reached g → toLast boxed t g (chainOf old) ≡ reached f
+        → Hands t v old to (making boxed t (linking boxed t f d new code) [] (linkTaken boxed t to (linking boxed t f d new code)) [])
     makes g f d q r e =
-        let a = every-parts Idle (writeInhibited (m .place) d ∷ linkTaken t to m) _ (verdict-idle _ e) in
-        go (borne t m) refl (a .0 .1) (ltb-false _ _ (a .1 .1 .1 .0))
+        let a = every-parts Idle (writeInhibited (m .place) d ∷ linkTaken boxed t to m) _ (verdict-idle _ e) in
+        go (borne boxed t m) refl (a .0 .1) (ltb-false _ _ (a .1 .1 .1 .0))
       where
         m : Making
-        m = linking t f d new code
+        m = linking boxed t f d new code
 
         w : Reached t g (lastName (chainOf old)) f
         w = walk-reached 65535 t c g (chainOf old) f r
 
-        go : (y : Found) → borne t m ≡ y → Every Idle (linkTaken t to m) → needed m y ≤ length (frees t) → Received t v old to (run t (placing t m y))
+        go : (y : Found) → borne boxed t m ≡ y → Every Idle (linkTaken boxed t to m) → needed m y ≤ length (frees t)
+            → Received t v old to (run t (placing t m y))
         go (at i) z idle enough =
             let s = found-stands t (d .holder) (lastName (chainOf new)) i z in
             record {
@@ -271,11 +270,11 @@ dup-hands t c v u to old new code x =
               walked = q;
               last = r;
               entry = i;
-              handed = over t c d f g new code (chainOf old) w most short i (s .0) (s .1 .kind);
+              handed = over t c d f g new code (chainOf old) w most i (s .0) (s .1 .kind);
               fresh = fresh to idle;
             }
           where
-            fresh : (b : Begin) → Every Idle (linkTaken t b m) → Fresh b t i
+            fresh : (b : Begin) → Every Idle (linkTaken boxed t b m) → Fresh b t i
             fresh own h = tt
             fresh (takeOf n) h = tt
             fresh (giveTo n) h = let y : isFound (at i) ≡ false = rw z at (h .0) in absurd (true≢false y)
@@ -287,7 +286,7 @@ dup-hands t c v u to old new code x =
               walked = q;
               last = r;
               entry = room t 0;
-              handed = in-free t c d f g new code (chainOf old) w most short (room t 0) (room-below t 0 (omega arith)) k;
+              handed = in-free t c d f g new code (chainOf old) w most (room t 0) (room-below t 0 (omega arith)) k;
               fresh = fresh to;
             }
           where
@@ -298,13 +297,13 @@ dup-hands t c v u to old new code x =
 
 -- the theorem: every DUP that is done, so every give and every take by DUP
 pub nobody-more : (t line text reply : List ℕ) (u k : ℕ) (from : Begin) (old : Word) (to : Begin) (new : Word) (code : Part)
-    → asked line text ≡ request (dup from old to new code) → requested t line text reply u k .answer .number ≡ 0
-    → Received t (listOf u from) (begun from old) to (requested t line text reply u k .table)
+    → asked line text ≡ request (dup from old to new code) → requested boxed t line text reply u k .answer .number ≡ 0
+    → Received t (listOf u from) (begun from old) to (requested boxed t line text reply u k .table)
 unfolding granted
 nobody-more t line text reply u k from old to new code a z = go (course t line text reply u)
   where
     x : Planned
-    x = dupPlan t (listOf u from) (listOf u to) to (begun from old) (begun to new) code
+    x = dupPlan boxed t (listOf u from) (listOf u to) to (begun from old) (begun to new) code
 
     ends : Hands t (listOf u from) (begun from old) to x → Spoken (namesAt line) (dup from old to new code)
         → single t reply k (ran k x) .answer .number ≡ 0 → Received t (listOf u from) (begun from old) to (single t reply k (ran k x) .table)
@@ -318,14 +317,14 @@ nobody-more t line text reply u k from old to new code a z = go (course t line t
         (λ p v _ n. let o : ⊥ = omega arith in absurd o)
 
     grants : (r : Request) → r ≡ dup from old to new code → Sound t → Told text r → Spoken (namesAt line) r
-        → requested t line text reply u k ≡ granted t text reply u k r
-        → Received t (listOf u from) (begun from old) to (requested t line text reply u k .table)
+        → requested boxed t line text reply u k ≡ granted boxed t text reply u k r
+        → Received t (listOf u from) (begun from old) to (requested boxed t line text reply u k .table)
     grants r q c h w e =
-        let y : requested t line text reply u k ≡ single t reply k (ran k x) = rw q at e in
+        let y : requested boxed t line text reply u k ≡ single t reply k (ran k x) = rw q at e in
         let s : Told text (dup from old to new code) = rw q at h in
         rw y (ends (dup-hands t c (listOf u from) (listOf u to) to (begun from old) (begun to new) code s) (rw q at w) (rw y at z))
 
-    go : Course t line text reply u → Received t (listOf u from) (begun from old) to (requested t line text reply u k .table)
+    go : Course t line text reply u → Received t (listOf u from) (begun from old) to (requested boxed t line text reply u k .table)
     go (untried f h e) = let n : f .number ≡ 0 = rw (e k) at z in let o : ⊥ = omega (arith, fair-some (namesAt line) f h) in absurd o
     go (tried r h e) =
         let q = sym (h .asked) ∙ a in
@@ -342,12 +341,12 @@ Plain (halted f) = f .number ≢ 18
 another : (n : ℕ) (p : Place) (f : Refusal) → n ≢ 18 → refused (refusalAt n p) ≡ refused f → f .number ≢ 18
 another n p f d e z = let q : refusalAt n p ≡ f = cc in d (ap (λ (x : Refusal). x .number) q ∙ z)
 
-give-plain : (t : List ℕ) (v u n : ℕ) (old new : Word) (code : Part) → Plain (dupPlan t v u (giveTo n) old new code)
+give-plain : (t : List ℕ) (v u n : ℕ) (old new : Word) (code : Part) → Plain (dupPlan boxed t v u (giveTo n) old new code)
 unfolding dupPlan making verdict
 give-plain t v u n old new code =
     end-by Plain 1 walks t v old _ (λ _ f _ _. holder-by Plain 2 walks t u new _ (λ d _.
-    let m : Making = linking t f d new code in
-    by (m .entry) (noWrite (d .code)) (borne t m) (full t (d .holder)) (ltb (length (frees t)) (needed m (borne t m)))))
+    let m : Making = linking boxed t f d new code in
+    by (m .entry) (noWrite (d .code)) (borne boxed t m) (full t (d .holder)) (ltb (length (frees t)) (needed m (borne boxed t m)))))
   where
     walks : (n link : ℕ) → Walks n → n ≢ 18
     walks n link (inl (inl e)) = λ (z : n ≡ 18). omega arith
@@ -376,13 +375,13 @@ Still o = (o .answer .displaced ≡ 0) × (o .answer .number ≢ 18)
 -- the theorem: every give, whatever it answers
 pub never-displaces : (t line text reply : List ℕ) (u k : ℕ) (from : Begin) (old : Word) (n : ℕ) (new : Word) (code : Part)
     → asked line text ≡ request (dup from old (giveTo n) new code)
-    → (requested t line text reply u k .answer .displaced ≡ 0) × (requested t line text reply u k .answer .number ≢ 18)
+    → (requested boxed t line text reply u k .answer .displaced ≡ 0) × (requested boxed t line text reply u k .answer .number ≢ 18)
 unfolding requested granted entrance verdict
 never-displaces t line text reply u k from old n new code a =
-    enters (not (sized t)) (not (sound t)) (ltb 999999 u)
+    enters (not (sized t)) (not (sound boxed t)) (ltb 999999 u)
   where
     x : Planned
-    x = dupPlan t (listOf u from) n (giveTo n) (begun from old) (begun (giveTo n) new) code
+    x = dupPlan boxed t (listOf u from) n (giveTo n) (begun from old) (begun (giveTo n) new) code
 
     plain : Plain x
     plain = give-plain t (listOf u from) n n (begun from old) (begun (giveTo n) new) code
@@ -401,7 +400,7 @@ never-displaces t line text reply u k from old n new code a =
         (λ p v _. (rw (done-plain p v), λ (z : _≡_ {A = ℕ} 0 18). let o : ⊥ = omega arith in absurd o))
         (λ p v _. (refl, λ (z : _≡_ {A = ℕ} 22 18). let o : ⊥ = omega arith in absurd o))
 
-    enters : (b c d : Bool) → Still (admitted t line text reply u k
+    enters : (b c d : Bool) → Still (admitted boxed t line text reply u k
         (cond b (refused (refusalAt 1 (whole 0))) (cond c (refused (refusalAt 2 (whole 0))) (cond d (refused (refusalAt 3 (whole 0))) passed))))
     enters true c d = (refl, λ (z : _≡_ {A = ℕ} 1 18). let o : ⊥ = omega arith in absurd o)
     enters false true d = (refl, λ (z : _≡_ {A = ℕ} 2 18). let o : ⊥ = omega arith in absurd o)

@@ -12,6 +12,7 @@ use native.Mathlib.Decide.{decLe}
 use lib.ListN.{length, take}
 use lib.Seq.{take-all}
 use Rattle.paper.specs.Record.{byte, headingCode, held, rewritten}
+use Rattle.paper.specs.Layout.{boxed}
 use Rattle.paper.specs.Table.{sized, rec, room, textRoom}
 use Rattle.paper.specs.Declaration.{Part}
 use Rattle.paper.specs.Line.{Word}
@@ -51,19 +52,19 @@ use Rattle.demands.proofs.PowerCut.Remade.{cut-first, cut-half, cut-las
 pub record Rewrote (t line text reply : List ℕ) (u j : ℕ) (name : Word) : Type 0 where
   pub directory : State
   pub end : State
-  pub walked : toDirectory t 1 (start u) (chainOf name) ≡ reached directory
-  pub last : toLast t directory (chainOf name) ≡ reached end
+  pub walked : toDirectory boxed t 1 (start u) (chainOf name) ≡ reached directory
+  pub last : toLast boxed t directory (chainOf name) ≡ reached end
   pub fit : Rewrite t (file t end) text
-  pub tables : (k : ℕ) → requested t line text reply u k .table ≡ run t (take k (rewriting t (file t end) text))
-  pub table : requested t line text reply u j .table ≡ run t (rewriting t (file t end) text)
-  pub stores : requested t line text reply u j .answer .stores ≡ length (rewriting t (file t end) text)
+  pub tables : (k : ℕ) → requested boxed t line text reply u k .table ≡ run t (take k (rewriting t (file t end) text))
+  pub table : requested boxed t line text reply u j .table ≡ run t (rewriting t (file t end) text)
+  pub stores : requested boxed t line text reply u j .answer .stores ≡ length (rewriting t (file t end) text)
 
 -- at one stop number it is whole, and so at each it makes the first of those stores
 module _ (t line text reply : List ℕ) (u j : ℕ) (name : Word) (c : Sound t) (short : length text ≤ 24000)
-    (q : (k : ℕ) → requested t line text reply u k ≡ single t reply k (ran k (rewritePlan t u text name)))
-    (z : requested t line text reply u j .answer .number ≡ 0) where
+    (q : (k : ℕ) → requested boxed t line text reply u k ≡ single t reply k (ran k (rewritePlan boxed t u text name)))
+    (z : requested boxed t line text reply u j .answer .number ≡ 0) where
   abbrev x : Planned
-  x = rewritePlan t u text name
+  x = rewritePlan boxed t u text name
 
   abbrev Whole : Type 0
   Whole = (p : Plan) × Passed x p × (length (p .stores) ≤ j)
@@ -91,20 +92,20 @@ module _ (t line text reply : List ℕ) (u j : ℕ) (name : Word) (c : Sound t) 
         stores = many ∙ ap length (g .stores);
       }
     where
-      at : (k : ℕ) → requested t line text reply u k .table ≡ run t (take k (p .stores))
+      at : (k : ℕ) → requested boxed t line text reply u k .table ≡ run t (take k (p .stores))
       at k =
           by-cases (decLe (length (p .stores)) k)
           (λ (m : length (p .stores) ≤ k). rw (q k, passes k x p v m, take-all k (p .stores) m))
           (λ (m : ¬ (length (p .stores) ≤ k)). rw (q k, cuts k x p v (omega arith)))
 
-      at-j : requested t line text reply u j .table ≡ run t (p .stores)
+      at-j : requested boxed t line text reply u j .table ≡ run t (p .stores)
       at-j = rw (q j, passes j x p v l)
 
-      many : requested t line text reply u j .answer .stores ≡ length (p .stores)
+      many : requested boxed t line text reply u j .answer .stores ≡ length (p .stores)
       many = rw (q j, passes j x p v l)
 
-module _ (t line text reply : List ℕ) (u j : ℕ) (name : Word) (s : sized t ≡ true) (e : sound t ≡ true)
-    (a : asked line text ≡ request (rewrite name)) (z : requested t line text reply u j .answer .number ≡ 0) where
+module _ (t line text reply : List ℕ) (u j : ℕ) (name : Word) (s : sized t ≡ true) (e : sound boxed t ≡ true)
+    (a : asked line text ≡ request (rewrite name)) (z : requested boxed t line text reply u j .answer .number ≡ 0) where
   right : Right t
   right = sound-right t s e
 
@@ -120,7 +121,7 @@ module _ (t line text reply : List ℕ) (u j : ℕ) (name : Word) (s : sized t �
       go (tried r h q) =
           let b : r ≡ rewrite name = same-request (sym (h .asked) ∙ a) in
           let m : Told text (rewrite name) = rw b at (h .told) in
-          let p : (k : ℕ) → requested t line text reply u k ≡ granted t text reply u k (rewrite name) = rw b at q in
+          let p : (k : ℕ) → requested boxed t line text reply u k ≡ granted boxed t text reply u k (rewrite name) = rw b at q in
           let w = whole t line text reply u j name c (m .text) p z in
           by-plan t line text reply u j name c (m .text) p z (w .0) (w .1) (w .2)
 
@@ -129,17 +130,17 @@ module _ (t line text reply : List ℕ) (u j : ℕ) (name : Word) (s : sized t �
   the-file = file t (rewrote .end)
 
   -- "the heading marked .., old text cleared by position, new text .., heading unmarked"
-  pub rewrite-stores : requested t line text reply u j .answer .stores ≡ 2 + blocksOf t the-file + blocks (length text)
+  pub rewrite-stores : requested boxed t line text reply u j .answer .stores ≡ 2 + blocksOf t the-file + blocks (length text)
   unfolding the-file
   rewrite-stores = rewrote .stores ∙ length-rewriting t (file t (rewrote .end)) text
 
   -- "before, after, or after with that one file marked and empty", and when: before at no store, after at all, and at every cut between
   pub record When : Type 0 where
-    pub none : mended (requested t line text reply u 0 .table) ≡ t
-    pub some : (k : ℕ) → 1 ≤ k → k < requested t line text reply u j .answer .stores
-        → mended (requested t line text reply u k .table) ≡ emptied (requested t line text reply u j .table) the-file
-    pub all : (k : ℕ) → requested t line text reply u j .answer .stores ≤ k
-        → mended (requested t line text reply u k .table) ≡ requested t line text reply u j .table
+    pub none : mended (requested boxed t line text reply u 0 .table) ≡ t
+    pub some : (k : ℕ) → 1 ≤ k → k < requested boxed t line text reply u j .answer .stores
+        → mended (requested boxed t line text reply u k .table) ≡ emptied (requested boxed t line text reply u j .table) the-file
+    pub all : (k : ℕ) → requested boxed t line text reply u j .answer .stores ≤ k
+        → mended (requested boxed t line text reply u k .table) ≡ requested boxed t line text reply u j .table
 
   pub rewrite-when : When
   unfolding the-file
@@ -159,7 +160,7 @@ module _ (t line text reply : List ℕ) (u j : ℕ) (name : Word) (s : sized t �
 pub record Leads (t : List ℕ) (v h : ℕ) (from : Begin) (name : Word) : Type 0 where
   pub directory : State
   pub end : State
-  pub walk : ended t (start (listOf v from)) (chainOf (begun from name)) ≡ arrived directory end
+  pub walk : ended boxed t (start (listOf v from)) (chainOf (begun from name)) ≡ arrived directory end
   pub file : file t end ≡ h
   pub reads : noRead (end .code) ≡ false
 
@@ -178,7 +179,7 @@ module _ (t : List ℕ) (h : ℕ) (new : List ℕ) (c : Sound t) (w : Rewrite t 
   code-rewritten = rw (code-emptied, heading-there t h new c w) (rewritten-byte (rec t h) 0 (length new) 3 (omega arith, inl (omega arith)))
 
   -- a walk ends after as it ended before
-  same-end : (s : State) (ns : List (List ℕ)) → ended g s ns ≡ ended t s ns
+  same-end : (s : State) (ns : List (List ℕ)) → ended boxed g s ns ≡ ended boxed t s ns
   same-end s ns =
       ended-same (emptied t h) g h (emptied-sound t h c (w .file)) (refilled t h new c w) code-rewritten s ns
       ∙ ended-same t (emptied t h) h c (emptied-retexted t h c (w .file)) code-emptied s ns
@@ -207,7 +208,7 @@ module _ (t : List ℕ) (h : ℕ) (new : List ℕ) (c : Sound t) (w : Rewrite t 
   -- whoever could read the file before reads the new text, or the part of it that he asks for
   reads-new : (v : ℕ) (from : Begin) (name : Word) (first count : Part) (line text reply : List ℕ) (k : ℕ)
       → countsTrue t ≡ true → asked line text ≡ request (rds from name first count) → v ≤ 999999 → Leads t v h from name → Holds new reply first count
-      → requested g line text reply v k ≡ bringing g (part new first count) reply
+      → requested boxed g line text reply v k ≡ bringing g (part new first count) reply
   reads-new v from name first count line text reply k e a l p m =
       let q : grantedText g v from name granted-g ≡ new = ap (fileText g) at-h ∙ new-text in
       part-read g line text reply v k from name first count a granted-g (rw q m) ∙ rw q
@@ -237,13 +238,13 @@ module _ (t : List ℕ) (h : ℕ) (new : List ℕ) (c : Sound t) (w : Rewrite t 
 
 -- the theorem for the customer: after a granted `WRS*`, RDS by every path that could read the file before, of every user, brings the
 -- new text, or the part of it that is asked for, into every buffer that it fits
-pub rewrite-read : (t line text reply : List ℕ) (u j : ℕ) (name : Word) (s : sized t ≡ true) (e : sound t ≡ true)
-    (a : asked line text ≡ request (rewrite name)) (z : requested t line text reply u j .answer .number ≡ 0)
+pub rewrite-read : (t line text reply : List ℕ) (u j : ℕ) (name : Word) (s : sized t ≡ true) (e : sound boxed t ≡ true)
+    (a : asked line text ≡ request (rewrite name)) (z : requested boxed t line text reply u j .answer .number ≡ 0)
     → (v : ℕ) (from : Begin) (path : Word) (first count : Part) (rds-line rds-text back : List ℕ) (k : ℕ)
     → asked rds-line rds-text ≡ request (rds from path first count) → v ≤ 999999
     → Leads t v (the-file t line text reply u j name s e a z) from path → Holds text back first count
-    → requested (requested t line text reply u j .table) rds-line rds-text back v k
-    ≡ bringing (requested t line text reply u j .table) (part text first count) back
+    → requested boxed (requested boxed t line text reply u j .table) rds-line rds-text back v k
+    ≡ bringing (requested boxed t line text reply u j .table) (part text first count) back
 unfolding the-file
 rewrite-read t line text reply u j name s e a z v from path first count l x back k b m p n =
     let g = rewrote t line text reply u j name s e a z in

@@ -14,6 +14,7 @@ use lib.Seq.{take-all}
 use borrow.Author.Tests.{ltb-false}
 use Rattle.paper.specs.Scan.{Found, at, nowhere}
 use Rattle.paper.specs.Record.{byte, headingNamed, blank, level, lifetime, entryCode, headingRecord, rewritten}
+use Rattle.paper.specs.Layout.{boxed}
 use Rattle.paper.specs.Table.{rooms, rec, frees, room, textRoom}
 use Rattle.paper.specs.Name.{dotG, pointed, chain}
 use Rattle.paper.specs.Declaration.{Part, orElse}
@@ -31,7 +32,7 @@ use Rattle.paper.specs.Answer.{Outcome, ran, single, oneName, deleting, granted
 use Rattle.laws.proofs.Tests.{either}
 use Rattle.laws.proofs.Lists.{Every, every-append, every-each, every-imp, every-parts, every-take}
 use Rattle.laws.proofs.Fields.{entry-record-kind, entry-holder, entry-user, length-entry}
-use Rattle.laws.proofs.Entries.{Stands, stands-true, found-stands, link-short}
+use Rattle.laws.proofs.Entries.{Stands, stands-true, found-stands}
 use Rattle.laws.proofs.Lay.{length-blank, length-rec, lay-same, lay-other, within}
 use Rattle.laws.proofs.Runs.{Lays, run-each, rooms-run}
 use Rattle.laws.proofs.Rooms.{room-below, room-kind}
@@ -86,9 +87,9 @@ mine w = aim own w
 
 -- d is where the walk to the directory of a name of user u ends: from the base list of u, or, by a give, from another user's `.G`
 pub data Comes (t : List ℕ) (u : ℕ) (name : Aim) (d : Holder) : Type 0 where
-  walked : (s : State) → toDirectory t 1 (start u) (chainOf (name .word)) ≡ reached s → d ≡ s .holder → Comes t u name d
+  walked : (s : State) → toDirectory boxed t 1 (start u) (chainOf (name .word)) ≡ reached s → d ≡ s .holder → Comes t u name d
   given : (n : ℕ) (link : List ℕ) (s : State) → name .begin ≡ giveTo n → drop 1 (name .word .names) ≡ link ∷ []
-      → toDirectory t 1 (start n) (dotG ∷ link ∷ []) ≡ reached s → d ≡ s .holder → Comes t u name d
+      → toDirectory boxed t 1 (start n) (dotG ∷ link ∷ []) ≡ reached s → d ≡ s .holder → Comes t u name d
 
 record Settles (t : List ℕ) (u : ℕ) (name : Aim) (ss : List Store) : Type 0 where
   holder : Holder
@@ -180,16 +181,16 @@ module _ (t : List ℕ) (c : Sound t) where
   -- a new entry, given that the stores before it are debris
   making-sets : (u : ℕ) (name : Aim) (m : Making) (thirteen fifteen late : List Check) → (length (m .first) ≤ length (frees t) → Every (Litters t) (m .first))
       → length (m .entry) ≡ 32 → Stands (m .directory .holder) (m .entry) → Comes t u name (m .directory .holder)
-      → Sets t u name (making t m thirteen fifteen late)
+      → Sets t u name (making boxed t m thirteen fifteen late)
   unfolding making
   making-sets u name m thirteen fifteen late lit size st w v =
       let a = every-parts Idle (thirteen ++ writeInhibited (m .place) (m .directory) ∷ fifteen) _ (verdict-idle _ v) .1 in
-      go (borne t m) refl (ltb-false _ _ (a .1 .1 .0))
+      go (borne boxed t m) refl (ltb-false _ _ (a .1 .1 .0))
     where
       no-heading : byte (m .entry) 0 ≢ 1
       no-heading = λ (z : byte (m .entry) 0 ≡ 1). omega (arith, st .kind)
 
-      go : (x : Found) → borne t m ≡ x → needed m x ≤ length (frees t) → Settles t u name (placing t m x)
+      go : (x : Found) → borne boxed t m ≡ x → needed m x ≤ length (frees t) → Settles t u name (placing t m x)
       go (at e) q enough =
           let f = found-stands t (m .directory .holder) (m .name) e q in
           record {
@@ -226,7 +227,7 @@ module _ (t : List ℕ) (c : Sound t) where
           }
 
   -- an entry that may be laid in d stands there
-  stands-new : (d : State) (code h : ℕ) (name : List ℕ) → Entered t (d .holder) code name → Stands (d .holder) (entryIn d code h name)
+  stands-new : (d : State) (code h : ℕ) (name : List ℕ) → Entered t (d .holder) code name → Stands (d .holder) (entryIn boxed d code h name)
   stands-new d code h name x =
       record {
         kind = entry-record-kind code (d .holder .heading) h (d .holder .user) name;
@@ -236,11 +237,11 @@ module _ (t : List ℕ) (c : Sound t) where
 
   filing-sets : (u place : ℕ) (w : Word) (d : State) (type lev code life n : ℕ) (body : List ℕ) (thirteen fifteen late : List Check)
       → Entered t (d .holder) code (lastName (chainOf w)) → Comes t u (mine w) (d .holder)
-      → Sets t u (mine w) (making t (filing t place w d code (headingRecord type lev code life n) body) thirteen fifteen late)
+      → Sets t u (mine w) (making boxed t (filing boxed t place w d code (headingRecord type lev code life n) body) thirteen fifteen late)
   filing-sets u place w d type lev code life n body thirteen fifteen late x o =
-      making-sets u (mine w) (filing t place w d code head body) thirteen fifteen late
+      making-sets u (mine w) (filing boxed t place w d code head body) thirteen fifteen late
       (λ enough. littering t c head body (roomy t type lev code life n body (omega (arith, length-file t head body, enough))))
-      (length-entry code (d .holder .heading) (room t 0) (d .holder .user) (lastName (chainOf w)) (link-short _ (x .fields .legal) .1))
+      (length-entry code (d .holder .heading) (room t 0) (d .holder .user) (lastName (chainOf w)))
       (stands-new d code (room t 0) (lastName (chainOf w)) x) o
     where
       head : List ℕ
@@ -253,7 +254,7 @@ module _ (t : List ℕ) (c : Sound t) where
   at-most b d p h l = within-else 0 b d p h (omega arith) l .1
 
   module _ (u : ℕ) (most : u ≤ 999999) where
-    crd-sets : (name : Word) (lev code : Part) → CrdRead name lev code → Sets t u (mine name) (crdPlan t u name lev code)
+    crd-sets : (name : Word) (lev code : Part) → CrdRead name lev code → Sets t u (mine name) (crdPlan boxed t u name lev code)
     unfolding crdPlan
     crd-sets name lev code h =
         holder-by (Sets t u (mine name)) 1 (λ _ _ _. tt) t u name _ (λ d q.
@@ -261,14 +262,14 @@ module _ (t : List ℕ) (c : Sound t) where
         (entered t c u name d (orElse code 0) most (h .name) (at-most 7 0 code (h .code) (omega arith)) q) (walked d q refl))
 
     wrs-sets : (body : List ℕ) (life : ℕ) (lev code : Part) (name : Word) → WrsRead body life lev code name
-        → Sets t u (mine name) (wrsPlan t u body life lev code name)
+        → Sets t u (mine name) (wrsPlan boxed t u body life lev code name)
     unfolding wrsPlan
     wrs-sets body life lev code name h =
         holder-by (Sets t u (mine name)) 2 (λ _ _ _. tt) t u name _ (λ d q.
         filing-sets u 2 name d 1 (orElse lev 0) (orElse code 0) life (length body) body [] [] []
         (entered t c u name d (orElse code 0) most (h .name) (at-most 7 0 code (h .code) (omega arith)) q) (walked d q refl))
 
-    cpy-sets : (v : ℕ) (old new : Word) (life lev code : Part) → CpyRead old new life lev code → Sets t u (mine new) (cpyPlan t v u old new life lev code)
+    cpy-sets : (v : ℕ) (old new : Word) (life lev code : Part) → CpyRead old new life lev code → Sets t u (mine new) (cpyPlan boxed t v u old new life lev code)
     unfolding cpyPlan
     cpy-sets v old new life lev code h =
         end-by (Sets t u (mine new)) 1 (λ _ _ _. tt) t v old _ (λ _ f _ _. holder-by (Sets t u (mine new)) 2 (λ _ _ _. tt) t u new _ (λ d q.
@@ -280,20 +281,20 @@ module _ (t : List ℕ) (c : Sound t) where
 
     -- a new name of DUP, one's own or a give
     dup-comes : (to : Begin) (new : Word) → Gives to (begun to new) → (d : State)
-        → toDirectory t 1 (start (listOf u to)) (chainOf (begun to new)) ≡ reached d → Comes t u (aim to new) (d .holder)
+        → toDirectory boxed t 1 (start (listOf u to)) (chainOf (begun to new)) ≡ reached d → Comes t u (aim to new) (d .holder)
     unfolding chain pointed
     dup-comes own new g d q = walked d q refl
     dup-comes (takeOf n) new g d q = absurd g
     dup-comes (giveTo n) new g d q = go (drop 1 (new .names)) refl (g .1) q
       where
-        go : (ns : List (List ℕ)) → drop 1 (new .names) ≡ ns → suc (length ns) ≡ 2 → toDirectory t 1 (start n) (dotG ∷ ns) ≡ reached d
+        go : (ns : List (List ℕ)) → drop 1 (new .names) ≡ ns → suc (length ns) ≡ 2 → toDirectory boxed t 1 (start n) (dotG ∷ ns) ≡ reached d
             → Comes t u (aim (giveTo n) new) (d .holder)
         go [] e l r = let z : ⊥ = omega arith in absurd z
         go (link ∷ []) e l r = given n link d refl e r refl
         go (link ∷ m ∷ ns) e l r = let z : ⊥ = omega arith in absurd z
 
     dup-sets : (v : ℕ) (to : Begin) (old new : Word) (code : Part) → DupRead old (begun to new) to code
-        → Sets t u (aim to new) (dupPlan t v (listOf u to) to old (begun to new) code)
+        → Sets t u (aim to new) (dupPlan boxed t v (listOf u to) to old (begun to new) code)
     unfolding dupPlan
     dup-sets v to old new code h =
         end-by (Sets t u (aim to new)) 1 (λ _ _ _. tt) t v old _ (λ e f _ r.
@@ -302,18 +303,17 @@ module _ (t : List ℕ) (c : Sound t) where
         let j : ℕ = joined (entryCode (rec t (f .entry))) (orElse code 0) in
         let b = joined-code _ _ (entry-code (rec t (f .entry)) (s .own)) (at-most 7 0 code (h .code) (omega arith)) in
         let x = entered t c (listOf u to) (begun to new) d j (list-most u to (begun to new) (h .gives) most) (h .new) b q in
-        making-sets u (aim to new) (linking t f d (begun to new) code) [] _ _ (λ _. tt)
-        (length-entry j (d .holder .heading) (file t f) (d .holder .user) (lastName (chainOf (begun to new))) (link-short _ (x .fields .legal) .1))
+        making-sets u (aim to new) (linking boxed t f d (begun to new) code) [] _ _ (λ _. tt)
+        (length-entry j (d .holder .heading) (file t f) (d .holder .user) (lastName (chainOf (begun to new))))
         (stands-new d j (file t f) (lastName (chainOf (begun to new))) x) (dup-comes to new (h .gives) d q)))
 
-    chn-sets : (old link : Word) → ChnRead old link → Sets t u (mine old) (chnPlan t u old link)
+    chn-sets : (old link : Word) → ChnRead old link → Sets t u (mine old) (chnPlan boxed t u old link)
     unfolding chnPlan
     chn-sets old link h =
         end-by (Sets t u (mine old)) 1 (λ _ _ _. tt) t u old _ (λ d f q r _.
         let l = last-looked t d (chainOf old) f r in
         let size = length-rec t (f .entry) (l .within) in
-        let short = link-short _ (h .link) .1 in
-        let like = renamed-like (rec t (f .entry)) (lastName (link .names)) size (l .stands .kind) short in
+        let like = renamed-like (rec t (f .entry)) (lastName (link .names)) size (l .stands .kind) in
         let same = like .entry (l .stands .kind) in
         record {
           holder = d .holder;
@@ -322,14 +322,14 @@ module _ (t : List ℕ) (c : Sound t) where
           each = (
             record {
               within = l .within;
-              size = length-renamed (rec t (f .entry)) (lastName (link .names)) size (l .stands .kind) short;
+              size = length-renamed (rec t (f .entry)) (lastName (link .names)) size (l .stands .kind);
               holds = entry refl (λ _. l .stands) (λ k. record { kind = k; heading = same .holder ∙ l .stands .heading; user = same .user ∙ l .stands .user });
             },
             tt,
           );
         })
 
-    dpr-sets : (name : Word) (code : ℕ) → Sets t u (mine name) (dprPlan t u name code)
+    dpr-sets : (name : Word) (code : ℕ) → Sets t u (mine name) (dprPlan boxed t u name code)
     unfolding dprPlan
     dpr-sets name code =
         end-by (Sets t u (mine name)) 1 (λ _ _ _. tt) t u name _ (λ d f q r _.
@@ -353,8 +353,8 @@ module _ (t : List ℕ) (c : Sound t) where
         })
 
     -- a rewrite lays no entry, and over none
-    rewrite-sets : (body : List ℕ) (name : Word) → length body ≤ 24000 → Sets t u (mine name) (rewritePlan t u body name)
-    rewrite-sets body name short = go (rewritePlan t u body name) (rewrite-grants t c u body name short)
+    rewrite-sets : (body : List ℕ) (name : Word) → length body ≤ 24000 → Sets t u (mine name) (rewritePlan boxed t u body name)
+    rewrite-sets body name short = go (rewritePlan boxed t u body name) (rewrite-grants t c u body name short)
       where
         free-not : (h : ℕ) (r : List ℕ) → Mine h r → byte r 0 ≢ 2
         free-not h r m = mine-not h r 2 m (omega arith) (omega arith)
@@ -382,7 +382,7 @@ module _ (t : List ℕ) (c : Sound t) where
                   (each-rewrites t hd body c (g .fit)));
             }
 
-    del-sets : (place : ℕ) (name : Word) → Sets t u (mine name) (delPlan t u place name)
+    del-sets : (place : ℕ) (name : Word) → Sets t u (mine name) (delPlan boxed t u place name)
     unfolding delPlan run
     del-sets place name =
         end-by (Sets t u (mine name)) place (λ _ _ _. tt) t u name _ (λ d f q r _.
@@ -457,19 +457,20 @@ single-shows t reply k x h =
     empty : (p : Plan) → Passed x p → p .stores ≡ []
     empty p v = let s : Shows (plan p) = rw (v .plan) at h in s
 
-del-steps : (u : ℕ) → u ≤ 999999 → (ws : List Word) (t reply : List ℕ) (k n made : ℕ) → Sound t → Steps u ws t (deleting delPlan t u reply k n made ws .table)
+del-steps : (u : ℕ) → u ≤ 999999 → (ws : List Word) (t reply : List ℕ) (k n made : ℕ) → Sound t
+    → Steps u ws t (deleting (delPlan boxed) t u reply k n made ws .table)
 unfolding deleting
 del-steps u l [] t reply k n made c = refl
 del-steps u l (w ∷ ws) t reply k n made c = one (λ t₁. del-steps u l ws t₁ reply)
   where
     x : Planned
-    x = delPlan t u (n + 1) w
+    x = delPlan boxed t u (n + 1) w
 
     sets : Sets t u (mine w) x
     sets = del-sets t c u l (n + 1) w
 
     rest : List ℕ → ℕ → ℕ → ℕ → Outcome
-    rest t₁ k₁ n₁ made₁ = deleting delPlan t₁ u reply k₁ n₁ made₁ ws
+    rest t₁ k₁ n₁ made₁ = deleting (delPlan boxed) t₁ u reply k₁ n₁ made₁ ws
 
     one : ((t₁ : List ℕ) (k₁ n₁ made₁ : ℕ) → Sound t₁ → Steps u ws t₁ (rest t₁ k₁ n₁ made₁ .table))
         → Steps u (w ∷ ws) t (oneName t reply k n made rest (ran k x) .table)
@@ -494,16 +495,16 @@ del-steps u l (w ∷ ws) t reply k n made c = one (λ t₁. del-steps u l ws t�
         ))
 
 -- a DST, name by name
-pub dst-steps : (u : ℕ) (ws : List Word) (t reply : List ℕ) (k n made : ℕ) → Sound t → Destroys t (deleting dstPlan t u reply k n made ws .table)
+pub dst-steps : (u : ℕ) (ws : List Word) (t reply : List ℕ) (k n made : ℕ) → Sound t → Destroys t (deleting (dstPlan boxed) t u reply k n made ws .table)
 unfolding deleting
 dst-steps u [] t reply k n made c = destroys-none t
 dst-steps u (w ∷ ws) t reply k n made c = one (λ t₁. dst-steps u ws t₁ reply)
   where
     x : Planned
-    x = dstPlan t u (n + 1) w
+    x = dstPlan boxed t u (n + 1) w
 
     rest : List ℕ → ℕ → ℕ → ℕ → Outcome
-    rest t₁ k₁ n₁ made₁ = deleting dstPlan t₁ u reply k₁ n₁ made₁ ws
+    rest t₁ k₁ n₁ made₁ = deleting (dstPlan boxed) t₁ u reply k₁ n₁ made₁ ws
 
     cut-at : (p : Plan) → Passed x p → (j : ℕ) → Destroys t (run t (take j (p .stores)))
     cut-at p v = passed-razes t x p (dst-razes t c u (n + 1) w) v
@@ -543,7 +544,7 @@ pub data Stood (t line body : List ℕ) (u : ℕ) (s : List ℕ) : Type 0 where
   destroyed : (ws : List Word) → asked line body ≡ request (dst ws) → Destroys t s → Stood t line body u s
 
 -- the theorem: every table, line, text, reply, user and stop number
-pub entry-stood : (t line body reply : List ℕ) (u k : ℕ) → Stood t line body u (requested t line body reply u k .table)
+pub entry-stood : (t line body reply : List ℕ) (u k : ℕ) → Stood t line body u (requested boxed t line body reply u k .table)
 unfolding granted rdsPlan lstPlan lstBasePlan lstTreePlan lstBaseTreePlan
 entry-stood t line body reply u k = go (course t line body reply u)
   where
@@ -561,35 +562,35 @@ entry-stood t line body reply u k = go (course t line body reply u)
     shows x h = lent (single-shows t reply k x h)
 
     grants : Sound t → u ≤ 999999 → (r : Request) → asked line body ≡ request r → Told body r
-        → Stood t line body u (granted t body reply u k r .table)
-    grants c l (crd name lev code) q h = one _ q (mine name) refl (crdPlan t u name lev code) c (crd-sets t c u l name lev code h)
+        → Stood t line body u (granted boxed t body reply u k r .table)
+    grants c l (crd name lev code) q h = one _ q (mine name) refl (crdPlan boxed t u name lev code) c (crd-sets t c u l name lev code h)
     grants c l (wrs life lev code name) q h =
-        one _ q (mine name) refl (wrsPlan t u body life lev code name) c (wrs-sets t c u l body life lev code name h)
+        one _ q (mine name) refl (wrsPlan boxed t u body life lev code name) c (wrs-sets t c u l body life lev code name h)
     grants c l (rds from name first count) q h =
-        shows (rdsPlan t (listOf u from) reply (begun from name) first count)
+        shows (rdsPlan boxed t (listOf u from) reply (begun from name) first count)
         (end-by Shows 1 (λ _ _ _. tt) t (listOf u from) (begun from name) _ (λ _ _ _ _. refl))
     grants c l (cpy from old new life lev code) q h =
-        one _ q (mine new) refl (cpyPlan t (listOf u from) u (begun from old) new life lev code) c
+        one _ q (mine new) refl (cpyPlan boxed t (listOf u from) u (begun from old) new life lev code) c
         (cpy-sets t c u l (listOf u from) (begun from old) new life lev code h)
     grants c l (dup from old to new code) q h =
-        one _ q (aim to new) refl (dupPlan t (listOf u from) (listOf u to) to (begun from old) (begun to new) code) c
+        one _ q (aim to new) refl (dupPlan boxed t (listOf u from) (listOf u to) to (begun from old) (begun to new) code) c
         (dup-sets t c u l (listOf u from) to (begun from old) new code h)
-    grants c l (chn old link) q h = one _ q (mine old) refl (chnPlan t u old link) c (chn-sets t c u l old link h)
+    grants c l (chn old link) q h = one _ q (mine old) refl (chnPlan boxed t u old link) c (chn-sets t c u l old link h)
     grants c l (del ws) q h = names ws q (del-steps u l ws t reply k 0 0 c)
     grants c l (dst ws) q h = destroyed ws q (dst-steps u ws t reply k 0 0 c)
-    grants c l (dpr name code) q h = one _ q (mine name) refl (dprPlan t u name code) c (dpr-sets t c u l name code)
+    grants c l (dpr name code) q h = one _ q (mine name) refl (dprPlan boxed t u name code) c (dpr-sets t c u l name code)
     grants c l (lst from name) q h =
-        shows (lstPlan t (listOf u from) reply (begun from name))
+        shows (lstPlan boxed t (listOf u from) reply (begun from name))
         (end-by Shows 1 (λ _ _ _. tt) t (listOf u from) (begun from name) _ (λ _ _ _ _. refl))
-    grants c l lstBase q h = shows (lstBasePlan t u reply) refl
+    grants c l lstBase q h = shows (lstBasePlan boxed t u reply) refl
     grants c l (lstTree from name depth) q h =
-        shows (lstTreePlan t (listOf u from) reply (begun from name) depth)
+        shows (lstTreePlan boxed t (listOf u from) reply (begun from name) depth)
         (end-by Shows 1 (λ _ _ _. tt) t (listOf u from) (begun from name) _ (λ _ _ _ _. refl))
-    grants c l (lstBaseTree depth) q h = shows (lstBaseTreePlan t u reply depth) refl
+    grants c l (lstBaseTree depth) q h = shows (lstBaseTreePlan boxed t u reply depth) refl
     grants c l (rewrite name) q h =
-        one _ q (mine name) refl (rewritePlan t u body name) c (rewrite-sets t c u l body name (h .text))
+        one _ q (mine name) refl (rewritePlan boxed t u body name) c (rewrite-sets t c u l body name (h .text))
 
-    go : Course t line body reply u → Stood t line body u (requested t line body reply u k .table)
+    go : Course t line body reply u → Stood t line body u (requested boxed t line body reply u k .table)
     go (untried f h e) = rw (e k) (lent refl)
     go (tried r h e) = rw (e k) (grants (sound-clauses t (h .sized) (h .sound)) (h .user) r (h .asked) (h .told))
 
@@ -659,10 +660,10 @@ abbrev pub NoDst : List ℕ → List ℕ → Type 0
 NoDst line body = (ws : List Word) → asked line body ≡ request (dst ws) → ⊥
 
 -- the theorem: a request of user u, cut or not, that is no DST, and the base list of every other user
-pub others-stay : (t line body reply : List ℕ) (u k v : ℕ) → v ≢ u → NoDst line body → Apart v t (requested t line body reply u k .table)
+pub others-stay : (t line body reply : List ℕ) (u k v : ℕ) → v ≢ u → NoDst line body → Apart v t (requested boxed t line body reply u k .table)
 others-stay t line body reply u k v n d = go (entry-stood t line body reply u k)
   where
-    go : Stood t line body u (requested t line body reply u k .table) → Apart v t (requested t line body reply u k .table)
+    go : Stood t line body u (requested boxed t line body reply u k .table) → Apart v t (requested boxed t line body reply u k .table)
     go (lent e) = apart-none v t _ e
     go (once r w q b x) = step-apart t u v w _ n x
     go (names ws q x) = steps-apart ws t u v _ n x
@@ -670,10 +671,10 @@ others-stay t line body reply u k v n d = go (entry-stood t line body reply u k)
 
 -- .. and a DST, cut or not: an entry, whoever's, is as it was, or is cleared and the heading that it named with it; and no entry comes
 pub destroyed-entries : (t line body reply : List ℕ) (u k : ℕ) (ws : List Word) → asked line body ≡ request (dst ws)
-    → Destroys t (requested t line body reply u k .table)
+    → Destroys t (requested boxed t line body reply u k .table)
 destroyed-entries t line body reply u k ws q = go (entry-stood t line body reply u k)
   where
-    go : Stood t line body u (requested t line body reply u k .table) → Destroys t (requested t line body reply u k .table)
+    go : Stood t line body u (requested boxed t line body reply u k .table) → Destroys t (requested boxed t line body reply u k .table)
     go (lent e) = rw e (destroys-none t)
     go (once r w z b x) = let c : r ≡ dst ws = cc in absurd (rw c at b)
     go (names vs z x) = let c : del vs ≡ dst ws = cc in absurd (true≢false (ap isDel c))

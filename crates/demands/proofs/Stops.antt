@@ -7,6 +7,7 @@ use Prim.Native.Nat.{ℕ, _+_, _-_, _≤_}
 use native.Mathlib.Omega.{arith}
 use native.Mathlib.Decide.{decLe}
 use lib.ListN.{length}
+use Rattle.paper.specs.Layout.{boxed}
 use Rattle.paper.specs.Line.{Word}
 use Rattle.paper.specs.Check.{Refusal}
 use Rattle.paper.specs.Store.{run}
@@ -55,11 +56,11 @@ deleting-same one (w ∷ ws) t u reply k j n made = go (λ t. deleting-same one 
         (λ p. r (run t (p .stores)) (k - length (p .stores)) (j - length (p .stores)) (n + 1) (made + length (p .stores)))
 
 -- two outcomes of one request that are not 22 are one
-pub stop-same : (t line text reply : List ℕ) (u k j : ℕ) → Uncut (requested t line text reply u k) → Uncut (requested t line text reply u j)
-    → requested t line text reply u k ≡ requested t line text reply u j
+pub stop-same : (t line text reply : List ℕ) (u k j : ℕ) → Uncut (requested boxed t line text reply u k) → Uncut (requested boxed t line text reply u j)
+    → requested boxed t line text reply u k ≡ requested boxed t line text reply u j
 stop-same t line text reply u k j a b = go (came t line text reply u)
   where
-    go : Came t line text reply u → requested t line text reply u k ≡ requested t line text reply u j
+    go : Came t line text reply u → requested boxed t line text reply u k ≡ requested boxed t line text reply u j
     go (lent f h q) = q k ∙ sym (q j)
     go (planned r e d x h q) = q k ∙ single-same t reply k j x (rw (q k) at a) (rw (q j) at b) ∙ sym (q j)
     go (deletes s names e _ q) = q k ∙ deleting-same (planOf s) names t u reply k j 0 0 (rw (q k) at a) (rw (q j) at b) ∙ sym (q j)

@@ -9,7 +9,8 @@ use native.Mathlib.Omega.{arith}
 use lib.Dec.{ltb}
 use lib.ListN.{length, take}
 use borrow.Author.Tests.{lt-ltb, le-ltb, le-leb}
-use Rattle.paper.specs.Record.{headingNamed, nameOf}
+use Rattle.paper.specs.Record.{headingNamed}
+use Rattle.paper.specs.Layout.{nameOf, boxed}
 use Rattle.paper.specs.Table.{rec}
 use Rattle.paper.specs.Name.{same, dotW, lonePoint}
 use Rattle.paper.specs.Line.{Word, words, word, legalLine}
@@ -27,28 +28,28 @@ nothing-below : (b : Bool) → _≡_ {A = List ℕ} (cond b [] []) []
 nothing-below true = refl
 nothing-below false = refl
 
-own-lines : (t es : List ℕ) → linesBy (entryBy (λ h. []) t 0) es ≡ lines t es
+own-lines : (t es : List ℕ) → linesBy (entryBy boxed (λ h. []) t 0) es ≡ lines boxed t es
 unfolding linesBy entryBy lines
 own-lines t [] = refl
 own-lines t (e ∷ es) = rw (nothing-below (opens t e), append-nil, own-lines t es)
 
-one-level : (t : List ℕ) (test : List ℕ → Bool) → tree t 1 0 test ≡ lines t (listed t test)
+one-level : (t : List ℕ) (test : List ℕ → Bool) → tree boxed t 1 0 test ≡ lines boxed t (listed boxed t test)
 unfolding tree
-one-level t test = own-lines t (listed t test)
+one-level t test = own-lines t (listed boxed t test)
 
 same-end : (z : End) (f g : State → State → Planned) → ((d s : State) → f d s ≡ g d s) → inward 1 z f ≡ inward 1 z g
 same-end (arrived d s) f g h = h d s
 same-end (astray number link) f g h = refl
 
 -- the plan, of two words that have the same names
-plan-one : (t : List ℕ) (v : ℕ) (reply : List ℕ) (w x : Word) → x .names ≡ w .names → lstTreePlan t v reply x 1 ≡ lstPlan t v reply w
+plan-one : (t : List ℕ) (v : ℕ) (reply : List ℕ) (w x : Word) → x .names ≡ w .names → lstTreePlan boxed t v reply x 1 ≡ lstPlan boxed t v reply w
 unfolding lstTreePlan lstPlan
 plan-one t v reply w x e =
-    rw e (same-end (ended t (start v) (chainOf w)) _ _ (λ d f. rw (one-level t (stands (inDirectory (file t f))))))
+    rw e (same-end (ended boxed t (start v) (chainOf w)) _ _ (λ d f. rw (one-level t (stands (inDirectory (file t f))))))
 
-plan-base-one : (t : List ℕ) (u : ℕ) (reply : List ℕ) → lstBaseTreePlan t u reply 1 ≡ lstBasePlan t u reply
+plan-base-one : (t : List ℕ) (u : ℕ) (reply : List ℕ) → lstBaseTreePlan boxed t u reply 1 ≡ lstBasePlan boxed t u reply
 unfolding lstBaseTreePlan lstBasePlan
-plan-base-one t u reply = rw (one-level t (λ r. stands (baseList u) r && not (same dotW (nameOf r))))
+plan-base-one t u reply = rw (one-level t (λ r. stands (baseList u) r && not (same dotW (nameOf boxed r))))
 
 begun-names : (from : Begin) (w x : Word) → x .names ≡ w .names → begun from x .names ≡ begun from w .names
 begun-names own w x e = e
@@ -56,17 +57,18 @@ begun-names (takeOf n) w x e = rw e
 begun-names (giveTo n) w x e = rw e
 
 module _ (t text reply : List ℕ) (u k : ℕ) where
-  granted-one : (from : Begin) (w x : Word) → x .names ≡ w .names → granted t text reply u k (lstTree from x 1) ≡ granted t text reply u k (lst from w)
+  granted-one : (from : Begin) (w x : Word) → x .names ≡ w .names
+      → granted boxed t text reply u k (lstTree from x 1) ≡ granted boxed t text reply u k (lst from w)
   unfolding granted
   granted-one from w x e = rw (plan-one t (listOf u from) reply (begun from w) (begun from x) (begun-names from w x e))
 
-  granted-base-one : granted t text reply u k (lstBaseTree 1) ≡ granted t text reply u k lstBase
+  granted-base-one : granted boxed t text reply u k (lstBaseTree 1) ≡ granted boxed t text reply u k lstBase
   unfolding granted
   granted-base-one = rw (plan-base-one t u reply)
 
   after-one : (v : Verdict) (from : Begin) (w x : Word) → x .names ≡ w .names
-      → acted t text reply u k (withText text (after v (request (lstTree from x 1))))
-      ≡ acted t text reply u k (withText text (after v (request (lst from w))))
+      → acted boxed t text reply u k (withText text (after v (request (lstTree from x 1))))
+      ≡ acted boxed t text reply u k (withText text (after v (request (lst from w))))
   unfolding verdict
   after-one passed from w x e = granted-one from w x e
   after-one (refused f) from w x e = refl
@@ -91,18 +93,18 @@ read-tree line a = rw (a .legal, a .function)
 
 -- the theorem: `LST` name and `LST*` name 1 answer alike, refusals and all, on every table
 pub depth-one : (t a b text reply : List ℕ) (u k : ℕ) → Asks (76 ∷ 83 ∷ 84 ∷ []) 1 a → Asks (76 ∷ 83 ∷ 84 ∷ 42 ∷ []) 2 b
-    → word b 1 .names ≡ word a 1 .names → word b 2 .names ≡ (49 ∷ []) ∷ [] → requested t b text reply u k ≡ requested t a text reply u k
+    → word b 1 .names ≡ word a 1 .names → word b 2 .names ≡ (49 ∷ []) ∷ [] → requested boxed t b text reply u k ≡ requested boxed t a text reply u k
 unfolding requested asked readLst readTree oldFrom depthOf verdict word
-depth-one t a b text reply u k x y e d = go (entrance t u)
+depth-one t a b text reply u k x y e d = go (entrance boxed t u)
   where
     point : (c : Bool) → lonePoint (word a 1 .names) ≡ c
-        → acted t text reply u k (withText text (readTree b)) ≡ acted t text reply u k (withText text (readLst a))
+        → acted boxed t text reply u k (withText text (readTree b)) ≡ acted boxed t text reply u k (withText text (readLst a))
     point true q = rw (e, q, counts _ 1 a x, counts _ 2 b y, d) (granted-base-one t text reply u k)
     point false q =
         rw (e, q, counts _ 1 a x, counts _ 2 b y, d)
         (after-one t text reply u k (verdict (malformed 1 (word a 1) ∷ illegalBut isTake 1 (word a 1) ∷ [])) (oldFrom (word a 1)) (word a 1) (word b 1) e)
 
-    go : (v : Verdict) → admitted t b text reply u k v ≡ admitted t a text reply u k v
+    go : (v : Verdict) → admitted boxed t b text reply u k v ≡ admitted boxed t a text reply u k v
     go (refused f) = refl
     go passed = rw (read-lst a x, read-tree b y) (point (lonePoint (word a 1 .names)) refl)
 
@@ -123,12 +125,12 @@ entryRows below t level e = record { level = level; entry = e } ∷ cond (opens 
 -- the lines of the entries that pass the test, to a depth, from a level on
 unfoldable pub rows : List ℕ → (depth level : ℕ) → (List ℕ → Bool) → List Row
 rows t zero level test = []
-rows t (suc depth) level test = rowsBy (entryRows (λ h. rows t depth (suc level) (stands (inDirectory h))) t level) (listed t test)
+rows t (suc depth) level test = rowsBy (entryRows (λ h. rows t depth (suc level) (stands (inDirectory h))) t level) (listed boxed t test)
 
 -- as bytes
 unfoldable pub shown : List ℕ → List Row → List ℕ
 shown t [] = []
-shown t (r ∷ rs) = subLine t (r .level * 2) (r .entry) ++ shown t rs
+shown t (r ∷ rs) = subLine boxed t (r .level * 2) (r .entry) ++ shown t rs
 
 -- those of fewer levels
 unfoldable pub above : ℕ → List Row → List Row
@@ -139,7 +141,7 @@ shown-append : (t : List ℕ) (xs ys : List Row) → shown t (xs ++ ys) ≡ show
 unfolding shown
 shown-append t [] ys = refl
 shown-append t (r ∷ xs) ys =
-    rw (shown-append t xs ys) (sym (append-assoc (subLine t (r .level * 2) (r .entry)) (shown t xs) (shown t ys)))
+    rw (shown-append t xs ys) (sym (append-assoc (subLine boxed t (r .level * 2) (r .entry)) (shown t xs) (shown t ys)))
 
 above-append : (n : ℕ) (xs ys : List Row) → above n (xs ++ ys) ≡ above n xs ++ above n ys
 unfolding above
@@ -158,20 +160,20 @@ module _ (t : List ℕ) where
   lines-rows f g h (e ∷ es) = rw (h e, lines-rows f g h es) (sym (shown-append t (g e) (rowsBy g es)))
 
   entry-rows : (f : ℕ → List ℕ) (g : ℕ → List Row) (level : ℕ) → ((h : ℕ) → f h ≡ shown t (g h)) → (e : ℕ)
-      → entryBy f t (level * 2) e ≡ shown t (entryRows g t level e)
+      → entryBy boxed f t (level * 2) e ≡ shown t (entryRows g t level e)
   unfolding entryBy entryRows shown
-  entry-rows f g level q e = ap (λ (x : List ℕ). subLine t (level * 2) e ++ x) (go (opens t e))
+  entry-rows f g level q e = ap (λ (x : List ℕ). subLine boxed t (level * 2) e ++ x) (go (opens t e))
     where
       go : (b : Bool) → cond b (f (headingNamed (rec t e))) [] ≡ shown t (cond b (g (headingNamed (rec t e))) [])
       go true = q (headingNamed (rec t e))
       go false = unfold shown in refl
 
-  pub tree-rows : (depth level : ℕ) (test : List ℕ → Bool) → tree t depth (level * 2) test ≡ shown t (rows t depth level test)
+  pub tree-rows : (depth level : ℕ) (test : List ℕ → Bool) → tree boxed t depth (level * 2) test ≡ shown t (rows t depth level test)
   unfolding tree rows shown
   tree-rows zero level test = refl
   tree-rows (suc depth) level test =
       let q : level * 2 + 2 ≡ suc level * 2 = omega arith in
-      rw q (lines-rows _ _ (entry-rows _ _ level (λ h. tree-rows depth (suc level) (stands (inDirectory h)))) (listed t test))
+      rw q (lines-rows _ _ (entry-rows _ _ level (λ h. tree-rows depth (suc level) (stands (inDirectory h)))) (listed boxed t test))
 
 -- ---- what is left out
 
@@ -216,8 +218,8 @@ none-above t zero level test n l = refl
 none-above t (suc depth) level test n l =
     rows-above n _ (λ e. [])
     (λ e. entry-none n _ t level e l (none-above t depth (suc level) (stands (inDirectory (headingNamed (rec t e)))) n (omega arith)))
-    (listed t test)
-    ∙ rows-none (listed t test)
+    (listed boxed t test)
+    ∙ rows-none (listed boxed t test)
 
 -- the theorem: of a deeper listing the lines of fewer levels than the depth are the listing of that depth, in its order
 pub shallower : (t : List ℕ) (depth more level : ℕ) (test : List ℕ → Bool)
@@ -230,12 +232,12 @@ shallower t (suc depth) more level test =
     rw (a, b)
     (rows-above (suc level + depth) _ _
     (λ e. entry-some (suc level + depth) _ _ t level e (omega arith) (λ h. shallower t depth more (suc level) (stands (inDirectory h))))
-    (listed t test))
+    (listed boxed t test))
 
 -- .. and begins with its first line
 pub first-line : (t : List ℕ) (depth level : ℕ) (test : List ℕ → Bool) → take 1 (rows t (suc depth) level test) ≡ take 1 (rows t 1 level test)
 unfolding rows rowsBy entryRows
-first-line t depth level test = go (listed t test)
+first-line t depth level test = go (listed boxed t test)
   where
     go : (es : List ℕ) → take 1 (rowsBy (entryRows (λ h. rows t depth (suc level) (stands (inDirectory h))) t level) es)
         ≡ take 1 (rowsBy (entryRows (λ h. []) t level) es)

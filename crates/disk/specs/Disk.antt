@@ -6,6 +6,7 @@ use mathlib.Core.Logic.{_⊎_}
 use mathlib.Core.Path.{_≡_}
 use Prim.Native.Nat.{ℕ, _-_, _<_}
 use lib.ListN.{length}
+use Rattle.paper.specs.Layout.{boxed}
 use Rattle.paper.specs.Table.{rooms, rec}
 use Rattle.paper.specs.Line.{Word}
 use Rattle.paper.specs.Request.{del, dst, rewrite, request, asked}
@@ -17,9 +18,9 @@ use Rattle.disk.specs.Phase.{first, entry, last, onlyCounts, phase}
 pub data Granted (t u : List ℕ) : Type 0 where
   whole : (line text reply : List ℕ) (user stop : ℕ) → ((names : List Word) → asked line text ≡ request (del names) → ⊥)
       → ((names : List Word) → asked line text ≡ request (dst names) → ⊥) → ((name : Word) → asked line text ≡ request (rewrite name) → ⊥)
-      → requested t line text reply user stop .answer .number ≡ 0 → u ≡ requested t line text reply user stop .table → Granted t u
-  name : (user stop done made : ℕ) (w : Word) → deleting delPlan t user [] stop done made (w ∷ []) .answer .number ≡ 0
-      → u ≡ deleting delPlan t user [] stop done made (w ∷ []) .table → Granted t u
+      → requested boxed t line text reply user stop .answer .number ≡ 0 → u ≡ requested boxed t line text reply user stop .table → Granted t u
+  name : (user stop done made : ℕ) (w : Word) → deleting (delPlan boxed) t user [] stop done made (w ∷ []) .answer .number ≡ 0
+      → u ≡ deleting (delPlan boxed) t user [] stop done made (w ∷ []) .table → Granted t u
 
 -- document 02, `WRS*`: the tables a, b and u after the first of its n stores, after all but the last, and after all
 pub record Rewritten (t a b u : List ℕ) : Type 0 where
@@ -30,10 +31,10 @@ pub record Rewritten (t a b u : List ℕ) : Type 0 where
   pub name : Word
   pub asked : asked line text ≡ request (rewrite name)
   pub stop : ℕ
-  pub granted : requested t line text reply user stop .answer .number ≡ 0
-  pub marked : a ≡ requested t line text reply user 1 .table
-  pub texts : b ≡ requested t line text reply user (requested t line text reply user stop .answer .stores - 1) .table
-  pub after : u ≡ requested t line text reply user stop .table
+  pub granted : requested boxed t line text reply user stop .answer .number ≡ 0
+  pub marked : a ≡ requested boxed t line text reply user 1 .table
+  pub texts : b ≡ requested boxed t line text reply user (requested boxed t line text reply user stop .answer .stores - 1) .table
+  pub after : u ≡ requested boxed t line text reply user stop .table
 
 -- document 02, `DST`, one name: the tables a and u after the first of its stores, and after all
 pub record Destroyed (t a u : List ℕ) : Type 0 where
@@ -42,9 +43,9 @@ pub record Destroyed (t a u : List ℕ) : Type 0 where
   pub done : ℕ
   pub made : ℕ
   pub name : Word
-  pub granted : deleting dstPlan t user [] stop done made (name ∷ []) .answer .number ≡ 0
-  pub cleared : a ≡ deleting dstPlan t user [] 1 done made (name ∷ []) .table
-  pub after : u ≡ deleting dstPlan t user [] stop done made (name ∷ []) .table
+  pub granted : deleting (dstPlan boxed) t user [] stop done made (name ∷ []) .answer .number ≡ 0
+  pub cleared : a ≡ deleting (dstPlan boxed) t user [] 1 done made (name ∷ []) .table
+  pub after : u ≡ deleting (dstPlan boxed) t user [] stop done made (name ∷ []) .table
 
 -- u is the table after one name of a DST on t
 pub data Razed (t u : List ℕ) : Type 0 where

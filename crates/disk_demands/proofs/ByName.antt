@@ -6,6 +6,7 @@ use mathlib.Core.Path.{_≡_, refl, sym, ap, _∙_}
 use Prim.Native.Nat.{ℕ, _+_}
 use native.Mathlib.Omega.{arith}
 use lib.ListN.{length}
+use Rattle.paper.specs.Layout.{boxed}
 use Rattle.paper.specs.Line.{Word}
 use Rattle.paper.specs.Request.{request, asked}
 use Rattle.paper.specs.Store.{run}
@@ -67,13 +68,13 @@ deleting-steps s (w ∷ ws) t u reply k n made = one (λ t₁. deleting-steps s 
 
 -- every DEL and every DST whose stop number is not reached
 pub del-steps : (s : Several) (t line text reply : List ℕ) (u k : ℕ) (names : List Word) → asked line text ≡ request (asking s names)
-    → requested t line text reply u k .answer .number ≢ 22 → Reached s t (requested t line text reply u k .table)
+    → requested boxed t line text reply u k .answer .number ≢ 22 → Reached s t (requested boxed t line text reply u k .table)
 del-steps s t line text reply u k names a d = go (course t line text reply u)
   where
-    go : Course t line text reply u → Reached s t (requested t line text reply u k .table)
+    go : Course t line text reply u → Reached s t (requested boxed t line text reply u k .table)
     go (untried f h e) = stays s t _ (rw (e k))
     go (tried r h e) =
         let q : r ≡ asking s names = same-request (sym (h .asked) ∙ a) in
-        let z : requested t line text reply u k ≡ deleting (planOf s) t u reply k 0 0 names =
-        e k ∙ ap (granted t text reply u k) q ∙ grants-names s t text reply u k names in
+        let z : requested boxed t line text reply u k ≡ deleting (planOf s) t u reply k 0 0 names =
+        e k ∙ ap (granted boxed t text reply u k) q ∙ grants-names s t text reply u k names in
         rw z (deleting-steps s names t u reply k 0 0 (rw z at d))

@@ -11,6 +11,7 @@ use lib.ListN.{length, take}
 use lib.Seq.{take-all}
 use borrow.Author.Tests.{eqb-true}
 use Rattle.paper.specs.Record.{byte, isKind, blank}
+use Rattle.paper.specs.Layout.{boxed}
 use Rattle.paper.specs.Table.{sized, rooms, rec}
 use Rattle.paper.specs.Line.{Word}
 use Rattle.paper.specs.Sound.{sound}
@@ -140,10 +141,10 @@ record Cleared (t a u : List ℕ) (r : Right t) : Type 0 where
 
 module _ (t : List ℕ) (r : Right t) (user done made : ℕ) (w : Word) where
   abbrev x : Planned
-  x = dstPlan t user (done + 1) w
+  x = dstPlan boxed t user (done + 1) w
 
   abbrev o : ℕ → Outcome
-  o k = deleting dstPlan t user [] k done made (w ∷ [])
+  o k = deleting (dstPlan boxed) t user [] k done made (w ∷ [])
 
   -- at each stop number the first of its stores
   table-at : (p : Plan) → Passed x p → (k : ℕ) → o k .table ≡ run t (take k (p .stores))
@@ -163,7 +164,7 @@ module _ (t : List ℕ) (r : Right t) (user done made : ℕ) (w : Word) where
       (λ p v l _. (p, v, l)) (λ p v l z. let b : ⊥ = omega (arith, z) in absurd b)
     where
       after : Ran → Outcome
-      after y = oneName t [] k done made (λ t₁ k₁ n₁ made₁. deleting dstPlan t₁ user [] k₁ n₁ made₁ []) y
+      after y = oneName t [] k done made (λ t₁ k₁ n₁ made₁. deleting (dstPlan boxed) t₁ user [] k₁ n₁ made₁ []) y
 
   by-stores : (ss : List Store) (a u : List ℕ) → Doomed t user w ss → a ≡ run t (take 1 ss) → u ≡ run t ss → Cleared t a u r
   by-stores ss a u e p q =
@@ -194,7 +195,7 @@ pub record Phases (t a u x : List ℕ) : Type 0 where
   pub either : (mended x ≡ t) ⊎ (mended x ≡ u)
   pub not-there : (i : ℕ) → i < rooms t → (rec a i ≡ rec t i → ⊥) → rec x i ≡ rec t i → mended x ≡ t
   pub there : (i : ℕ) → i < rooms t → (rec a i ≡ rec t i → ⊥) → rec x i ≡ rec a i → mended x ≡ u
-  pub answers : (k : ℕ) → length (mendStores x) ≤ k → mending x k ≡ mendedWhole x
+  pub answers : (k : ℕ) → length (mendStores x) ≤ k → mending boxed x k ≡ mendedWhole x
 
 module _ (t h-a h-u x : List ℕ) (r : Right t) (d : Cleared t h-a h-u r) (o : InTwo t h-a h-u x) where
   abbrev h : ℕ
@@ -240,5 +241,5 @@ module _ (t h-a h-u x : List ℕ) (r : Right t) (d : Cleared t h-a h-u r) (o : I
           sym (e .0) ∙ q ∙ ap (λ (z : List ℕ). rec z h) (d .first) ∙ clear-there t h r (d .kind) (d .childless) in
           let z : ⊥ = omega (arith, kind-blank (rec t h) b, d .kind) in absurd z
 
-pub destroy-on-disk : (t a u x : List ℕ) → sized t ≡ true → sound t ≡ true → Destroyed t a u → InTwo t a u x → Phases t a u x
+pub destroy-on-disk : (t a u x : List ℕ) → sized t ≡ true → sound boxed t ≡ true → Destroyed t a u → InTwo t a u x → Phases t a u x
 destroy-on-disk t a u x s e d o = let r = sound-right t s e in phases t a u x r (destroyed-cleared t a u r d) o

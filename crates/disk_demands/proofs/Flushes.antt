@@ -6,6 +6,7 @@ use mathlib.Core.Path.{_≡_, refl}
 use Prim.Native.Nat.{ℕ}
 use lib.Dec.{eqb}
 use lib.ListN.{replicate}
+use Rattle.paper.specs.Layout.{boxed}
 use Rattle.paper.specs.Table.{rec, lay}
 use Rattle.paper.specs.Name.{same}
 use Rattle.paper.specs.Sound.{sound}
@@ -32,7 +33,7 @@ dup = 68 ∷ 85 ∷ 80 ∷ 32 ∷ 46 ∷ 82 ∷ 32 ∷ 46 ∷ 71 ∷ []
 
 -- the table after a line of user 1, with one byte of text
 abbrev after : List ℕ → List ℕ → List ℕ
-after t line = requested t line (65 ∷ []) [] 1 9 .table
+after t line = requested boxed t line (65 ∷ []) [] 1 9 .table
 
 -- x, mended, is neither the table before a line nor the table after it
 abbrev neither : List ℕ → List ℕ → List ℕ → Bool
@@ -41,7 +42,7 @@ neither t line x = not (same (mended x) t) && not (same (mended x) (after t line
 -- record i is of phase p; with it alone as before, or it alone as after, the table mends to neither. Every definition is open, as in the
 -- cases marked P
 abbrev granted : List ℕ → List ℕ → ℕ → ℕ → Bool
-granted t line i p = eqb (requested t line (65 ∷ []) [] 1 9 .answer .number) 0 && eqb (phase t (after t line) i) p
+granted t line i p = eqb (requested boxed t line (65 ∷ []) [] 1 9 .answer .number) 0 && eqb (phase t (after t line) i) p
 
 unfoldable pub late : List ℕ → List ℕ → ℕ → ℕ → Bool
 unfolding hold phaseOf phase
@@ -75,7 +76,7 @@ dst-flush = refl
 -- another: not to be mended
 unfoldable pub mixed : List ℕ → ℕ → ℕ → (List ℕ → List ℕ) → Bool
 unfolding hold phaseOf phase
-mixed t k i other = not (sound (mended (lay (requested t rewrite (65 ∷ []) [] 1 k .table) i (rec (other t) i))))
+mixed t k i other = not (sound boxed (mended (lay (requested boxed t rewrite (65 ∷ []) [] 1 k .table) i (rec (other t) i))))
 
 -- the mark and the text together: the old text is cleared, and its heading as before
 pub mark-flush : mixed (after (replicate 96 0) wrs) 2 0 (λ t. t) ≡ true
@@ -83,6 +84,6 @@ unfolding mixed
 mark-flush = refl
 
 -- the text and the unmarking together: the heading is unmarked, and the new text is not there yet
-pub unmark-flush : mixed (after (replicate 96 0) wrs) 4 1 (λ t. requested t rewrite (65 ∷ []) [] 1 2 .table) ≡ true
+pub unmark-flush : mixed (after (replicate 96 0) wrs) 4 1 (λ t. requested boxed t rewrite (65 ∷ []) [] 1 2 .table) ≡ true
 unfolding mixed
 unmark-flush = refl

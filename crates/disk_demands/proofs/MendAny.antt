@@ -6,6 +6,7 @@ use Prim.Native.Nat.{ℕ, _≤_}
 use native.Mathlib.Omega.{arith}
 use lib.ListN.{length}
 use borrow.Author.Tests.{eqb-true}
+use Rattle.paper.specs.Layout.{boxed}
 use Rattle.paper.specs.Table.{sized}
 use Rattle.paper.specs.Mend.{mendStores, mended}
 use Rattle.paper.specs.Answer.{mending}
@@ -18,18 +19,18 @@ use Rattle.disk.specs.Disk.{Agrees}
 -- it ends where the mend ended, and mending answers 0
 pub record EndsAs (x f : List ℕ) : Type 0 where
   pub end : mended x ≡ f
-  pub answers : (j : ℕ) → length (mendStores x) ≤ j → mending x j ≡ mendedWhole x
+  pub answers : (j : ℕ) → length (mendStores x) ≤ j → mending boxed x j ≡ mendedWhole x
 
-pub mend-any : (s x : List ℕ) (k : ℕ) → mending s k .answer .number ≡ 0 → Agrees s (mending s k .table) x → EndsAs x (mending s k .table)
+pub mend-any : (s x : List ℕ) (k : ℕ) → mending boxed s k .answer .number ≡ 0 → Agrees s (mending boxed s k .table) x → EndsAs x (mending boxed s k .table)
 mend-any s x k z a = go (mend-came s k)
   where
-    by : mended x ≡ mending s k .table → EndsAs x (mending s k .table)
+    by : mended x ≡ mending boxed s k .table → EndsAs x (mending boxed s k .table)
     by e = let f = mend-sound s k z in record { end = e; answers = λ j. mend-whole x j (rw e (f .0)) (rw e (f .1)) }
 
-    at : sized s ≡ true → mending s k .table ≡ mended s → EndsAs x (mending s k .table)
+    at : sized s ≡ true → mending boxed s k .table ≡ mended s → EndsAs x (mending boxed s k .table)
     at b e = by (rw e (again-any s x (eqb-true _ _ (and-left _ _ b)) (a .long) (λ i l. rw e at (a .each i l))))
 
-    go : MendCame s k (mending s k) → EndsAs x (mending s k .table)
+    go : MendCame s k (mending boxed s k) → EndsAs x (mending boxed s k .table)
     go (unsized b e) = let n : ⊥ = omega (arith, rw e at z) in absurd n
     go (unsound b c e) = let n : ⊥ = omega (arith, rw e at z) in absurd n
     go (whole b c l e) = at b (rw e)

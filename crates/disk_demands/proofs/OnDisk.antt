@@ -7,6 +7,7 @@ use mathlib.Core.Path.{_≡_, refl, sym, _∙_}
 use Prim.Native.Nat.{ℕ, _+_, _≤_}
 use native.Mathlib.Omega.{arith}
 use lib.ListN.{length}
+use Rattle.paper.specs.Layout.{boxed}
 use Rattle.paper.specs.Table.{sized, rec}
 use Rattle.paper.specs.Line.{Word}
 use Rattle.paper.specs.Sound.{sound}
@@ -54,23 +55,23 @@ single-turned t reply k c x safe keeps =
     ran-by (λ y. single t reply k y .answer .number ≡ 0 → Turned t (single t reply k y .table)) k x
     (λ _ _ _. unturned t t c refl) (λ p v _ _. plan-turned t x p safe keeps v) (λ p v l z. let n : ⊥ = omega (arith, z) in absurd n)
 
-name-turned : (t : List ℕ) (u k n made : ℕ) (w : Word) → Right t → deleting delPlan t u [] k n made (w ∷ []) .answer .number ≡ 0
-    → Turned t (deleting delPlan t u [] k n made (w ∷ []) .table)
+name-turned : (t : List ℕ) (u k n made : ℕ) (w : Word) → Right t → deleting (delPlan boxed) t u [] k n made (w ∷ []) .answer .number ≡ 0
+    → Turned t (deleting (delPlan boxed) t u [] k n made (w ∷ []) .table)
 unfolding deleting
 name-turned t u k n made w c =
-    ran-by (λ y. after y .answer .number ≡ 0 → Turned t (after y .table)) k (delPlan t u (n + 1) w)
+    ran-by (λ y. after y .answer .number ≡ 0 → Turned t (after y .table)) k (delPlan boxed t u (n + 1) w)
     (λ _ _ _. unturned t t c refl)
-    (λ p v _ _. plan-turned t (delPlan t u (n + 1) w) p (del-safe t (c .clauses) u (n + 1) w) (del-keeps t u (n + 1) w (c .clauses)) v)
+    (λ p v _ _. plan-turned t (delPlan boxed t u (n + 1) w) p (del-safe t (c .clauses) u (n + 1) w) (del-keeps t u (n + 1) w (c .clauses)) v)
     (λ p v l z. let b : ⊥ = omega (arith, z) in absurd b)
   where
     after : Ran → Outcome
-    after y = oneName t [] k n made (λ t₁ k₁ n₁ made₁. deleting delPlan t₁ u [] k₁ n₁ made₁ []) y
+    after y = oneName t [] k n made (λ t₁ k₁ n₁ made₁. deleting (delPlan boxed) t₁ u [] k₁ n₁ made₁ []) y
 
 pub granted-turned : (t u : List ℕ) → Right t → Granted t u → Turned t u
 granted-turned t u c (name user stop n made w z e) = rw e (name-turned t user stop n made w c z)
 granted-turned t u c (whole line text reply user stop alone all whole-file z e) = rw e (go (ways t line text reply user))
   where
-    go : Tried t line text reply user → Turned t (requested t line text reply user stop .table)
+    go : Tried t line text reply user → Turned t (requested boxed t line text reply user stop .table)
     go (lent f q) = rw (q stop) (unturned t t c refl)
     go (by-plan x safe keeps q) = rw (q stop) (single-turned t reply stop c x safe keeps (rw (q stop) at z))
     go (by-names deletion names a q) = absurd (alone names a)
@@ -82,9 +83,9 @@ pub record Mends (t u x : List ℕ) : Type 0 where
   pub either : (mended x ≡ t) ⊎ (mended x ≡ u)
   pub not-there : (i : ℕ) → phase t u i ≡ entry → rec x i ≡ rec t i → mended x ≡ t
   pub there : (i : ℕ) → phase t u i ≡ entry → rec x i ≡ rec u i → mended x ≡ u
-  pub answers : (k : ℕ) → length (mendStores x) ≤ k → mending x k ≡ mendedWhole x
+  pub answers : (k : ℕ) → length (mendStores x) ≤ k → mending boxed x k ≡ mendedWhole x
 
-pub on-disk : (t u x : List ℕ) → sized t ≡ true → sound t ≡ true → Granted t u → InOrder t u x → Mends t u x
+pub on-disk : (t u x : List ℕ) → sized t ≡ true → sound boxed t ≡ true → Granted t u → InOrder t u x → Mends t u x
 on-disk t u x s e g o =
     record {
       either = one;
@@ -106,11 +107,11 @@ on-disk t u x s e g o =
     end (inl q) = rw q c
     end (inr q) = rw q (d .sound)
 
-    f : (sized (mended x) ≡ true) × (sound (mended x) ≡ true)
+    f : (sized (mended x) ≡ true) × (sound boxed (mended x) ≡ true)
     f = right-sound (mended x) (end one)
 
 -- "the one record"
-pub one-entry : (t u : List ℕ) → sized t ≡ true → sound t ≡ true → Granted t u
+pub one-entry : (t u : List ℕ) → sized t ≡ true → sound boxed t ≡ true → Granted t u
     → (i j : ℕ) → phase t u i ≡ entry → phase t u j ≡ entry → i ≡ j
 one-entry t u s e g i j p q =
     let d = granted-turned t u (sound-right t s e) g in

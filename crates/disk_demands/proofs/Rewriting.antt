@@ -10,6 +10,7 @@ use native.Mathlib.Decide.{ℕ-discrete}
 use lib.ListN.{length, take, length-append}
 use lib.Seq.{take-append-seam}
 use Rattle.paper.specs.Record.{rewritten}
+use Rattle.paper.specs.Layout.{boxed}
 use Rattle.paper.specs.Table.{sized, rooms, rec, lay}
 use Rattle.paper.specs.Sound.{sound}
 use Rattle.paper.specs.Walk.{file}
@@ -134,9 +135,9 @@ pub record Phases (t a b u : List ℕ) : Type 0 where
   pub text : (x : List ℕ) → Agrees a b x → mended x ≡ half
   pub unmarks : (x : List ℕ) → Agrees b u x → (mended x ≡ half) ⊎ (mended x ≡ u)
   -- mending answers 0
-  pub answers : (x : List ℕ) → (mended x ≡ t) ⊎ ((mended x ≡ half) ⊎ (mended x ≡ u)) → (k : ℕ) → length (mendStores x) ≤ k → mending x k ≡ mendedWhole x
+  pub answers : (x : List ℕ) → (mended x ≡ t) ⊎ ((mended x ≡ half) ⊎ (mended x ≡ u)) → (k : ℕ) → length (mendStores x) ≤ k → mending boxed x k ≡ mendedWhole x
 
-pub rewrite-on-disk : (t a b u : List ℕ) → sized t ≡ true → sound t ≡ true → Rewritten t a b u → Phases t a b u
+pub rewrite-on-disk : (t a b u : List ℕ) → sized t ≡ true → sound boxed t ≡ true → Rewritten t a b u → Phases t a b u
 rewrite-on-disk t a₀ b₀ u₀ s e r =
     record {
       heading = h;

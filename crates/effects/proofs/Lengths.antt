@@ -12,6 +12,7 @@ use lib.ListN.{length, take, drop, length-append, length-take, length-drop}
 use borrow.Author.Tests.{eqb-true, eq-eqb, leb-true, lt-ltb}
 use Rattle.paper.specs.Scan.{anyBelow, countBelow, allBelow, joinBelow}
 use Rattle.paper.specs.Record.{byte, isKind, headingType, textLength, simple, bytesHeld, headingOf, position, held, textAt}
+use Rattle.paper.specs.Layout.{boxed}
 use Rattle.paper.specs.Table.{sized, rooms, rec, place, textRoom}
 use Rattle.paper.specs.Block.{blocks, share, blocksOf, fileText}
 use Rattle.paper.specs.Sound.{asAbove, holdersThere, headingsThere, usersRight, namesPadded, noneTwice, allNamed, noneCrowded, directoriesPlain, once, textsWhole, inPlace, noOtherText, namesLegal, countsTrue, shaped, sound}
@@ -67,16 +68,17 @@ record Texts (t : List ℕ) : Type 0 where
   pub whole : textsWhole t ≡ true
   pub other : noOtherText t ≡ true
 
-texts : (t : List ℕ) → sound t ≡ true → Texts t
+texts : (t : List ℕ) → sound boxed t ≡ true → Texts t
 unfolding shaped sound
 texts t z =
     let first : Bool =
-    asAbove t && holdersThere t && headingsThere t && usersRight t && namesPadded t && noneTwice t && allNamed t && noneCrowded t && directoriesPlain t in
-    let l = and-left (first && textsWhole t && noOtherText t) (namesLegal t) (and-left (shaped t) (countsTrue t) z) in
+    asAbove boxed t && holdersThere t && headingsThere t && usersRight t && namesPadded boxed t && noneTwice boxed t && allNamed t && noneCrowded t
+    && directoriesPlain t in
+    let l = and-left (first && textsWhole t && noOtherText t) (namesLegal boxed t) (and-left (shaped boxed t) (countsTrue t) z) in
     let k = and-parts (first && textsWhole t) (noOtherText t) l in
     record { whole = and-right first (textsWhole t) (k .0); other = k .1 }
 
-module _ (t : List ℕ) (h : ℕ) (fit : sized t ≡ true) (right : sound t ≡ true) (s : simple (rec t h) ≡ true) where
+module _ (t : List ℕ) (h : ℕ) (fit : sized t ≡ true) (right : sound boxed t ≡ true) (s : simple (rec t h) ≡ true) where
   -- a record that is a heading is in the table
   there : h < rooms t
   there =

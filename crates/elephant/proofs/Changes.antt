@@ -8,6 +8,7 @@ use lib.ListN.{length, take}
 use lib.Seq.{take-all}
 use Rattle.paper.specs.Scan as scan
 use Rattle.paper.specs.Record.{headingCode, padded}
+use Rattle.paper.specs.Layout.{boxed}
 use Rattle.paper.specs.Table.{rooms, rec}
 use Rattle.paper.specs.Code.{noWrite, lacks}
 use Rattle.paper.specs.Entry.{find}
@@ -61,21 +62,21 @@ found-none (scan.at e) z = clash (cc)
 found-none scan.nowhere z = refl
 
 module _ (t : List ℕ) (place : Place) (k : ℕ) (n : List ℕ) (d f : State) where
-  pub chn-shut : noWrite (d .code .0) ≡ true → Did t k (chnAt t place n (meant d) (meant f)) (shown (plain 14 place 0 0)) t
+  pub chn-shut : noWrite (d .code .0) ≡ true → Did t k (chnAt boxed t place n (meant d) (meant f)) (shown (plain 14 place 0 0)) t
   chn-shut a = did-refused t k _ _ (first-holds (writeInhibited place (meant d)) _ a)
 
   module _ (a : noWrite (d .code .0) ≡ false) where
-    pub chn-taken : (i : Room) → foundShown (find t (holderShown (d .holder)) n) ≡ found.At i
-        → Did t k (chnAt t place n (meant d) (meant f)) (shown (plain 16 (whole 2) 0 0)) t
+    pub chn-taken : (i : Room) → foundShown (find boxed t (holderShown (d .holder)) n) ≡ found.At i
+        → Did t k (chnAt boxed t place n (meant d) (meant f)) (shown (plain 16 (whole 2) 0 0)) t
     chn-taken i z =
-        let x = find t (holderShown (d .holder)) n in
+        let x = find boxed t (holderShown (d .holder)) n in
         did-refused t k _ _ (second-holds (writeInhibited place (meant d)) (taken (whole 2) x) [] a (found-there x i z))
 
     -- the store made
-    pub chn-laid : foundShown (find t (holderShown (d .holder)) n) ≡ found.Nowhere → (bytes v : List ℕ) (l : ℕ) → f .entry .0 < rooms t
-        → length n ≤ 10 → bytes ≡ renamed (padded 32 (rec t (f .entry .0))) (take 10 n) → Made t v k l (puts (f .entry .0) bytes ∷ [])
-        → Did t k (chnAt t place n (meant d) (meant f)) (shown (stored 1 k false)) v
+    pub chn-laid : foundShown (find boxed t (holderShown (d .holder)) n) ≡ found.Nowhere → (bytes v : List ℕ) (l : ℕ) → f .entry .0 < rooms t
+        → length n ≤ 10 → bytes ≡ renamed boxed (padded 32 (rec t (f .entry .0))) (take 10 n) → Made t v k l (puts (f .entry .0) bytes ∷ [])
+        → Did t k (chnAt boxed t place n (meant d) (meant f)) (shown (stored 1 k false)) v
     chn-laid z bytes v l y o x m =
-        let w = find t (holderShown (d .holder)) n in
+        let w = find boxed t (holderShown (d .holder)) n in
         did-stored t v k l _ (both-pass (writeInhibited place (meant d)) (taken (whole 2) w) a (found-none w z)) refl
         (rw (x, whole-there t (f .entry .0) y, take-all 10 n o) at m)

@@ -10,6 +10,7 @@ use lib.ListN.{getD, length, length-append}
 use borrow.Author.Tests.{eq-eqb, ne-eqb, ltb-false}
 use Rattle.paper.specs.Scan as F
 use Rattle.paper.specs.Record.{headingRecord}
+use Rattle.paper.specs.Layout.{boxed}
 use Rattle.paper.specs.Table.{sized, rooms, lay, frees, room}
 use Rattle.paper.specs.Check as given
 use Rattle.paper.specs.Check.{Place, refusalAt, Check, check, Verdict, passed, refused, verdict}
@@ -219,7 +220,7 @@ module _
   making = makingOf t place d name code named f text
 
   abbrev meets : Meets
-  meets = met t (foundShown (borne t making)) (holderShown (d .holder)) named free
+  meets = met t (foundShown (borne boxed t making)) (holderShown (d .holder)) named free
 
   first-length : length (making .first) ≡ fileCount f text
   first-length = ap length (sym (first-stores t r f text (w .size) (w .few) (w .free))) ∙ stores-length f r text
@@ -231,34 +232,35 @@ module _
       ∙ rw (w .free) (free-room t (blocks (length text) + 2) (fileCount f text) (w .size) (file-listed f text) (omega (arith, file-count f text (w .few))))))
 
   abbrev checks : List Check
-  checks = fullUp t making ∷ stillPeopled place (displacing t (borne t making) (making .entry)) ∷ noRoom t making ∷ lateChecks (f .late)
+  checks = fullUp boxed t making ∷ stillPeopled place (displacing t (borne boxed t making) (making .entry)) ∷ noRoom boxed t making ∷ lateChecks (f .late)
 
   checks-met : checks
       ≡ entryChecks t place (making .directory .holder) meets (neededBy (fileCount f text) (meets .displaced)) ++ lateChecks (f .late)
   checks-met =
       ap (λ (b : Bool).
-      check (not (isFound (borne t making)) && b) 17 place ∷ stillPeopled place (displacing t (borne t making) (making .entry)) ∷ noRoom t making
+      check (not (isFound (borne boxed t making)) && b) 17 place ∷ stillPeopled place (displacing t (borne boxed t making) (making .entry))
+      ∷ noRoom boxed t making
       ∷ lateChecks (f .late))
       (full-met t (w .size) (w .sound) (holderShown (d .holder)) (w .held))
       ∙ rw (
-        is-displaced t (borne t making) (holderShown (d .holder)) named free,
-        displaced-loses t (w .size) (w .sound) code (holderShown (d .holder)) named name (w .short) (w .small) (borne t making) free refl,
-        needed-by t making (borne t making) (holderShown (d .holder)) named free,
+        is-displaced t (borne boxed t making) (holderShown (d .holder)) named free,
+        displaced-loses t (w .size) (w .sound) code (holderShown (d .holder)) named name (w .short) (w .small) (borne boxed t making) free refl,
+        needed-by t making (borne boxed t making) (holderShown (d .holder)) named free,
         first-length,
       )
 
   -- 16 before them
-  taken-met : verdict (linkTaken t (beginMeant to) making ++ checks)
+  taken-met : verdict (linkTaken boxed t (beginMeant to) making ++ checks)
       ≡ verdict (allChecks t to place (making .directory .holder) meets (neededBy (fileCount f text) (meets .displaced)) (f .late))
   unfolding verdict
   taken-met = go to
     where
-      go : (b : Begin) → verdict (linkTaken t (beginMeant b) making ++ checks)
+      go : (b : Begin) → verdict (linkTaken boxed t (beginMeant b) making ++ checks)
           ≡ verdict (allChecks t b place (making .directory .holder) meets (neededBy (fileCount f text) (meets .displaced)) (f .late))
       go Own = ap verdict checks-met
       go (Take n) = ap verdict checks-met
       go (Give n) =
-          ap (λ (b : Bool). verdict (check b 16 place ∷ checks)) (is-displaced t (borne t making) (holderShown (d .holder)) named free)
+          ap (λ (b : Bool). verdict (check b 16 place ∷ checks)) (is-displaced t (borne boxed t making) (holderShown (d .holder)) named free)
           ∙ ap (λ (cs : List Check). verdict (check (meets .displaced) 16 place ∷ cs)) checks-met
 
   -- the stores before the entry, where there is room for them
@@ -280,24 +282,24 @@ module _
     enough : length (making .first) ≤ length (frees t)
     enough = rw first-length (omega (arith, needed-least (fileCount f text) (meets .displaced)))
 
-    left : borne t making ≡ F.nowhere → length (making .first) < length (frees t)
+    left : borne boxed t making ≡ F.nowhere → length (making .first) < length (frees t)
     left e =
-        let q : meets .displaced ≡ false = sym (is-displaced t (borne t making) (holderShown (d .holder)) named free) ∙ ap isFound e in
+        let q : meets .displaced ≡ false = sym (is-displaced t (borne boxed t making) (holderShown (d .holder)) named free) ∙ ap isFound e in
         rw first-length (omega (arith, rw q at l))
 
-    stores-met : placing t making (borne t making)
+    stores-met : placing t making (borne boxed t making)
         ≡ fileStores f r text ++ entryStores (run t (fileStores f r text)) meets (making .entry) (textRooms t (meets .heading .0) (meets .count .0))
     stores-met =
         placed-settled t (w .size) (w .sound) code (holderShown (d .holder)) named name (w .short) (w .small) making refl (before enough) (w .held)
-        (borne t making) refl left
+        (borne boxed t making) refl left
         ∙ rw (free-there, first-stores t r f text (w .size) (w .few) (w .free))
 
   abbrev ends : Plan
   ends =
       record {
-        checks = linkTaken t (beginMeant to) making ++ checks;
-        stores = placing t making (borne t making);
-        displaced = isFound (borne t making);
+        checks = linkTaken boxed t (beginMeant to) making ++ checks;
+        stores = placing t making (borne boxed t making);
+        displaced = isFound (borne boxed t making);
         reply = [];
       }
 
@@ -327,5 +329,5 @@ module _
         let n : length (ends .stores) ≡ storesBy (rooms t) (fileCount f text) m =
         ap length s
         ∙ rw (length-append, stores-length f r text, entry-length (run t files) m entry (textRooms t (m .heading .0) (m .count .0)), rooms-run t files) in
-        let b : ends .displaced ≡ m .displaced = rw e (is-displaced t (borne t making) (holderShown (d .holder)) named free) in
+        let b : ends .displaced ≡ m .displaced = rw e (is-displaced t (borne boxed t making) (holderShown (d .holder)) named free) in
         rw (← n, ← b) (did-stored t u k l ends v refl (rw s y))

@@ -6,6 +6,7 @@ use mathlib.Core.Path.{_≡_, refl, sym, ap, _∙_}
 use Prim.Native.Nat.{ℕ}
 use Rattle.paper.specs.Line.{Word}
 use Rattle.paper.specs.Record.{byte}
+use Rattle.paper.specs.Layout.{boxed}
 use Rattle.paper.specs.Table.{rec}
 use Rattle.paper.specs.Entry.{Holder}
 use Rattle.laws.proofs.Tests.{clash}
@@ -44,31 +45,31 @@ use Rattle.elephant.specs.declared.removal.Removed.the-variants.{Ended}
 -- ---- to a directory
 
 module _ (t : List ℕ) (u argument k : ℕ) (w : Word) (f : W.State → Planned) where
-  pub holder-stops : (n l : ℕ) → walkedShown (toDirectory t 1 (start u) (chainOf w)) ≡ Stopped n l
-      → Did t k (toHolder t u argument w f) (shown (plain n (atLink argument l) 0 0)) t
-  holder-stops n l e = rw (walked-stopped (toDirectory t 1 (start u) (chainOf w)) n l e) (record { answer = refl; table = refl })
+  pub holder-stops : (n l : ℕ) → walkedShown (toDirectory boxed t 1 (start u) (chainOf w)) ≡ Stopped n l
+      → Did t k (toHolder boxed t u argument w f) (shown (plain n (atLink argument l) 0 0)) t
+  holder-stops n l e = rw (walked-stopped (toDirectory boxed t 1 (start u) (chainOf w)) n l e) (record { answer = refl; table = refl })
 
-  pub holder-reaches : (d : State) (r : Answer) (x : List ℕ) → walkedShown (toDirectory t 1 (start u) (chainOf w)) ≡ Reached d
-      → Did t k (f (meant d)) r x → Did t k (toHolder t u argument w f) r x
-  holder-reaches d r x e y = rw (walked-reached (toDirectory t 1 (start u) (chainOf w)) d e) y
+  pub holder-reaches : (d : State) (r : Answer) (x : List ℕ) → walkedShown (toDirectory boxed t 1 (start u) (chainOf w)) ≡ Reached d
+      → Did t k (f (meant d)) r x → Did t k (toHolder boxed t u argument w f) r x
+  holder-reaches d r x e y = rw (walked-reached (toDirectory boxed t 1 (start u) (chainOf w)) d e) y
 
 -- ---- to a file
 
 -- one name of a DEL or of a DST is done at its end
 pub removal-end : (a : Removal) (t : List ℕ) (u argument : ℕ) (w : Word)
-    → removalPlan a t u argument w ≡ toEnd t u argument w (removalAt a t (endOf argument w))
+    → removalPlan a t u argument w ≡ toEnd boxed t u argument w (removalAt a t (endOf argument w))
 unfolding delPlan dstPlan
 removal-end Delete t u argument w = refl
 removal-end Destroy t u argument w = refl
 
 module _ (t line : List ℕ) (u p : ℕ) (b : Begin) (argument : ℕ) (g : W.State → W.State → Planned)
-    (r : End) (e : r ≡ endShown (ended t (begins u b) (chainAt line p b))) where
+    (r : End) (e : r ≡ endShown (ended boxed t (begins u b) (chainAt line p b))) where
   abbrev end : Planned
-  end = toEnd t (listOf u (beginMeant b)) argument (begun (beginMeant b) (wordAt line p)) g
+  end = toEnd boxed t (listOf u (beginMeant b)) argument (begun (beginMeant b) (wordAt line p)) g
 
   module _ (n l : ℕ) (z : r ≡ Off n l) where
     stops : end ≡ halted (refusalAt n (atLink argument l))
-    stops = ap (λ (x : W.End). inward argument x g) (end-astray (ended t (begins u b) (chainAt line p b)) n l (sym e ∙ z))
+    stops = ap (λ (x : W.End). inward argument x g) (end-astray (ended boxed t (begins u b) (chainAt line p b)) n l (sym e ∙ z))
 
     pub end-off : (k : ℕ) → Did t k (end) (shown (plain n (atLink argument l) 0 0)) t
     end-off k = rw stops (record { answer = refl; table = refl })
@@ -81,7 +82,7 @@ module _ (t line : List ℕ) (u p : ℕ) (b : Begin) (argument : ℕ) (g : W.Sta
 
   module _ (d f : State) (z : r ≡ At d f) where
     arrives : end ≡ g (meant d) (meant f)
-    arrives = ap (λ (x : W.End). inward argument x g) (end-arrived (ended t (begins u b) (chainAt line p b)) d f (sym e ∙ z))
+    arrives = ap (λ (x : W.End). inward argument x g) (end-arrived (ended boxed t (begins u b) (chainAt line p b)) d f (sym e ∙ z))
 
     pub end-at : (k : ℕ) (a : Answer) (v : List ℕ) → Did t k (g (meant d) (meant f)) a v → Did t k (end) a v
     end-at k a v w = rw arrives w
@@ -94,16 +95,16 @@ module _ (t line : List ℕ) (u p : ℕ) (b : Begin) (argument : ℕ) (g : W.Sta
     read-at reply a v w = rw arrives w
 
 -- the file is there
-pub filed : (t line : List ℕ) (u p : ℕ) (b : Begin) (r : End) → r ≡ endShown (ended t (begins u b) (chainAt line p b)) → Fit t
+pub filed : (t line : List ℕ) (u p : ℕ) (b : Begin) (r : End) → r ≡ endShown (ended boxed t (begins u b) (chainAt line p b)) → Fit t
     → (d f : State) → r ≡ At d f → Filed t (meant f)
 filed t line u p b r e h d f z =
     let ns : List (List ℕ) = chainAt line p b in
-    let x = end-arrived (ended t (begins u b) ns) d f (sym e ∙ z) in
+    let x = end-arrived (ended boxed t (begins u b) ns) d f (sym e ∙ z) in
     let w = walk-reached 65535 t (sound-clauses t (h .sized) (h .sound)) (meant d) ns (meant f) (arrived-last t (begins u b) ns (meant d) (meant f) x) in
     record { fit = h; entry = w .looked .within; stands = w .looked .stands .kind; heading = w .within; kind = w .heading }
 
 -- the directory is a base list, or it is there
-reached-held : (t : List ℕ) → Fit t → (u : ℕ) (ns : List (List ℕ)) (d : State) → toDirectory t 1 (start u) ns ≡ W.reached (meant d)
+reached-held : (t : List ℕ) → Fit t → (u : ℕ) (ns : List (List ℕ)) (d : State) → toDirectory boxed t 1 (start u) ns ≡ W.reached (meant d)
     → Held t (holderShown (d .holder))
 reached-held t h u ns d q = go (walk-ends 65535 t (sound-clauses t (h .sized) (h .sound)) 1 u ns (meant d) q)
   where
@@ -113,9 +114,9 @@ reached-held t h u ns d q = go (walk-ends 65535 t (sound-clauses t (h .sized) (h
         let g : d .holder .heading .0 ≡ i .heading = ap (λ (x : Holder). x .heading) (i .holder) in
         inr (rw g (i .directory), ap (λ (x : Holder). x .user) (i .holder))
 
-pub walked-held : (t : List ℕ) → Fit t → (u : ℕ) (ns : List (List ℕ)) (d : State) → walkedShown (toDirectory t 1 (start u) ns) ≡ Reached d
+pub walked-held : (t : List ℕ) → Fit t → (u : ℕ) (ns : List (List ℕ)) (d : State) → walkedShown (toDirectory boxed t 1 (start u) ns) ≡ Reached d
     → Held t (holderShown (d .holder))
-walked-held t h u ns d e = reached-held t h u ns d (walked-reached (toDirectory t 1 (start u) ns) d e)
+walked-held t h u ns d e = reached-held t h u ns d (walked-reached (toDirectory boxed t 1 (start u) ns) d e)
 
 -- ---- to a file and to a directory
 
@@ -139,10 +140,10 @@ both-ways (W.arrived z w) (W.reached s) f d e =
     (z, ap (λ (x : State). W.arrived z (meant x)) p, ap (λ (x : State). W.reached (meant x)) q)
 
 pub both-there : (t line : List ℕ) (u : ℕ) (from : Begin) (old : ℕ) (to : Begin) (new : ℕ) (r : Both)
-    → r ≡ bothShown (ended t (begins u from) (chainAt line old from)) (toDirectory t 1 (begins u to) (chainAt line new to))
+    → r ≡ bothShown (ended boxed t (begins u from) (chainAt line old from)) (toDirectory boxed t 1 (begins u to) (chainAt line new to))
     → Fit t → (f d : State) → r ≡ both.At f d → Held t (holderShown (d .holder)) × (byte (rec t (W.file t (meant f))) 0 ≡ 1)
 both-there t line u from old to new r e h f d z =
-    let w = both-ways (ended t (begins u from) (chainAt line old from)) (toDirectory t 1 (begins u to) (chainAt line new to)) f d (sym e ∙ z) in
+    let w = both-ways (ended boxed t (begins u from) (chainAt line old from)) (toDirectory boxed t 1 (begins u to) (chainAt line new to)) f d (sym e ∙ z) in
     let c = sound-clauses t (h .sized) (h .sound) in
     let ns : List (List ℕ) = chainAt line old from in (
       reached-held t h (listOf u (beginMeant to)) (chainAt line new to) d (w .2),
@@ -150,15 +151,15 @@ both-there t line u from old to new r e h f d z =
     )
 
 module _ (t line : List ℕ) (u : ℕ) (from : Begin) (old : ℕ) (to : Begin) (new : ℕ) (g : W.State → W.State → Planned) (r : Both)
-    (e : r ≡ bothShown (ended t (begins u from) (chainAt line old from)) (toDirectory t 1 (begins u to) (chainAt line new to))) where
+    (e : r ≡ bothShown (ended boxed t (begins u from) (chainAt line old from)) (toDirectory boxed t 1 (begins u to) (chainAt line new to))) where
   abbrev whole : Planned
   whole =
-      toEnd t (listOf u (beginMeant from)) 1 (begun (beginMeant from) (wordAt line old))
-      (λ _ f. toHolder t (listOf u (beginMeant to)) 2 (begun (beginMeant to) (wordAt line new)) (g f))
+      toEnd boxed t (listOf u (beginMeant from)) 1 (begun (beginMeant from) (wordAt line old))
+      (λ _ f. toHolder boxed t (listOf u (beginMeant to)) 2 (begun (beginMeant to) (wordAt line new)) (g f))
 
   came : (x : Both) → r ≡ x → whole ≡ bothPlan x g
   came x z =
-      both-plan (ended t (begins u from) (chainAt line old from)) (toDirectory t 1 (begins u to) (chainAt line new to)) g
+      both-plan (ended boxed t (begins u from) (chainAt line old from)) (toDirectory boxed t 1 (begins u to) (chainAt line new to)) g
       ∙ ap (λ (y : Both). bothPlan y g) (sym e ∙ z)
 
   pub both-stops : (k n q l : ℕ) → r ≡ both.Off n q l → Did t k whole (shown (plain n (atLink q l) 0 0)) t

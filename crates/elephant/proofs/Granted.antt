@@ -7,6 +7,7 @@ use mathlib.Core.Path.{_≡_, refl, sym, ap, _∙_, subst}
 use Prim.Native.Nat.{ℕ, _≤_}
 use native.Mathlib.Omega.{arith}
 use lib.ListN.{length, drop}
+use Rattle.paper.specs.Layout.{boxed}
 use Rattle.paper.specs.Line.{Word, words, word}
 use Rattle.paper.specs.Name.{dotG, pointed, chain}
 use Rattle.paper.specs.Request.{request, asked}
@@ -70,10 +71,10 @@ module _ {t line text : List ℕ} {u : ℕ} {r : Request} (a : Admitted t line t
   hears : (q : Request) → r ≡ q → Told text (requestMeant line q)
   hears q e = told line text (requestMeant line q) (asks q e)
 
-  comes : (q : Request) → r ≡ q → (reply : List ℕ) (k : ℕ) → requested t line text reply u k ≡ granted t text reply u k (requestMeant line q)
+  comes : (q : Request) → r ≡ q → (reply : List ℕ) (k : ℕ) → requested boxed t line text reply u k ≡ granted boxed t text reply u k (requestMeant line q)
   comes q e reply k =
       requested-granted t line text reply u k (a .passed) r (a .read) (a .short)
-      ∙ ap (λ (x : Request). granted t text reply u k (requestMeant line x)) e
+      ∙ ap (λ (x : Request). granted boxed t text reply u k (requestMeant line x)) e
 
   -- ---- what each stands on
 
@@ -133,93 +134,94 @@ module _ {t line text : List ℕ} {u : ℕ} {r : Request} (a : Admitted t line t
 
   module _ (reply : List ℕ) (k : ℕ) (z : Answer) (v : List ℕ) where
     -- a plan that stores
-    storing-done : (q : Request) → r ≡ q → (x : Planned) → granted t text reply u k (requestMeant line q) ≡ single t reply k (ran k x) → Silent x
-        → Did t k x z v → Promised (requested t line text reply u k) z v reply
+    storing-done : (q : Request) → r ≡ q → (x : Planned) → granted boxed t text reply u k (requestMeant line q) ≡ single t reply k (ran k x) → Silent x
+        → Did t k x z v → Promised (requested boxed t line text reply u k) z v reply
     storing-done q e x g s h = subst (λ (o : Outcome). Promised o z v reply) (sym (comes q e reply k ∙ g)) (promised-storing t reply k x z v s h)
 
     -- one that writes
-    writing-done : (q : Request) → r ≡ q → (x : Planned) → granted t text reply u k (requestMeant line q) ≡ single t reply k (ran k x)
-        → Storeless x → Wrote t reply x z v → Promised (requested t line text reply u k) z t v
+    writing-done : (q : Request) → r ≡ q → (x : Planned) → granted boxed t text reply u k (requestMeant line q) ≡ single t reply k (ran k x)
+        → Storeless x → Wrote t reply x z v → Promised (requested boxed t line text reply u k) z t v
     writing-done q e x g s h = subst (λ (o : Outcome). Promised o z t v) (sym (comes q e reply k ∙ g)) (promised-writing t reply k x z v s h)
 
-    pub crd-done : (p : ℕ) (l : Level) (d : Digit) → r ≡ Crd p l d → Did t k (crdPlan t u (wordAt line p) (levelPart l) (digitPart d)) z v
-        → Promised (requested t line text reply u k) z v reply
+    pub crd-done : (p : ℕ) (l : Level) (d : Digit) → r ≡ Crd p l d → Did t k (crdPlan boxed t u (wordAt line p) (levelPart l) (digitPart d)) z v
+        → Promised (requested boxed t line text reply u k) z v reply
     unfolding granted
     crd-done p l d e h =
-        let x : Planned = crdPlan t u (wordAt line p) (levelPart l) (digitPart d) in
+        let x : Planned = crdPlan boxed t u (wordAt line p) (levelPart l) (digitPart d) in
         storing-done (Crd p l d) e x refl (crd-silent t u (wordAt line p) (levelPart l) (digitPart d)) h
 
     pub wrs-done : (f : ℕ) (l : Level) (d : Digit) (p : ℕ) → r ≡ Wrs f l d p
-        → Did t k (wrsPlan t u text f (levelPart l) (digitPart d) (wordAt line p)) z v → Promised (requested t line text reply u k) z v reply
+        → Did t k (wrsPlan boxed t u text f (levelPart l) (digitPart d) (wordAt line p)) z v → Promised (requested boxed t line text reply u k) z v reply
     unfolding granted
     wrs-done f l d p e h =
-        let x : Planned = wrsPlan t u text f (levelPart l) (digitPart d) (wordAt line p) in
+        let x : Planned = wrsPlan boxed t u text f (levelPart l) (digitPart d) (wordAt line p) in
         storing-done (Wrs f l d p) e x refl (wrs-silent t u text f (levelPart l) (digitPart d) (wordAt line p)) h
 
     pub cpy-done : (b : Begin) (o n : ℕ) (f : Lifetime) (l : Level) (d : Digit) → r ≡ Cpy b o n f l d
-        → Did t k (cpyPlan t (list b) u (from b o) (wordAt line n) (lifetimePart f) (levelPart l) (digitPart d)) z v
-        → Promised (requested t line text reply u k) z v reply
+        → Did t k (cpyPlan boxed t (list b) u (from b o) (wordAt line n) (lifetimePart f) (levelPart l) (digitPart d)) z v
+        → Promised (requested boxed t line text reply u k) z v reply
     unfolding granted
     cpy-done b o n f l d e h =
-        let x : Planned = cpyPlan t (list b) u (from b o) (wordAt line n) (lifetimePart f) (levelPart l) (digitPart d) in
+        let x : Planned = cpyPlan boxed t (list b) u (from b o) (wordAt line n) (lifetimePart f) (levelPart l) (digitPart d) in
         storing-done (Cpy b o n f l d) e x refl (cpy-silent t (list b) u (from b o) (wordAt line n) (lifetimePart f) (levelPart l) (digitPart d)) h
 
     pub dup-done : (b : Begin) (o : ℕ) (to : Begin) (n : ℕ) (d : Digit) → r ≡ Dup b o to n d
-        → Did t k (dupPlan t (list b) (list to) (beginMeant to) (from b o) (from to n) (digitPart d)) z v
-        → Promised (requested t line text reply u k) z v reply
+        → Did t k (dupPlan boxed t (list b) (list to) (beginMeant to) (from b o) (from to n) (digitPart d)) z v
+        → Promised (requested boxed t line text reply u k) z v reply
     unfolding granted
     dup-done b o to n d e h =
-        let x : Planned = dupPlan t (list b) (list to) (beginMeant to) (from b o) (from to n) (digitPart d) in
+        let x : Planned = dupPlan boxed t (list b) (list to) (beginMeant to) (from b o) (from to n) (digitPart d) in
         storing-done (Dup b o to n d) e x refl (dup-silent t (list b) (list to) (beginMeant to) (from b o) (from to n) (digitPart d)) h
 
-    pub chn-done : (o l : ℕ) → r ≡ Chn o l → Did t k (chnPlan t u (wordAt line o) (wordAt line l)) z v
-        → Promised (requested t line text reply u k) z v reply
+    pub chn-done : (o l : ℕ) → r ≡ Chn o l → Did t k (chnPlan boxed t u (wordAt line o) (wordAt line l)) z v
+        → Promised (requested boxed t line text reply u k) z v reply
     unfolding granted
     chn-done o l e h =
-        storing-done (Chn o l) e (chnPlan t u (wordAt line o) (wordAt line l)) refl (chn-silent t u (wordAt line o) (wordAt line l)) h
+        storing-done (Chn o l) e (chnPlan boxed t u (wordAt line o) (wordAt line l)) refl (chn-silent t u (wordAt line o) (wordAt line l)) h
 
-    pub dpr-done : (p c : ℕ) → r ≡ Dpr p c → Did t k (dprPlan t u (wordAt line p) c) z v → Promised (requested t line text reply u k) z v reply
+    pub dpr-done : (p c : ℕ) → r ≡ Dpr p c → Did t k (dprPlan boxed t u (wordAt line p) c) z v → Promised (requested boxed t line text reply u k) z v reply
     unfolding granted
-    dpr-done p c e h = storing-done (Dpr p c) e (dprPlan t u (wordAt line p) c) refl (dpr-silent t u (wordAt line p) c) h
+    dpr-done p c e h = storing-done (Dpr p c) e (dprPlan boxed t u (wordAt line p) c) refl (dpr-silent t u (wordAt line p) c) h
 
-    pub rewrite-done : (p : ℕ) → r ≡ Rewrite p → Did t k (rewritePlan t u text (wordAt line p)) z v → Promised (requested t line text reply u k) z v reply
+    pub rewrite-done : (p : ℕ) → r ≡ Rewrite p → Did t k (rewritePlan boxed t u text (wordAt line p)) z v
+        → Promised (requested boxed t line text reply u k) z v reply
     unfolding granted
-    rewrite-done p e h = storing-done (Rewrite p) e (rewritePlan t u text (wordAt line p)) refl (rewrite-silent t u text (wordAt line p)) h
+    rewrite-done p e h = storing-done (Rewrite p) e (rewritePlan boxed t u text (wordAt line p)) refl (rewrite-silent t u text (wordAt line p)) h
 
     pub remove-done : (x : Removal) (p n : ℕ) → r ≡ removalAsked x p n → CameAll x t u k (drop 1 (words line)) z v
-        → Promised (requested t line text reply u k) z v reply
+        → Promised (requested boxed t line text reply u k) z v reply
     remove-done x p n e h =
         subst (λ (o : Outcome). Promised o z v reply) (sym (comes (removalAsked x p n) e reply k ∙ by x))
         (promised-names (removalPlan x) t u reply k (drop 1 (words line)) z v (h .answer) (h .table))
       where
-        by : (x : Removal) → granted t text reply u k (requestMeant line (removalAsked x p n))
+        by : (x : Removal) → granted boxed t text reply u k (requestMeant line (removalAsked x p n))
             ≡ deleting (removalPlan x) t u reply k 0 0 (drop 1 (words line))
         by Delete = unfold granted in refl
         by Destroy = unfold granted in refl
 
     pub rds-done : (b : Begin) (p : ℕ) (f n : Part) → r ≡ Rds b p f n → Wrote t reply (reading (Text f n) t (list b) reply (from b p)) z v
-        → Promised (requested t line text reply u k) z t v
+        → Promised (requested boxed t line text reply u k) z t v
     unfolding granted rdsPlan
     rds-done b p f n e h =
-        let x : Planned = rdsPlan t (list b) reply (from b p) (meantPart f) (meantPart n) in
+        let x : Planned = rdsPlan boxed t (list b) reply (from b p) (meantPart f) (meantPart n) in
         writing-done (Rds b p f n) e x refl (rds-storeless t (list b) reply (from b p) (meantPart f) (meantPart n)) h
 
     pub lst-done : (b : Begin) (p : ℕ) → r ≡ Lst b p → Wrote t reply (reading Lines t (list b) reply (from b p)) z v
-        → Promised (requested t line text reply u k) z t v
+        → Promised (requested boxed t line text reply u k) z t v
     unfolding granted lstPlan
-    lst-done b p e h = writing-done (Lst b p) e (lstPlan t (list b) reply (from b p)) refl (lst-storeless t (list b) reply (from b p)) h
+    lst-done b p e h = writing-done (Lst b p) e (lstPlan boxed t (list b) reply (from b p)) refl (lst-storeless t (list b) reply (from b p)) h
 
-    pub lst-base-done : r ≡ LstBase → Wrote t reply (lstBasePlan t u reply) z v → Promised (requested t line text reply u k) z t v
+    pub lst-base-done : r ≡ LstBase → Wrote t reply (lstBasePlan boxed t u reply) z v → Promised (requested boxed t line text reply u k) z t v
     unfolding granted
-    lst-base-done e h = writing-done LstBase e (lstBasePlan t u reply) refl (lst-base-storeless t u reply) h
+    lst-base-done e h = writing-done LstBase e (lstBasePlan boxed t u reply) refl (lst-base-storeless t u reply) h
 
     pub lst-tree-done : (b : Begin) (p d : ℕ) → r ≡ LstTree b p d → Wrote t reply (reading (Deep d) t (list b) reply (from b p)) z v
-        → Promised (requested t line text reply u k) z t v
+        → Promised (requested boxed t line text reply u k) z t v
     unfolding granted lstTreePlan
     lst-tree-done b p d e h =
-        writing-done (LstTree b p d) e (lstTreePlan t (list b) reply (from b p) d) refl (lst-tree-storeless t (list b) reply (from b p) d) h
+        writing-done (LstTree b p d) e (lstTreePlan boxed t (list b) reply (from b p) d) refl (lst-tree-storeless t (list b) reply (from b p) d) h
 
-    pub lst-base-tree-done : (d : ℕ) → r ≡ LstBaseTree d → Wrote t reply (lstBaseTreePlan t u reply d) z v
-        → Promised (requested t line text reply u k) z t v
+    pub lst-base-tree-done : (d : ℕ) → r ≡ LstBaseTree d → Wrote t reply (lstBaseTreePlan boxed t u reply d) z v
+        → Promised (requested boxed t line text reply u k) z t v
     unfolding granted
-    lst-base-tree-done d e h = writing-done (LstBaseTree d) e (lstBaseTreePlan t u reply d) refl (lst-base-tree-storeless t u reply d) h
+    lst-base-tree-done d e h = writing-done (LstBaseTree d) e (lstBaseTreePlan boxed t u reply d) refl (lst-base-tree-storeless t u reply d) h

@@ -8,6 +8,7 @@ use lib.Dec.{leb}
 use lib.ListN.{length}
 use borrow.Author.Tests.{le-leb}
 use mathlib.Core.Bool.{Bool, true, false, cond}
+use Rattle.paper.specs.Layout.{boxed}
 use Rattle.paper.specs.Check.{Check, Verdict, passed, refused, verdict}
 use Rattle.paper.specs.Declaration.{Part}
 use Rattle.paper.specs.Line.{Word, word}
@@ -53,37 +54,38 @@ reply-kept t reply k (plan p) h = go (verdict (p .checks))
     go (refused f) = refl
 
 -- a new entry's plan writes nothing
-making-silent : (t : List ℕ) (m : Making) (thirteen fifteen late : List Check) → Silent (making t m thirteen fifteen late)
+making-silent : (t : List ℕ) (m : Making) (thirteen fifteen late : List Check) → Silent (making boxed t m thirteen fifteen late)
 unfolding making
 making-silent t m thirteen fifteen late = refl
 
-pub crd-silent : (t : List ℕ) (u : ℕ) (name : Word) (level code : Part) → Silent (crdPlan t u name level code)
+pub crd-silent : (t : List ℕ) (u : ℕ) (name : Word) (level code : Part) → Silent (crdPlan boxed t u name level code)
 unfolding crdPlan
 crd-silent t u name level code = holder-by Silent 1 (λ _ _ _. tt) t u name _ (λ d _. making-silent t _ _ _ _)
 
-pub wrs-silent : (t : List ℕ) (u : ℕ) (text : List ℕ) (lifetime : ℕ) (level code : Part) (name : Word) → Silent (wrsPlan t u text lifetime level code name)
+pub wrs-silent : (t : List ℕ) (u : ℕ) (text : List ℕ) (lifetime : ℕ) (level code : Part) (name : Word)
+    → Silent (wrsPlan boxed t u text lifetime level code name)
 unfolding wrsPlan
 wrs-silent t u text lifetime level code name = holder-by Silent 2 (λ _ _ _. tt) t u name _ (λ d _. making-silent t _ _ _ _)
 
-pub cpy-silent : (t : List ℕ) (v u : ℕ) (old new : Word) (lifetime level code : Part) → Silent (cpyPlan t v u old new lifetime level code)
+pub cpy-silent : (t : List ℕ) (v u : ℕ) (old new : Word) (lifetime level code : Part) → Silent (cpyPlan boxed t v u old new lifetime level code)
 unfolding cpyPlan
 cpy-silent t v u old new lifetime level code =
     end-by Silent 1 (λ _ _ _. tt) t v old _ (λ _ f _ _. holder-by Silent 2 (λ _ _ _. tt) t u new _ (λ d _. making-silent t _ _ _ _))
 
-pub dup-silent : (t : List ℕ) (v u : ℕ) (to : Begin) (old new : Word) (code : Part) → Silent (dupPlan t v u to old new code)
+pub dup-silent : (t : List ℕ) (v u : ℕ) (to : Begin) (old new : Word) (code : Part) → Silent (dupPlan boxed t v u to old new code)
 unfolding dupPlan
 dup-silent t v u to old new code =
     end-by Silent 1 (λ _ _ _. tt) t v old _ (λ _ f _ _. holder-by Silent 2 (λ _ _ _. tt) t u new _ (λ d _. making-silent t _ _ _ _))
 
-pub chn-silent : (t : List ℕ) (u : ℕ) (old link : Word) → Silent (chnPlan t u old link)
+pub chn-silent : (t : List ℕ) (u : ℕ) (old link : Word) → Silent (chnPlan boxed t u old link)
 unfolding chnPlan
 chn-silent t u old link = end-by Silent 1 (λ _ _ _. tt) t u old _ (λ d f _ _. refl)
 
-pub dpr-silent : (t : List ℕ) (u : ℕ) (name : Word) (code : ℕ) → Silent (dprPlan t u name code)
+pub dpr-silent : (t : List ℕ) (u : ℕ) (name : Word) (code : ℕ) → Silent (dprPlan boxed t u name code)
 unfolding dprPlan
 dpr-silent t u name code = end-by Silent 1 (λ _ _ _. tt) t u name _ (λ d f _ _. refl)
 
-pub rewrite-silent : (t : List ℕ) (u : ℕ) (text : List ℕ) (name : Word) → Silent (rewritePlan t u text name)
+pub rewrite-silent : (t : List ℕ) (u : ℕ) (text : List ℕ) (name : Word) → Silent (rewritePlan boxed t u text name)
 unfolding rewritePlan
 rewrite-silent t u text name = end-by Silent 2 (λ _ _ _. tt) t u name _ (λ d f _ _. refl)
 
@@ -104,23 +106,23 @@ any-stop t reply k (plan p) h = go (verdict (p .checks))
         rw (le-leb (length (p .stores)) k (omega arith), le-leb (length (p .stores)) 0 (omega arith))
     go (refused f) = refl
 
-pub rds-storeless : (t : List ℕ) (u : ℕ) (reply : List ℕ) (name : Word) (first count : Part) → Storeless (rdsPlan t u reply name first count)
+pub rds-storeless : (t : List ℕ) (u : ℕ) (reply : List ℕ) (name : Word) (first count : Part) → Storeless (rdsPlan boxed t u reply name first count)
 unfolding rdsPlan
 rds-storeless t u reply name first count = end-by Storeless 1 (λ _ _ _. tt) t u name _ (λ d f _ _. refl)
 
-pub lst-storeless : (t : List ℕ) (u : ℕ) (reply : List ℕ) (name : Word) → Storeless (lstPlan t u reply name)
+pub lst-storeless : (t : List ℕ) (u : ℕ) (reply : List ℕ) (name : Word) → Storeless (lstPlan boxed t u reply name)
 unfolding lstPlan
 lst-storeless t u reply name = end-by Storeless 1 (λ _ _ _. tt) t u name _ (λ d f _ _. refl)
 
-pub lst-base-storeless : (t : List ℕ) (u : ℕ) (reply : List ℕ) → Storeless (lstBasePlan t u reply)
+pub lst-base-storeless : (t : List ℕ) (u : ℕ) (reply : List ℕ) → Storeless (lstBasePlan boxed t u reply)
 unfolding lstBasePlan
 lst-base-storeless t u reply = refl
 
-pub lst-tree-storeless : (t : List ℕ) (u : ℕ) (reply : List ℕ) (name : Word) (depth : ℕ) → Storeless (lstTreePlan t u reply name depth)
+pub lst-tree-storeless : (t : List ℕ) (u : ℕ) (reply : List ℕ) (name : Word) (depth : ℕ) → Storeless (lstTreePlan boxed t u reply name depth)
 unfolding lstTreePlan
 lst-tree-storeless t u reply name depth = end-by Storeless 1 (λ _ _ _. tt) t u name _ (λ d f _ _. refl)
 
-pub lst-base-tree-storeless : (t : List ℕ) (u : ℕ) (reply : List ℕ) (depth : ℕ) → Storeless (lstBaseTreePlan t u reply depth)
+pub lst-base-tree-storeless : (t : List ℕ) (u : ℕ) (reply : List ℕ) (depth : ℕ) → Storeless (lstBaseTreePlan boxed t u reply depth)
 unfolding lstBaseTreePlan
 lst-base-tree-storeless t u reply depth = refl
 

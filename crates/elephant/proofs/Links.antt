@@ -5,6 +5,7 @@ use mathlib.Core.Path.{_≡_, refl, sym, _∙_}
 use Prim.Native.Nat.{ℕ, _≤_}
 use native.Mathlib.Omega.{arith}
 use lib.ListN.{length}
+use Rattle.paper.specs.Layout.{boxed}
 use Rattle.paper.specs.Name.{dotG, dotT, pointed, chain}
 use Rattle.paper.specs.Walk as W
 use Rattle.paper.specs.Walk.{toDirectory, ended}
@@ -51,21 +52,21 @@ module _ (line : List ℕ) (short : length line ≤ 256) where
       halts-near : (n l : ℕ) → Halts (chainAt line p b) n l → l ≤ 65535
       halts-near n l h = omega (arith, h .most, chain-few p b)
 
-      pub walk-near : (r : Walked) → r ≡ walkedShown (toDirectory t 1 (begins u b) (chainAt line p b)) → (n l : ℕ) → r ≡ Stopped n l → l ≤ 65535
+      pub walk-near : (r : Walked) → r ≡ walkedShown (toDirectory boxed t 1 (begins u b) (chainAt line p b)) → (n l : ℕ) → r ≡ Stopped n l → l ≤ 65535
       walk-near r e n l z =
-          rw (walked-stopped (toDirectory t 1 (begins u b) (chainAt line p b)) n l (sym e ∙ z)) at
+          rw (walked-stopped (toDirectory boxed t 1 (begins u b) (chainAt line p b)) n l (sym e ∙ z)) at
           (holder-within Near 1 w halts-near t v (λ _. storing [] []) (λ _ _. tt))
 
-      pub end-near : (r : End) → r ≡ endShown (ended t (begins u b) (chainAt line p b)) → (n l : ℕ) → r ≡ Off n l → l ≤ 65535
+      pub end-near : (r : End) → r ≡ endShown (ended boxed t (begins u b) (chainAt line p b)) → (n l : ℕ) → r ≡ Off n l → l ≤ 65535
       end-near r e n l z =
-          rw (end-astray (ended t (begins u b) (chainAt line p b)) n l (sym e ∙ z)) at
+          rw (end-astray (ended boxed t (begins u b) (chainAt line p b)) n l (sym e ∙ z)) at
           (end-within Near 1 w halts-near t v (λ _ _. storing [] []) (λ _ _ _ _. tt))
 
     pub both-near : (old : ℕ) (from : Begin) (new : ℕ) (to : Begin) (r : Both)
-        → r ≡ bothShown (ended t (begins u from) (chainAt line old from)) (toDirectory t 1 (begins u to) (chainAt line new to))
+        → r ≡ bothShown (ended boxed t (begins u from) (chainAt line old from)) (toDirectory boxed t 1 (begins u to) (chainAt line new to))
         → (n q l : ℕ) → r ≡ both.Off n q l → l ≤ 65535
     both-near old from new to r e n q l z =
-        go (ended t (begins u from) (chainAt line old from)) (toDirectory t 1 (begins u to) (chainAt line new to))
+        go (ended boxed t (begins u from) (chainAt line old from)) (toDirectory boxed t 1 (begins u to) (chainAt line new to))
         (λ m k. end-near old from _ refl m k) (λ m k. walk-near new to _ refl m k) (sym e ∙ z)
       where
         go : (x : W.End) (w : W.Walked) → ((m k : ℕ) → endShown x ≡ Off m k → k ≤ 65535) → ((m k : ℕ) → walkedShown w ≡ Stopped m k → k ≤ 65535)

@@ -4,6 +4,7 @@ use mathlib.Core.Bool.{true, false}
 use mathlib.Core.List.{List}
 use mathlib.Core.Path.{_≡_, sym, _∙_}
 use Prim.Native.Nat.{ℕ}
+use Rattle.paper.specs.Layout.{boxed}
 use Rattle.paper.specs.Check.{atLink, whole, Refusal, refusalAt}
 use Rattle.paper.specs.Request.{read, textTooLong}
 use Rattle.paper.specs.Answer.{plain, requested, entrance}
@@ -21,9 +22,9 @@ use Rattle.elephant.proofs.Entering.{entered, not-entered}
 use Rattle.elephant.proofs.Promises.{promised-refusing}
 use Rattle.elephant.proofs.Requests.{requested-out, requested-unread, requested-long}
 
-module _ (t line text reply : List ℕ) (u k n : ℕ) (e : n ≡ entranceNumber (entrance t u)) where
+module _ (t line text reply : List ℕ) (u k n : ℕ) (e : n ≡ entranceNumber (entrance boxed t u)) where
   -- 1, 2, 3
-  pub refused-out : (n ≡ 0 → ⊥) → (z : Answer) → z ≡ shown (plain n (whole 0) 0 0) → Promised (requested t line text reply u k) z t reply
+  pub refused-out : (n ≡ 0 → ⊥) → (z : Answer) → z ≡ shown (plain n (whole 0) 0 0) → Promised (requested boxed t line text reply u k) z t reply
   refused-out h z a =
       let f : Refusal = refusalAt n (whole 0) in
       promised-refusing t reply _ f z (requested-out t line text reply u k f (not-entered t u n e h)) a
@@ -32,7 +33,7 @@ module _ (t line text reply : List ℕ) (u k n : ℕ) (e : n ≡ entranceNumber 
     -- 4 to 9
     pub refused-unread : (f : given.Refusal) → answers.Refused f ≡ shownRead (read line) → (z : Answer)
         → z ≡ shown (plain (f .number) (atLink (f .place) (f .link)) 0 0)
-        → Promised (requested t line text reply u k) z t reply
+        → Promised (requested boxed t line text reply u k) z t reply
     refused-unread f q z a =
         promised-refusing t reply _ (refusalAt (f .number) (atLink (f .place) (f .link))) z
         (requested-unread t line text reply u k (entered t u (sym i ∙ e) .passed) f q) a
@@ -40,7 +41,7 @@ module _ (t line text reply : List ℕ) (u k n : ℕ) (e : n ≡ entranceNumber 
     module _ (r : Request) (q : answers.Granted r ≡ shownRead (read line)) where
       -- 10
       pub refused-long : textTooLong (requestMeant line r) text ≡ true → (z : Answer) → z ≡ shown (plain 10 (whole 0) 0 0)
-          → Promised (requested t line text reply u k) z t reply
+          → Promised (requested boxed t line text reply u k) z t reply
       refused-long b z a =
           promised-refusing t reply _ (refusalAt 10 (whole 0)) z
           (requested-long t line text reply u k (entered t u (sym i ∙ e) .passed) r q b) a

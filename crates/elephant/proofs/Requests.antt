@@ -8,6 +8,7 @@ use native.Mathlib.Omega.{arith}
 use lib.Dec.{leb}
 use lib.ListN.{length, getD, drop}
 use borrow.Author.Tests.{leb-true}
+use Rattle.paper.specs.Layout.{boxed}
 use Rattle.paper.specs.Check.{atLink, whole, Refusal, refusalAt, passed, refused, check}
 use Rattle.paper.specs.Line.{Word, words, word}
 use Rattle.paper.specs.Request as paper
@@ -30,23 +31,23 @@ use Rattle.elephant.proofs.Asking.{read-granted}
 
 module _ (t line text reply : List ℕ) (u k : ℕ) where
   -- 1, 2, 3
-  pub requested-out : (f : Refusal) → entrance t u ≡ refused f → requested t line text reply u k ≡ refusing t reply f
+  pub requested-out : (f : Refusal) → entrance boxed t u ≡ refused f → requested boxed t line text reply u k ≡ refusing t reply f
   unfolding requested
   requested-out f e = rw e
 
-  module _ (e : entrance t u ≡ passed) where
-    acts : (x : paper.Read) → asked line text ≡ x → requested t line text reply u k ≡ acted t text reply u k x
+  module _ (e : entrance boxed t u ≡ passed) where
+    acts : (x : paper.Read) → asked line text ≡ x → requested boxed t line text reply u k ≡ acted boxed t text reply u k x
     unfolding requested
     acts x q = rw (e, q)
 
     -- 4 to 9
     pub requested-unread : (f : given.Refusal) → answers.Refused f ≡ shownRead (read line)
-        → requested t line text reply u k ≡ refusing t reply (refusalAt (f .number) (atLink (f .place) (f .link)))
+        → requested boxed t line text reply u k ≡ refusing t reply (refusalAt (f .number) (atLink (f .place) (f .link)))
     unfolding asked
     requested-unread f q = go (read line) refl q
       where
         go : (x : paper.Read) → read line ≡ x → answers.Refused f ≡ shownRead x
-            → requested t line text reply u k ≡ refusing t reply (refusalAt (f .number) (atLink (f .place) (f .link)))
+            → requested boxed t line text reply u k ≡ refusing t reply (refusalAt (f .number) (atLink (f .place) (f .link)))
         go (request r) p z = clash (cc)
         go (unread g) p z =
             let y : f ≡ shownRefusal g = cc in
@@ -55,7 +56,7 @@ module _ (t line text reply : List ℕ) (u k : ℕ) where
     module _ (r : Request) (q : answers.Granted r ≡ shownRead (read line)) where
       -- 10
       pub requested-long : textTooLong (requestMeant line r) text ≡ true
-          → requested t line text reply u k ≡ refusing t reply (refusalAt 10 (whole 0))
+          → requested boxed t line text reply u k ≡ refusing t reply (refusalAt 10 (whole 0))
       unfolding asked
       requested-long b =
           acts (unread (refusalAt 10 (whole 0)))
@@ -70,7 +71,7 @@ module _ (t line text reply : List ℕ) (u k : ℕ) where
           ∙ ap (readAs (requestMeant line r)) (first-passes (check (textTooLong (requestMeant line r) text) 10 (whole 0)) [] b ∙ none-left)
 
       pub requested-granted : textTooLong (requestMeant line r) text ≡ false
-          → requested t line text reply u k ≡ granted t text reply u k (requestMeant line r)
+          → requested boxed t line text reply u k ≡ granted boxed t text reply u k (requestMeant line r)
       requested-granted b = acts (request (requestMeant line r)) (asked-granted b)
 
 -- the names of a DEL or of a DST

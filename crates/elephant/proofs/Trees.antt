@@ -11,7 +11,8 @@ use lib.ListN.{length}
 use lib.Seq.{sets}
 use borrow.Author.Tests.{le-leb, leb-true, leb-false}
 use Rattle.paper.specs.Scan.{countBelow}
-use Rattle.paper.specs.Record.{byte, entryCode, nameOf}
+use Rattle.paper.specs.Record.{byte, entryCode}
+use Rattle.paper.specs.Layout.{nameOf, boxed}
 use Rattle.paper.specs.Table.{rooms, rec}
 use Rattle.paper.specs.Name.{same, dotW}
 use Rattle.paper.specs.Entry.{baseList, inDirectory, stands, crowd}
@@ -48,24 +49,24 @@ module _ (t : List ℕ) (f : Fit t) where
       go true l = omega arith
       go false l = l
 
-  base-few : (u : ℕ) → countBelow (λ i. stands (baseList u) (rec t i) && not (same dotW (nameOf (rec t i)))) (rooms t) ≤ 112
+  base-few : (u : ℕ) → countBelow (λ i. stands (baseList u) (rec t i) && not (same dotW (nameOf boxed (rec t i)))) (rooms t) ≤ 112
   unfolding crowd
   base-few u =
       omega (
         arith,
         c .crowds (baseList u),
-        count-mono (λ i. stands (baseList u) (rec t i) && not (same dotW (nameOf (rec t i)))) (λ i. stands (baseList u) (rec t i)) (rooms t)
+        count-mono (λ i. stands (baseList u) (rec t i) && not (same dotW (nameOf boxed (rec t i)))) (λ i. stands (baseList u) (rec t i)) (rooms t)
             (λ i _ x. and-left (stands (baseList u) (rec t i)) _ x),
       )
 
   digits : (e : ℕ) → e < rooms t → byte (rec t e) 0 ≡ 2 → entryCode (rec t e) ≤ 7
   digits e l k = entry-code (rec t e) (c .own e l .entry k)
 
-  sound-tree : (w : Listed) (depth : ℕ) → treeShown t depth 0 (isListed w) ≡ tree t depth 0 (isListed w)
+  sound-tree : (w : Listed) (depth : ℕ) → treeShown t depth 0 (isListed w) ≡ tree boxed t depth 0 (isListed w)
   sound-tree (Directory h) depth =
       tree-shown t few digits depth 0 (stands (inDirectory (h .0))) (λ r x. stands-true (inDirectory (h .0)) r x .kind) (few (h .0))
   sound-tree (Base u) depth =
-      tree-shown t few digits depth 0 (λ r. stands (baseList u) r && not (same dotW (nameOf r)))
+      tree-shown t few digits depth 0 (λ r. stands (baseList u) r && not (same dotW (nameOf boxed r)))
       (λ r x. stands-true (baseList u) r (and-left (stands (baseList u) r) _ x) .kind) (base-few u)
 
 -- what `list_tree` answered: too long, and the reply as it was; or all of it at the front
@@ -91,7 +92,7 @@ module _ (t s reply after : List ℕ) (most : rooms t ≤ 2048) (e : after ≡ r
 -- .. as `writing`
 module _ (t reply after : List ℕ) (f : Fit t) (w : Listed) (depth : ℕ) (e : after ≡ replied t (treeShown t depth 0 (isListed w)) reply) where
   abbrev out : List ℕ
-  out = tree t depth 0 (isListed w)
+  out = tree boxed t depth 0 (isListed w)
 
   left : after ≡ replied t out reply
   left = e ∙ ap (λ (s : List ℕ). replied t s reply) (sound-tree t f w depth)

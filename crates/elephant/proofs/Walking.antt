@@ -7,6 +7,7 @@ use Prim.Native.Nat.{ℕ, _%_, _<_}
 use native.Mathlib.Omega.{arith}
 use lib.Dec.{leb}
 use lib.ListN.{getD, length}
+use Rattle.paper.specs.Layout.{boxed}
 use Rattle.paper.specs.Table.{room}
 use Rattle.paper.specs.Check.{Place, Check, Verdict, passed, verdict, refused}
 use Rattle.paper.specs.Store.{Store}
@@ -57,25 +58,25 @@ no-late f e = e ∙ ap refusalShown (sym none-left)
 -- ---- 14
 
 module _ (t : List ℕ) (k : ℕ) (m : Making) where
-  pub shut-refused : (cs : List Check) → noWrite (m .directory .code) ≡ true → Did t k (making t m [] cs []) (shown (plain 14 (m .place) 0 0)) t
+  pub shut-refused : (cs : List Check) → noWrite (m .directory .code) ≡ true → Did t k (making boxed t m [] cs []) (shown (plain 14 (m .place) 0 0)) t
   unfolding making
   shut-refused cs e = did-refused t k _ _ (first-holds _ _ e)
 
   pub open-ends : (to : Begin) (r : Answer) (u : List ℕ) → noWrite (m .directory .code) ≡ false → Did t k (ending t to m []) r u
-      → Did t k (making t m [] (linkTaken t to m) []) r u
+      → Did t k (making boxed t m [] (linkTaken boxed t to m) []) r u
   unfolding making ending
   open-ends to r u e w =
-      did-same t u k (making t m [] (linkTaken t to m) []) (ending t to m []) r (did-alike t k _ _ _ _ (first-passes _ _ e)) w
+      did-same t u k (making boxed t m [] (linkTaken boxed t to m) []) (ending t to m []) r (did-alike t k _ _ _ _ (first-passes _ _ e)) w
 
   -- the checks after 19, as one refusal
   pub late-ends : (to : Begin) (late : List Check) (f : Refusal) → Every Telling late → f ≡ refusalShown (verdict late) → (r : Answer) (u : List ℕ)
       → Did t k (ending t to m (lateChecks f)) r u → Did t k (ending t to m late) r u
   unfolding ending
   late-ends to late f h e r u w =
-      let three : List Check = fullUp t m ∷ stillPeopled (m .place) (displacing t (borne t m) (m .entry)) ∷ noRoom t m ∷ [] in
+      let three : List Check = fullUp boxed t m ∷ stillPeopled (m .place) (displacing t (borne boxed t m) (m .entry)) ∷ noRoom boxed t m ∷ [] in
       did-same t u k (ending t to m late) (ending t to m (lateChecks f)) r
       (did-alike t k _ _ _ _
-      (alike-after (linkTaken t to m) _ _ (alike-after three late (lateChecks f) (sym (late-alike late f h e))))) w
+      (alike-after (linkTaken boxed t to m) _ _ (alike-after three late (lateChecks f) (sym (late-alike late f h e))))) w
 
 -- 23 and 25 of a copy have their numbers
 pub copy-telling : (place : Place) (source : List ℕ) (lev : ℕ) → Every Telling (copyLate place source lev)
@@ -83,24 +84,25 @@ copy-telling place source lev = ((λ _. omega arith), ((λ _. omega arith), tt))
 
 -- 13, 14 and 15 of CPY, in that order, with others after all
 module _ (t : List ℕ) (k : ℕ) (m : Making) (c e : Check) (last : List Check) where
-  pub copy-first : c .when ≡ true → Did t k (making t m (c ∷ []) (e ∷ []) last) (shown (plain (c .refusal .number) (c .refusal .place) 0 0)) t
+  pub copy-first : c .when ≡ true → Did t k (making boxed t m (c ∷ []) (e ∷ []) last) (shown (plain (c .refusal .number) (c .refusal .place) 0 0)) t
   unfolding making
   copy-first x = did-refused t k _ _ (first-holds _ _ x)
 
-  pub copy-second : c .when ≡ false → noWrite (m .directory .code) ≡ true → Did t k (making t m (c ∷ []) (e ∷ []) last) (shown (plain 14 (m .place) 0 0)) t
+  pub copy-second : c .when ≡ false → noWrite (m .directory .code) ≡ true
+      → Did t k (making boxed t m (c ∷ []) (e ∷ []) last) (shown (plain 14 (m .place) 0 0)) t
   unfolding making
   copy-second x y = did-refused t k _ _ (second-holds _ _ _ x y)
 
   pub copy-third : c .when ≡ false → noWrite (m .directory .code) ≡ false → e .when ≡ true
-      → Did t k (making t m (c ∷ []) (e ∷ []) last) (shown (plain (e .refusal .number) (e .refusal .place) 0 0)) t
+      → Did t k (making boxed t m (c ∷ []) (e ∷ []) last) (shown (plain (e .refusal .number) (e .refusal .place) 0 0)) t
   unfolding making
   copy-third x y z = did-refused t k _ _ (first-passes _ _ x ∙ first-passes _ _ y ∙ first-holds _ _ z)
 
   pub copy-ends : (r : Answer) (u : List ℕ) → c .when ≡ false → noWrite (m .directory .code) ≡ false → e .when ≡ false → Did t k (ending t own m last) r u
-      → Did t k (making t m (c ∷ []) (e ∷ []) last) r u
+      → Did t k (making boxed t m (c ∷ []) (e ∷ []) last) r u
   unfolding making ending
   copy-ends r u x y z w =
-      did-same t u k (making t m (c ∷ []) (e ∷ []) last) (ending t own m last) r
+      did-same t u k (making boxed t m (c ∷ []) (e ∷ []) last) (ending t own m last) r
       (did-alike t k _ _ _ _ (first-passes _ _ x ∙ first-passes _ _ y ∙ first-passes _ _ z)) w
 
 -- ---- a new file

@@ -3,6 +3,7 @@ use mathlib.Core.Bool.{false}
 use mathlib.Core.List.{List}
 use mathlib.Core.Path.{_≡_}
 use Prim.Native.Nat.{ℕ}
+use Rattle.paper.specs.Layout.{boxed}
 use Rattle.paper.specs.Check.{passed}
 use Rattle.paper.specs.Answer.{entrance}
 use Rattle.paper.specs.Request.{read, textTooLong}
@@ -14,6 +15,6 @@ use Rattle.elephant.specs.Meant.{requestMeant}
 
 pub record Admitted (t line text : List ℕ) (u : ℕ) (r : Request) : Type 0 where
   pub fit : Fit t
-  pub passed : entrance t u ≡ passed
+  pub passed : entrance boxed t u ≡ passed
   pub read : Granted r ≡ shownRead (read line)
   pub short : textTooLong (requestMeant line r) text ≡ false

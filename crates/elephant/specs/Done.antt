@@ -5,6 +5,7 @@ use mathlib.Core.Path.{_≡_}
 use Prim.Native.Nat.{ℕ, _<_}
 use lib.ListN.{length, take}
 use Rattle.paper.specs.Record.{byte}
+use Rattle.paper.specs.Layout.{boxed}
 use Rattle.paper.specs.Table.{sized, rooms, rec}
 use Rattle.paper.specs.Sound.{sound}
 use Rattle.paper.specs.Walk.{State, file}
@@ -17,7 +18,7 @@ use Rattle.answers.specs.declared.Answer.{Answer}
 -- the table is of fit size and sound
 pub record Fit (t : List ℕ) : Type 0 where
   pub sized : sized t ≡ true
-  pub sound : sound t ≡ true
+  pub sound : sound boxed t ≡ true
 
 -- where a walk on a fit table came to: the file's entry and its heading are in the table
 pub record Filed (t : List ℕ) (f : State) : Type 0 where

@@ -6,6 +6,7 @@ use Prim.Native.Nat.{ℕ, _+_, _≤_, _<_}
 use lib.Dec.{eqb, ltb}
 use lib.ListN.{getD, length}
 use Rattle.paper.specs.Record.{byte, level, marked, headingRecord}
+use Rattle.paper.specs.Layout.{boxed}
 use Rattle.paper.specs.Table.{sized, rec, room}
 use Rattle.paper.specs.Declaration.{Part, orElse}
 use Rattle.paper.specs.Line.{Word}
@@ -57,7 +58,7 @@ makingOf t place d name code named f text =
       directory = meant d;
       name = name;
       first = cond (f .new) (newFile t (f .heading) text) [];
-      entry = entryIn (meant d) code named name;
+      entry = entryIn boxed (meant d) code named name;
     }
 
 -- 16, "A give never displaces.", by what is met
@@ -78,9 +79,9 @@ allChecks t to place d m n late = check (takenBy to (m .displaced)) 16 place ∷
 unfoldable pub ending : List ℕ → asked.Begin → Making → List Check → Planned
 ending t to m late =
     plan (record {
-      checks = linkTaken t to m ++ fullUp t m ∷ stillPeopled (m .place) (displacing t (borne t m) (m .entry)) ∷ noRoom t m ∷ late;
-      stores = placing t m (borne t m);
-      displaced = isFound (borne t m);
+      checks = linkTaken boxed t to m ++ fullUp boxed t m ∷ stillPeopled (m .place) (displacing t (borne boxed t m) (m .entry)) ∷ noRoom boxed t m ∷ late;
+      stores = placing t m (borne boxed t m);
+      displaced = isFound (borne boxed t m);
       reply = [];
     })
 
@@ -92,7 +93,7 @@ pub data Names (t : List ℕ) (f : File) (named : ℕ) : Type 0 where
 -- what making an entry in d stands on: the table, its free records listed in r, a name and a text as long as they may be
 pub record Ready (t r name text : List ℕ) (named : ℕ) (d : Holder) (f : File) : Type 0 where
   pub size : sized t ≡ true
-  pub sound : sound t ≡ true
+  pub sound : sound boxed t ≡ true
   pub free : r ≡ freeRooms t (blocks (length text) + 2)
   pub short : length name ≤ 10
   pub few : length text ≤ 24000
@@ -113,7 +114,7 @@ pub record Fresh (t : List ℕ) (d : Holder) (heading : List ℕ) : Type 0 where
 -- what a new name at p stands on: the table, the name's length and the text's; and the line's, in which its links are counted
 pub record Named (t line : List ℕ) (p : ℕ) (text : List ℕ) : Type 0 where
   pub size : sized t ≡ true
-  pub sound : sound t ≡ true
+  pub sound : sound boxed t ≡ true
   pub short : length (lastName (chainOf (wordAt line p))) ≤ 10
   pub few : length text ≤ 24000
   pub brief : length line ≤ 256
@@ -125,12 +126,12 @@ pub record Linked (t line : List ℕ) (to : Begin) (p : ℕ) : Type 0 where
 
 -- DUP at the end of its walks: the entry of the file that f came to, in d
 abbrev pub linkingIn : List ℕ → asked.Begin → Word → Part → W.State → W.State → Planned
-linkingIn t to new code f d = making t (linking t f d new code) [] (linkTaken t to (linking t f d new code)) []
+linkingIn t to new code f d = making boxed t (linking boxed t f d new code) [] (linkTaken boxed t to (linking boxed t f d new code)) []
 
 -- CPY's making: a new file with the text of heading h, and what is not declared from it
 abbrev pub copied : List ℕ → Word → W.State → ℕ → Part → Part → Part → Making
 copied t w d h life lev code =
-    filing t 2 w d (orElse code 0) (copyHeading (rec t h) life lev code (length (fileText t h))) (fileText t h)
+    filing boxed t 2 w d (orElse code 0) (copyHeading (rec t h) life lev code (length (fileText t h))) (fileText t h)
 
 -- its checks after 19: 23 of the source, whose name is at this place, and 25 of the level that the copy has
 abbrev pub copyLate : Place → List ℕ → ℕ → List Check

@@ -3,6 +3,7 @@ use mathlib.Core.Bool.{Bool, not}
 use mathlib.Core.List.{List, [], _∷_}
 use Prim.Native.Nat.{ℕ}
 use Rattle.paper.specs.Record.{marked, directory, simple}
+use Rattle.paper.specs.Layout.{boxed}
 use Rattle.paper.specs.Table.{rec}
 use Rattle.paper.specs.Line.{Word}
 use Rattle.paper.specs.Block.{fileText}
@@ -24,8 +25,8 @@ isRight (Deep depth) r = directory r
 -- "RDS writes the text", "LST writes one line an entry"
 abbrev pub written : Sheet → List ℕ → ℕ → List ℕ
 written (Text first count) t h = part (fileText t h) (meantPart first) (meantPart count)
-written Lines t h = directoryLines t h
-written (Deep depth) t h = directoryTree t depth 0 h
+written Lines t h = directoryLines boxed t h
+written (Deep depth) t h = directoryTree boxed t depth 0 h
 
 -- the checks after 20 of a text: "23 marked", "28 first beyond the end"
 abbrev pub textLate : Place → Part → List ℕ → ℕ → List Check
@@ -42,4 +43,4 @@ readingAt s place t reply f =
     showing (readInhibited place f ∷ check (not (isRight s (rec t (file t f)))) 15 place ∷ []) (written s t (file t f)) reply (late s place t (file t f))
 
 abbrev pub reading : Sheet → List ℕ → ℕ → List ℕ → Word → Planned
-reading s t u reply name = toEnd t u 1 name (λ _ f. readingAt s (endOf 1 name) t reply f)
+reading s t u reply name = toEnd boxed t u 1 name (λ _ f. readingAt s (endOf 1 name) t reply f)

@@ -5,6 +5,7 @@ use mathlib.Core.Path.{_≡_}
 use Prim.Native.Nat.{ℕ, _-_}
 use lib.Dec.{leb}
 use lib.ListN.{length, take}
+use Rattle.paper.specs.Layout.{boxed}
 use Rattle.paper.specs.Answer as paper
 use Rattle.paper.specs.Answer.{plain, NamePlan, deleting}
 use Rattle.paper.specs.Line.{Word}
@@ -26,8 +27,8 @@ removalAt Delete t place d f = delAt t place d f
 removalAt Destroy t place d f = dstAt t place f
 
 abbrev pub removalPlan : Removal → NamePlan
-removalPlan Delete = delPlan
-removalPlan Destroy = dstPlan
+removalPlan Delete = delPlan boxed
+removalPlan Destroy = dstPlan boxed
 
 -- k stores are left and n needed: "If more were needed, the answer is 22"
 abbrev pub spent : ℕ → ℕ → Removed

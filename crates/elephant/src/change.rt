@@ -18,6 +18,7 @@ use walk::state::State;
 use words::begin::Begin;
 ghost use Prim.Native.Nat.{_≤_};
 ghost use lib.ListN.{length};
+ghost use Rattle.paper.specs.Layout.{boxed};
 ghost use Rattle.paper.specs.Effect.{chnAt, chnPlan, dprAt, dprPlan};
 ghost use Rattle.paper.specs.Walk.{lastName};
 ghost use Rattle.words.specs.Place.{namesFrom, wordAt};
@@ -53,7 +54,7 @@ pub(crate) fn dpr(
     stop: u32,
 ) -> Answer
     requires { ⌜ Fit (now table) × (length (now line) ≤ 256) ⌝ }
-    ensures { λ r. ⌜ Did (now (table .entry)) stop (dprPlan (now (table .entry)) user (wordAt (now (line .entry)) name) code) r (now (table .exit)) ⌝ }
+    ensures { λ r. ⌜ Did (now (table .entry)) stop (dprPlan boxed (now (table .entry)) user (wordAt (now (line .entry)) name) code) r (now (table .exit)) ⌝ }
 {
     let end = to_end(table, line, name, Begin::Own, user);
     match end {
@@ -66,7 +67,7 @@ pub(crate) fn dpr(
 fn chn_at(table: &mut [u8], place: Place, d: State, f: State, name: &[u8], stop: u32) -> Answer
     requires { ⌜ Filed (now table) (meant f) × (length (now name) ≤ 10) ⌝ }
     ensures { λ r. ⌜ Did (now (table .entry)) stop
-        (chnAt (now (table .entry)) (placeMeant place) (now (name .entry)) (meant d) (meant f)) r (now (table .exit)) ⌝ }
+        (chnAt boxed (now (table .entry)) (placeMeant place) (now (name .entry)) (meant d) (meant f)) r (now (table .exit)) ⌝ }
 {
     let applied = d.code;
     if applied.inhibits_write() {
@@ -92,7 +93,7 @@ pub(crate) fn chn(
 ) -> Answer
     requires { ⌜ Fit (now table) × (length (lastName (namesFrom (now line) link)) ≤ 10) × (length (now line) ≤ 256) ⌝ }
     ensures { λ r. ⌜ Did (now (table .entry)) stop
-        (chnPlan (now (table .entry)) user (wordAt (now (line .entry)) old) (wordAt (now (line .entry)) link)) r (now (table .exit)) ⌝ }
+        (chnPlan boxed (now (table .entry)) user (wordAt (now (line .entry)) old) (wordAt (now (line .entry)) link)) r (now (table .exit)) ⌝ }
 {
     let end = to_end(table, line, old, Begin::Own, user);
     match end {

@@ -29,6 +29,7 @@ ghost use mathlib.Core.Path.{_≡_};
 ghost use Rattle.paper.specs.Check.{verdict};
 ghost use Rattle.paper.specs.Effect.{making, readInhibited, notSimple, cpyPlan, listOf, begun};
 ghost use Rattle.paper.specs.Record.{simple};
+ghost use Rattle.paper.specs.Layout.{boxed};
 ghost use Rattle.paper.specs.Request.{own};
 ghost use Rattle.paper.specs.Table.{rec};
 ghost use Rattle.paper.specs.Walk.{file};
@@ -117,7 +118,7 @@ fn cpy_in(
 ) -> Answer
     requires { ⌜ Named (now table) (now line) new [] × Held (now table) (holderShown (d .holder)) ⌝ }
     ensures { λ r. ⌜ Did (now (table .entry)) stop
-        (making (now (table .entry))
+        (making boxed (now (table .entry))
         (copied (now (table .entry)) (wordAt (now (line .entry)) new) (meant d) (file (now (table .entry)) (meant f))
         (lifetimePart lifetime) (levelPart level) (digitPart digit))
         (readInhibited (placeMeant place) (meant f) ∷ []) (notSimple (placeMeant place) (now (table .entry)) (meant f) ∷ [])
@@ -164,7 +165,7 @@ pub(crate) fn cpy(
 ) -> Answer
     requires { ⌜ Named (now table) (now line) new [] ⌝ }
     ensures { λ r. ⌜ Did (now (table .entry)) stop
-        (cpyPlan (now (table .entry)) (listOf user (beginMeant from)) user
+        (cpyPlan boxed (now (table .entry)) (listOf user (beginMeant from)) user
         (begun (beginMeant from) (wordAt (now (line .entry)) old)) (wordAt (now (line .entry)) new)
         (lifetimePart lifetime) (levelPart level) (digitPart digit)) r (now (table .exit)) ⌝ }
 {

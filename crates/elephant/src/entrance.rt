@@ -21,6 +21,7 @@ ghost use mathlib.Core.Path.{_≡_};
 ghost use Prim.Native.Nat.{ℕ};
 ghost use lib.Dec.{ltb};
 ghost use lib.ListN.{length};
+ghost use Rattle.paper.specs.Layout.{boxed};
 ghost use Rattle.paper.specs.Answer.{entrance, requested};
 ghost use Rattle.paper.specs.Request.{textTooLong};
 ghost use Rattle.elephant.specs.Entrance.{entranceNumber};
@@ -30,7 +31,7 @@ ghost use Rattle.elephant.specs.Promised.{Promised};
 
 // Number 1, 2 or 3, or 0: "table length no multiple of 32, or above 65,536", "table not sound", "user above 999,999".
 pub(crate) fn entrance_number(table: &[u8], user: u32) -> u8
-    ensures { λ r. ⌜ r ≡ entranceNumber (entrance (now (table .entry)) user) ⌝ }
+    ensures { λ r. ⌜ r ≡ entranceNumber (entrance boxed (now (table .entry)) user) ⌝ }
 {
     let judged = judge::judge(table);
     if judged != 0 {
@@ -69,7 +70,7 @@ pub(crate) fn grant(
     asked: Request,
 ) -> Answer
     requires { ⌜ Admitted (now table) (now line) (now text) user asked ⌝ }
-    ensures { λ r. ⌜ Promised (requested (now (table .entry)) (now (line .entry)) (now (text .entry)) (now (reply .entry)) user stop)
+    ensures { λ r. ⌜ Promised (requested boxed (now (table .entry)) (now (line .entry)) (now (text .entry)) (now (reply .entry)) user stop)
         r (now (table .exit)) (now (reply .exit)) ⌝ }
 {
     match asked {
@@ -147,7 +148,7 @@ pub(crate) fn admit(
     asked: Request,
 ) -> Answer
     requires { ⌜ Admitted (now table) (now line) (now text) user asked ⌝ }
-    ensures { λ r. ⌜ Promised (requested (now (table .entry)) (now (line .entry)) (now (text .entry)) (now (reply .entry)) user stop)
+    ensures { λ r. ⌜ Promised (requested boxed (now (table .entry)) (now (line .entry)) (now (text .entry)) (now (reply .entry)) user stop)
         r (now (table .exit)) (now (reply .exit)) ⌝ }
 {
     let Request::Cpy {

@@ -21,6 +21,7 @@ use reader::request::Read;
 use reader::request::read_line;
 use records::heading::Heading;
 ghost use mathlib.Core.List.{[]};
+ghost use Rattle.paper.specs.Layout.{boxed};
 ghost use Rattle.paper.specs.Answer.{requested, mending};
 ghost use Rattle.elephant.specs.Promised.{Promised};
 
@@ -33,7 +34,7 @@ pub fn request(
     user: u32,
     stop: u32,
 ) -> Answer
-    ensures { λ r. ⌜ Promised (requested (now (table .entry)) (now (line .entry)) (now (text .entry)) (now (reply .entry)) user stop)
+    ensures { λ r. ⌜ Promised (requested boxed (now (table .entry)) (now (line .entry)) (now (text .entry)) (now (reply .entry)) user stop)
         r (now (table .exit)) (now (reply .exit)) ⌝ }
 {
     let number = entrance_number(table, user);
@@ -58,7 +59,7 @@ pub fn request(
 // A table mended: its records that belong to no file cleared, exactly the first `stop` of them. "Its answer has place, names and
 // bytes 0, displaced no, and the stores made."
 pub fn mend(table: &mut [u8], stop: u32) -> Answer
-    ensures { λ r. ⌜ Promised (mending (now (table .entry)) stop) r (now (table .exit)) [] ⌝ }
+    ensures { λ r. ⌜ Promised (mending boxed (now (table .entry)) stop) r (now (table .exit)) [] ⌝ }
 {
     let mended = mending::mend(table, stop);
     Answer::placeless(mended.number, 0, mended.stores)

@@ -29,6 +29,7 @@ ghost use mathlib.Core.List.{[]};
 ghost use mathlib.Core.Path.{_≡_};
 ghost use Rattle.paper.specs.Effect.{making, filing, crdPlan, wrsPlan, dupPlan, listOf, begun};
 ghost use Rattle.paper.specs.Record.{byte};
+ghost use Rattle.paper.specs.Layout.{boxed};
 ghost use Rattle.paper.specs.Request.{own};
 ghost use Rattle.paper.specs.Table.{rec};
 ghost use Rattle.paper.specs.Walk.{file};
@@ -57,7 +58,7 @@ pub(crate) fn file(
     requires { ⌜ Named (now table) (now line) name (now text) × Fresh (now table) (holderShown (d .holder)) heading ⌝ }
     ensures { λ r. ⌜ Did (now (table .entry)) stop
         (ending (now (table .entry)) own
-        (filing (now (table .entry)) argument (wordAt (now (line .entry)) name) (meant d) (code .0) heading (now (text .entry)))
+        (filing boxed (now (table .entry)) argument (wordAt (now (line .entry)) name) (meant d) (code .0) heading (now (text .entry)))
         (lateChecks late)) r (now (table .exit)) ⌝ }
 {
     let mut rooms = [0u16; Entry::MOST_NEW];
@@ -98,8 +99,8 @@ fn file_in(
 ) -> Answer
     requires { ⌜ Named (now table) (now line) name (now text) × Fresh (now table) (holderShown (d .holder)) heading ⌝ }
     ensures { λ r. ⌜ Did (now (table .entry)) stop
-        (making (now (table .entry))
-        (filing (now (table .entry)) argument (wordAt (now (line .entry)) name) (meant d) (code .0) heading (now (text .entry))) [] [] [])
+        (making boxed (now (table .entry))
+        (filing boxed (now (table .entry)) argument (wordAt (now (line .entry)) name) (meant d) (code .0) heading (now (text .entry))) [] [] [])
         r (now (table .exit)) ⌝ }
 {
     let applies = d.code;
@@ -132,7 +133,7 @@ pub(crate) fn crd(
 ) -> Answer
     requires { ⌜ Named (now table) (now line) name [] ⌝ }
     ensures { λ r. ⌜ Did (now (table .entry)) stop
-        (crdPlan (now (table .entry)) user (wordAt (now (line .entry)) name) (levelPart level) (digitPart digit)) r (now (table .exit)) ⌝ }
+        (crdPlan boxed (now (table .entry)) user (wordAt (now (line .entry)) name) (levelPart level) (digitPart digit)) r (now (table .exit)) ⌝ }
 {
     let code = Code(digit.or_else(0));
     let heading = Heading {
@@ -173,7 +174,7 @@ pub(crate) fn wrs(
 ) -> Answer
     requires { ⌜ Named (now table) (now line) name (now text) ⌝ }
     ensures { λ r. ⌜ Did (now (table .entry)) stop
-        (wrsPlan (now (table .entry)) user (now (text .entry)) lifetime (levelPart level) (digitPart digit)
+        (wrsPlan boxed (now (table .entry)) user (now (text .entry)) lifetime (levelPart level) (digitPart digit)
         (wordAt (now (line .entry)) name)) r (now (table .exit)) ⌝ }
 {
     let code = Code(digit.or_else(0));
@@ -254,7 +255,7 @@ pub(crate) fn dup(
 ) -> Answer
     requires { ⌜ Linked (now table) (now line) to new ⌝ }
     ensures { λ r. ⌜ Did (now (table .entry)) stop
-        (dupPlan (now (table .entry)) (listOf user (beginMeant from)) (listOf user (beginMeant to)) (beginMeant to)
+        (dupPlan boxed (now (table .entry)) (listOf user (beginMeant from)) (listOf user (beginMeant to)) (beginMeant to)
         (begun (beginMeant from) (wordAt (now (line .entry)) old)) (begun (beginMeant to) (wordAt (now (line .entry)) new)) (digitPart digit))
         r (now (table .exit)) ⌝ }
 {

@@ -35,6 +35,7 @@ ghost use Rattle.paper.specs.Declaration.{orElse};
 ghost use Rattle.paper.specs.Effect.{showing, writing, part, lstBasePlan, lstBaseTreePlan, listOf, begun};
 ghost use Rattle.paper.specs.Listing.{listed, lines, tree};
 ghost use Rattle.paper.specs.Record.{simple, textLength};
+ghost use Rattle.paper.specs.Layout.{boxed};
 ghost use Rattle.paper.specs.Table.{rec};
 ghost use Rattle.listing.specs.Shown.{isListed};
 ghost use Rattle.words.specs.Place.{wordAt};
@@ -139,7 +140,7 @@ fn write_text(
 fn list(table: &[u8], which: Listed, reply: &mut [u8]) -> Answer
     requires { ⌜ Fit (now table) ⌝ }
     ensures { λ r. ⌜ Wrote (now (table .entry)) (now (reply .entry))
-        (writing [] (lines (now (table .entry)) (listed (now (table .entry)) (isListed which))) (now (reply .entry))) r (now (reply .exit)) ⌝ }
+        (writing [] (lines boxed (now (table .entry)) (listed boxed (now (table .entry)) (isListed which))) (now (reply .entry))) r (now (reply .exit)) ⌝ }
 {
     let n = listed_length(table, which).0;
     if reply.len() < n {
@@ -153,7 +154,7 @@ fn list(table: &[u8], which: Listed, reply: &mut [u8]) -> Answer
 fn list_deep(table: &[u8], which: Listed, depth: u8, reply: &mut [u8]) -> Answer
     requires { ⌜ Fit (now table) ⌝ }
     ensures { λ r. ⌜ Wrote (now (table .entry)) (now (reply .entry))
-        (writing [] (tree (now (table .entry)) depth 0 (isListed which)) (now (reply .entry))) r (now (reply .exit)) ⌝ }
+        (writing [] (tree boxed (now (table .entry)) depth 0 (isListed which)) (now (reply .entry))) r (now (reply .exit)) ⌝ }
 {
     let Reach::At(n) = list_tree(table, which, depth, reply) else {
         return Answer::refused_whole(20, 0);
@@ -229,7 +230,7 @@ pub(crate) fn read(
 pub(crate) fn lst_base(table: &[u8], reply: &mut [u8], user: u32) -> Answer
     requires { ⌜ Fit (now table) ⌝ }
     ensures { λ r. ⌜ Wrote (now (table .entry)) (now (reply .entry))
-        (lstBasePlan (now (table .entry)) user (now (reply .entry))) r (now (reply .exit)) ⌝ }
+        (lstBasePlan boxed (now (table .entry)) user (now (reply .entry))) r (now (reply .exit)) ⌝ }
 {
     list(table, Listed::Base(user), reply)
 }
@@ -238,7 +239,7 @@ pub(crate) fn lst_base(table: &[u8], reply: &mut [u8], user: u32) -> Answer
 pub(crate) fn lst_base_tree(table: &[u8], reply: &mut [u8], user: u32, depth: u8) -> Answer
     requires { ⌜ Fit (now table) ⌝ }
     ensures { λ r. ⌜ Wrote (now (table .entry)) (now (reply .entry))
-        (lstBaseTreePlan (now (table .entry)) user (now (reply .entry)) depth) r (now (reply .exit)) ⌝ }
+        (lstBaseTreePlan boxed (now (table .entry)) user (now (reply .entry)) depth) r (now (reply .exit)) ⌝ }
 {
     list_deep(table, Listed::Base(user), depth, reply)
 }

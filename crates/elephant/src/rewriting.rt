@@ -29,6 +29,7 @@ ghost use Prim.Native.Nat.{_≤_, _<_};
 ghost use lib.ListN.{length};
 ghost use Rattle.paper.specs.Effect.{rewriting, rewriteAt, rewritePlan, noRoomFor};
 ghost use Rattle.paper.specs.Record.{byte};
+ghost use Rattle.paper.specs.Layout.{boxed};
 ghost use Rattle.paper.specs.Table.{rooms, rec};
 ghost use Rattle.words.specs.Place.{wordAt};
 ghost use Rattle.walk.specs.Shown.{meant};
@@ -99,7 +100,7 @@ pub(crate) fn rewrite(
 ) -> Answer
     requires { ⌜ Fit (now table) × (length (now line) ≤ 256) × (length (now text) ≤ 24000) ⌝ }
     ensures { λ r. ⌜ Did (now (table .entry)) stop
-        (rewritePlan (now (table .entry)) user (now (text .entry)) (wordAt (now (line .entry)) name)) r (now (table .exit)) ⌝ }
+        (rewritePlan boxed (now (table .entry)) user (now (text .entry)) (wordAt (now (line .entry)) name)) r (now (table .exit)) ⌝ }
 {
     let end = to_end(table, line, name, Begin::Own, user);
     match end {

@@ -11,6 +11,7 @@ use lib.ListN.{length, take, set, getD, length-take}
 use lib.Seq.{take-suc}
 use borrow.Author.Tests.{lt-ltb, le-ltb}
 use Rattle.laws.proofs.Tests.{and-no-right, or-right}
+use Rattle.paper.specs.Layout.{boxed}
 use Rattle.paper.specs.Answer.{Outcome, requested}
 use Rattle.answers.specs.Shown.{shown}
 use Rattle.elephant.specs.Promised.{Promised}
@@ -28,12 +29,12 @@ use Rattle.filebox.proofs.Keeping.{keeps, holds-none}
 
 module _ (t l m r : List ℕ) (h : Held) where
   -- the request that is made is the box's
-  made : (x : Box) → Shows x t l m r h → requested t (take (h .line) l) (take (h .text) m) r 1 65535 ≡ outcome x
+  made : (x : Box) → Shows x t l m r h → requested boxed t (take (h .line) l) (take (h .text) m) r 1 65535 ≡ outcome x
   unfolding outcome
   made x s = rw (s .line .bytes, s .text .bytes, s .table, s .reply) (requested-cut (x .table) (x .line) (x .text) (x .reply) 1 65535)
 
   pub request-tells : {a b : List ℕ} → a ≡ take (h .line) l → b ≡ take (h .text) m → {v : Answer} {t' r' : List ℕ}
-      → Promised (requested t a b r 1 65535) v t' r'
+      → Promised (requested boxed t a b r 1 65535) v t' r'
       → {o : List ℕ} {w : Answered} → Line v (take (w .line) o) → w .reply ≡ v .bytes → Asks t l m r h t' r' o w
   request-tells {a} {b} e f {v} p n k =
       record {
@@ -47,7 +48,7 @@ module _ (t l m r : List ℕ) (h : Held) where
             };
       }
     where
-      same : (x : Box) → Shows x t l m r h → requested t a b r 1 65535 ≡ outcome x
+      same : (x : Box) → Shows x t l m r h → requested boxed t a b r 1 65535 ≡ outcome x
       same x s = rw (e, f) (made x s)
 
       is : (x : Box) → Shows x t l m r h → v ≡ shown (outcome x .answer)

@@ -4,6 +4,7 @@ use mathlib.Core.List.{List, [], _∷_, _++_}
 use Prim.Native.Nat.{ℕ}
 use lib.Dec.{eqb, ltb}
 use lib.ListN.{length}
+use Rattle.paper.specs.Layout.{boxed}
 use Rattle.paper.specs.Name.{alone}
 use Rattle.paper.specs.Line.{word}
 use Rattle.paper.specs.Answer.{Outcome, requested}
@@ -22,7 +23,7 @@ between t r = record { table = t; reply = r; line = []; asked = false; text = []
 
 -- "acts for user 1 with k 65,535"
 unfoldable pub outcome : Box → Outcome
-outcome x = requested (x .table) (x .line) (x .text) (x .reply) 1 65535
+outcome x = requested boxed (x .table) (x .line) (x .text) (x .reply) 1 65535
 
 -- the request is answered, and the next byte starts a line
 unfoldable pub answered : Box → Box

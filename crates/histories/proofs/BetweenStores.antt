@@ -13,6 +13,7 @@ use lib.ListN.{length, take, drop, take-append-drop}
 use lib.Seq.{take-all, take-nil, take-take, take-append-le}
 use borrow.Author.Tests.{eqb-true, eq-eqb, leb-true, leb-false}
 use Rattle.paper.specs.Record.{byte}
+use Rattle.paper.specs.Layout.{boxed}
 use Rattle.paper.specs.Table.{sized, rooms, rec}
 use Rattle.paper.specs.Line.{Word}
 use Rattle.paper.specs.Check.{Verdict, passed, refused, verdict}
@@ -134,14 +135,14 @@ del-wiped v (w ∷ ws) t u reply n made c =
 
 -- ---- every call
 
-mend-wiped : (t : List ℕ) → Mendable t → Wiped t (λ k. mending t k .table)
+mend-wiped : (t : List ℕ) → Mendable t → Wiped t (λ k. mending boxed t k .table)
 unfolding mended
 mend-wiped t m = record { stores = mendStores t; tables = λ k. go k (mend-came t k); falls = mend-falls t }
   where
     size : sized t ≡ true
     size = rw (length-run t (mendStores t)) at (right-sound (mended t) m .0)
 
-    go : (k : ℕ) → MendCame t k (mending t k) → mending t k .table ≡ run t (take k (mendStores t))
+    go : (k : ℕ) → MendCame t k (mending boxed t k) → mending boxed t k .table ≡ run t (take k (mendStores t))
     go k (unsized a e) = absurd (not-both size a)
     go k (unsound a b e) = absurd (not-both (right-sound (mended t) m .1) b)
     go k (whole a b l e) = rw (e, take-all k (mendStores t) l)
@@ -156,7 +157,7 @@ between-stores t (asks line text reply u stop) m = go (ways t line text reply u)
     by : (o p : ℕ → List ℕ) → ((k : ℕ) → p k ≡ o k) → Stored t o → Stored t p
     by o p e z = record { first = z .first; last = z .last; tables = λ k. e k ∙ z .tables k; puts = z .puts; falls = z .falls }
 
-    go : Way t line text reply u → Stored t (λ k. requested t line text reply u k .table)
+    go : Way t line text reply u → Stored t (λ k. requested boxed t line text reply u k .table)
     go (lent e) = no-store t _ e
     go (by-plan c x h e) = by _ _ (λ k. ap (λ (o : Outcome). o .table) (e k)) (plan-stored t reply c x h)
     go (by-names c v names q e) = by _ _ (λ k. ap (λ (o : Outcome). o .table) (e k)) (wiped-stored t _ (del-wiped v names t u reply 0 0 c))

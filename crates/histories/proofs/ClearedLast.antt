@@ -10,6 +10,7 @@ use native.Mathlib.Omega.{arith}
 use lib.ListN.{length}
 use borrow.Author.Tests.{eqb-true, eqb-false}
 use Rattle.paper.specs.Record.{byte, headingCode, blank}
+use Rattle.paper.specs.Layout.{boxed}
 use Rattle.paper.specs.Table.{sized, rooms, rec}
 use Rattle.paper.specs.Code.{noWrite}
 use Rattle.paper.specs.Entry.{named}
@@ -40,17 +41,17 @@ called-last : (h : ℕ) (t : List ℕ) (c : Call) → Mendable t → heads h t �
     → (named (called t c .table) h ≡ false) ⊎ Open (destroys c) t h
 called-last h t (mends k) m a b =
     let d = mend-tidied t (mendable-whole t m) k in
-    inl (unnamed-still t (mending t k .table) h (mendable-whole t m) (d .less) (d .last h (eqb-true _ _ a) (eqb-false _ _ b)))
+    inl (unnamed-still t (mending boxed t k .table) h (mendable-whole t m) (d .less) (d .last h (eqb-true _ _ a) (eqb-false _ _ b)))
 called-last h t (asks line text reply u k) m a b = go (how-asked t line text reply u k)
   where
-    go : Asked t line text reply u k → (named (requested t line text reply u k .table) h ≡ false) ⊎ Open (isDestroying line text) t h
+    go : Asked t line text reply u k → (named (requested boxed t line text reply u k .table) h ≡ false) ⊎ Open (isDestroying line text) t h
     go (refused e) = absurd (not-both a (rw e at b))
     go (entered c) = request-moved t line text reply u k (c .clauses) .last h (eqb-true _ _ a) (eqb-false _ _ b)
 
 -- heading h of a sound table, which it still is after any calls, and a call that clears it, where it is capped or the call is no DST: some
 -- entry named it at the start, and none does after that call. The start may be the sound table before the request whose stores, or whose
 -- mend, cleared it.
-pub cleared-last : (t : List ℕ) (h : ℕ) (cs : List Call) (c : Call) → sized t ≡ true → sound t ≡ true → heads h t ≡ true
+pub cleared-last : (t : List ℕ) (h : ℕ) (cs : List Call) (c : Call) → sized t ≡ true → sound boxed t ≡ true → heads h t ≡ true
     → heads h (after t cs) ≡ true → (noWrite (headingCode (rec (after t cs) h)) ≡ true) ⊎ (destroys c ≡ false)
     → heads h (called (after t cs) c .table) ≡ false → (named t h ≡ true) × (named (called (after t cs) c .table) h ≡ false)
 cleared-last t h cs c a b k z o n =
@@ -73,7 +74,7 @@ cleared-last t h cs c a b k z o n =
 pub record Anew (h : ℕ) (s : List ℕ) (c : Call) (s₁ : List ℕ) : Type 0 where
   pub asks : isRequest c ≡ true
   pub sized : sized s ≡ true
-  pub sound : sound s ≡ true
+  pub sound : sound boxed s ≡ true
   -- before: the record is free, no entry names it and no text
   pub free : rec s h ≡ blank
   pub unnamed : named s h ≡ false
@@ -90,17 +91,17 @@ blank-at t s c e i n f =
 
 called-anew : (h : ℕ) (t : List ℕ) (c : Call) → Mendable t → heads h t ≡ false → heads h (called t c .table) ≡ true → Anew h t c (called t c .table)
 called-anew h t (mends k) m a b =
-    let z : byte (rec (mending t k .table) h) 0 ≡ 1 = eqb-true _ _ b in
+    let z : byte (rec (mending boxed t k .table) h) 0 ≡ 1 = eqb-true _ _ b in
     let d = mend-tidied t (mendable-whole t m) k .less in
-    let y = less-stays t (mending t k .table) (mendable-whole t m) d h (omega arith) in
-    absurd (eqb-false _ _ a (sym (alike-kind (rec t h) (rec (mending t k .table) h) y) ∙ z))
+    let y = less-stays t (mending boxed t k .table) (mendable-whole t m) d h (omega arith) in
+    absurd (eqb-false _ _ a (sym (alike-kind (rec t h) (rec (mending boxed t k .table) h) y) ∙ z))
 called-anew h t (asks line text reply u k) m a b = go (how-asked t line text reply u k)
   where
-    go : Asked t line text reply u k → Anew h t (asks line text reply u k) (requested t line text reply u k .table)
+    go : Asked t line text reply u k → Anew h t (asks line text reply u k) (requested boxed t line text reply u k .table)
     go (refused e) = absurd (not-both (rw e at b) a)
     go (entered r) =
         let c = r .clauses in
-        let s₁ : List ℕ = requested t line text reply u k .table in
+        let s₁ : List ℕ = requested boxed t line text reply u k .table in
         let d = request-moved t line text reply u k c in
         let n : byte (rec t h) 0 ≢ 1 = eqb-false _ _ a in
         let f = d .new h n (eqb-true _ _ b) in
@@ -148,7 +149,7 @@ whence h (d ∷ ds) s m z = go (whence h ds (called s d .table) (called-mendable
 
 -- a record that is no heading after cs and is one after ds: a request of ds laid it, on a sound table in which the record was free,
 -- named by no entry and by no text; so nothing of a file that lay there before is left
-pub another-file : (t : List ℕ) (h : ℕ) (cs ds : List Call) → sized t ≡ true → sound t ≡ true
+pub another-file : (t : List ℕ) (h : ℕ) (cs ds : List Call) → sized t ≡ true → sound boxed t ≡ true
     → heads h (after t cs) ≡ false → heads h (after (after t cs) ds) ≡ true → Later h (after t cs) ds
 another-file t h cs ds a b n z = go (whence h ds (after t cs) (after-mendable t cs (sound-mendable t (sound-right t a b))) z)
   where

@@ -6,6 +6,7 @@ use mathlib.Core.Path.{_≡_}
 use Prim.Native.Nat.{ℕ}
 use lib.Dec.{eqb}
 use borrow.Author.Tests.{not-true, eqb-false}
+use Rattle.paper.specs.Layout.{boxed}
 use Rattle.paper.specs.Table.{sized}
 use Rattle.paper.specs.Sound.{countsTrue, sound}
 use Rattle.paper.specs.Mend.{mendStores, mended}
@@ -22,21 +23,21 @@ use Rattle.histories.proofs.Calls.Mendable.{Mendable, sound-mendable, a
 -- a table that a request takes, and what it says of its entries
 pub record Settled (s : List ℕ) : Type 0 where
   pub sized : sized s ≡ true
-  pub sound : sound s ≡ true
+  pub sound : sound boxed s ≡ true
   pub counts : countsTrue s ≡ true
 
 settled : (s : List ℕ) → Right s → Settled s
 settled s r = let z = right-sound s r in record { sized = z .0; sound = z .1; counts = r .counts }
 
 -- a mend that is not cut, on any table of a history
-whole-mend : (t : List ℕ) (k : ℕ) → Mendable t → Uncut (mending t k) → Right (mending t k .table)
+whole-mend : (t : List ℕ) (k : ℕ) → Mendable t → Uncut (mending boxed t k) → Right (mending boxed t k .table)
 unfolding mended
 whole-mend t k m n = go (mend-came t k)
   where
     size : sized t ≡ true
     size = rw (length-run t (mendStores t)) at (right-sound (mended t) m .0)
 
-    go : MendCame t k (mending t k) → Right (mending t k .table)
+    go : MendCame t k (mending boxed t k) → Right (mending boxed t k .table)
     go (unsized a e) = absurd (not-both size a)
     go (unsound a b e) = absurd (not-both (right-sound (mended t) m .1) b)
     go (whole a b l e) = rw e m
@@ -58,12 +59,12 @@ after-right t (c ∷ cs) r h =
     after-right (called t c .table) cs (called-right t c r n) (and-right (not (eqb (called t c .answer .number) 22)) _ h)
 
 -- from a sound table, calls of which none is cut
-pub counts-after : (t : List ℕ) (cs : List Call) → sized t ≡ true → sound t ≡ true → uncut t cs ≡ true → Settled (after t cs)
+pub counts-after : (t : List ℕ) (cs : List Call) → sized t ≡ true → sound boxed t ≡ true → uncut t cs ≡ true → Settled (after t cs)
 counts-after t cs a b h = settled (after t cs) (after-right t cs (sound-right t a b) h)
 
 -- from a sound table, any calls, cut or whole, a mend that is not cut, and then calls of which none is cut
-pub counts-mended : (t : List ℕ) (cs : List Call) (k : ℕ) (ds : List Call) → sized t ≡ true → sound t ≡ true → Uncut (mending (after t cs) k)
-    → uncut (mending (after t cs) k .table) ds ≡ true → Settled (after (mending (after t cs) k .table) ds)
+pub counts-mended : (t : List ℕ) (cs : List Call) (k : ℕ) (ds : List Call) → sized t ≡ true → sound boxed t ≡ true → Uncut (mending boxed (after t cs) k)
+    → uncut (mending boxed (after t cs) k .table) ds ≡ true → Settled (after (mending boxed (after t cs) k .table) ds)
 counts-mended t cs k ds a b n h =
     let m = after-mendable t cs (sound-mendable t (sound-right t a b)) in
-    settled _ (after-right (mending (after t cs) k .table) ds (whole-mend (after t cs) k m n) h)
+    settled _ (after-right (mending boxed (after t cs) k .table) ds (whole-mend (after t cs) k m n) h)

@@ -12,6 +12,7 @@ use lib.Seq.{take-append-le, getD-set-other}
 use borrow.Author.Tests.{eqb-true, eq-eqb, ltb-false}
 use Rattle.paper.specs.Scan.{Found, at, nowhere}
 use Rattle.paper.specs.Record.{byte, level, lifetime, blank, headingRecord}
+use Rattle.paper.specs.Layout.{boxed}
 use Rattle.paper.specs.Table.{sized, rooms, rec, room}
 use Rattle.paper.specs.Declaration.{Part, orElse}
 use Rattle.paper.specs.Line.{Word}
@@ -36,11 +37,9 @@ use Rattle.demands.proofs.Sound.Right.{sound-right}
 use Rattle.demands.proofs.Mending.Part.{Alike, equal, Below, free, stays}
 use Rattle.demands.proofs.Mending.Counts.{alike-byte, but-byte, but-recount}
 use Rattle.demands.proofs.Request.Fair.{verdict-idle}
-use Rattle.demands.proofs.Request.Read.{Told}
 use Rattle.demands.proofs.Request.Course.{Admitted, Course, untried, tried, course}
 use Rattle.demands.proofs.Request.Ended.{Passed, ran-by}
 use Rattle.demands.proofs.Request.Steps.{holder-by}
-use Rattle.demands.proofs.Request.Formed.{named-last}
 use Rattle.demands.proofs.SoundKept.Retexted.{mine-not}
 use Rattle.histories.specs.History.{Call, asks, mends, called, cutAt, after, heads}
 use Rattle.histories.specs.Copy.{CopyOf, Copies, Descends}
@@ -169,20 +168,20 @@ abbrev Raising : ℕ → List ℕ → Planned → Type 0
 Raising lev t (halted f) = Unit {0}
 Raising lev t (plan p) = verdict (p .checks) ≡ passed → Every (Raises lev t) (p .stores)
 
--- CPY of the file that s came to, under a name that fits its field
-copy-raises : (t : List ℕ) → Whole t → (v u : ℕ) (old new : Word) (life lev code : Part) (d s : State) → length (lastName (chainOf new)) ≤ 10
-    → ended t (start v) (chainOf old) ≡ arrived d s → Raising (level (rec t (file t s))) t (cpyPlan t v u old new life lev code)
+-- CPY of the file that s came to
+copy-raises : (t : List ℕ) → Whole t → (v u : ℕ) (old new : Word) (life lev code : Part) (d s : State)
+    → ended boxed t (start v) (chainOf old) ≡ arrived d s → Raising (level (rec t (file t s))) t (cpyPlan boxed t v u old new life lev code)
 unfolding cpyPlan making headingRecord
-copy-raises t w v u old new life lev code d s l e =
+copy-raises t w v u old new life lev code d s e =
     rw e (holder-by (Raising (level (rec t (file t s))) t) 2 (λ _ _ _. tt) t u new _ (λ q _ x.
     let source : List ℕ = rec t (file t s) in
     let body : List ℕ = fileText t (file t s) in
     let head : List ℕ = headingRecord 1 (orElse lev (level source)) (orElse code 0) (orElse life (lifetime source)) (length body) in
-    let m : Making = filing t 2 new q (orElse code 0) head body in
+    let m : Making = filing boxed t 2 new q (orElse code 0) head body in
     placing-raises _ t m w (file-fits t head body (length-heading 1 (orElse lev (level source)) (orElse code 0) (orElse life (lifetime source)) (length body)))
     (file-raises _ t head body (ltb-false _ _ (verdict-idle _ x .1 .1 .1 .1 .1 .1 .1 .0)))
-    (length-entry (orElse code 0) (q .holder .heading) (room t 0) (q .holder .user) (lastName (chainOf new)) l)
-    (entry-record-kind (orElse code 0) (q .holder .heading) (room t 0) (q .holder .user) (lastName (chainOf new))) (borne t m)))
+    (length-entry (orElse code 0) (q .holder .heading) (room t 0) (q .holder .user) (lastName (chainOf new)))
+    (entry-record-kind (orElse code 0) (q .holder .heading) (room t 0) (q .holder .user) (lastName (chainOf new))) (borne boxed t m)))
 
 -- after some stores of such a plan, a heading that was none has at least that level
 new-level : (t : List ℕ) → Whole t → (lev : ℕ) (ss : List Store) → Every Fits ss → Every (Raises lev t) ss
@@ -210,11 +209,11 @@ single-level t reply k c lev x h r n a =
 -- "a copy's level must be at least its source's": a CPY, whole or cut, lays no heading with a level below that of the file it copies,
 -- be a level declared or not
 pub no-copy-drops : (t line body reply : List ℕ) (u k h n : ℕ) → CopyOf t line body u h → heads n t ≡ false
-    → heads n (requested t line body reply u k .table) ≡ true → level (rec t h) ≤ level (rec (requested t line body reply u k .table) n)
+    → heads n (requested boxed t line body reply u k .table) ≡ true → level (rec t h) ≤ level (rec (requested boxed t line body reply u k .table) n)
 unfolding granted
 no-copy-drops t line body reply u k h n q a b = go (course t line body reply u)
   where
-    laid : byte (rec (requested t line body reply u k .table) n) 0 ≡ 1
+    laid : byte (rec (requested boxed t line body reply u k .table) n) 0 ≡ 1
     laid = eqb-true _ _ b
 
     new : byte (rec t n) 0 ≢ 1
@@ -223,29 +222,27 @@ no-copy-drops t line body reply u k h n q a b = go (course t line body reply u)
     copy : Request
     copy = cpy (q .from) (q .old) (q .new) (q .life) (q .lev) (q .code)
 
-    tries : (r : Request) → r ≡ copy → Admitted t line body u r → ((k : ℕ) → requested t line body reply u k ≡ granted t body reply u k r)
-        → level (rec t h) ≤ level (rec (requested t line body reply u k .table) n)
+    tries : (r : Request) → r ≡ copy → Admitted t line body u r → ((k : ℕ) → requested boxed t line body reply u k ≡ granted boxed t body reply u k r)
+        → level (rec t h) ≤ level (rec (requested boxed t line body reply u k .table) n)
     tries r e m p =
         let c = sound-clauses t (m .sized) (m .sound) in
-        let m₁ : Told body copy = rw e at (m .told) in
-        let l = named-last (q .new) (m₁ .new) .short in
         let v : ℕ = listOf u (q .from) in
         let w : Word = begun (q .from) (q .old) in
-        let x : Planned = cpyPlan t v u w (q .new) (q .life) (q .lev) (q .code) in
-        let y : requested t line body reply u k ≡ single t reply k (ran k x) = rw e at (p k) in
+        let x : Planned = cpyPlan boxed t v u w (q .new) (q .life) (q .lev) (q .code) in
+        let y : requested boxed t line body reply u k ≡ single t reply k (ran k x) = rw e at (p k) in
         rw (y, ← (q .is))
         (single-level t reply k c (level (rec t (file t (q .source)))) x
-        (cpy-shape t c v u w (q .new) (q .life) (q .lev) (q .code) l)
-        (copy-raises t (c .whole) v u w (q .new) (q .life) (q .lev) (q .code) (q .directory) (q .source) l (q .end)) n new (rw y at laid))
+        (cpy-shape t c v u w (q .new) (q .life) (q .lev) (q .code))
+        (copy-raises t (c .whole) v u w (q .new) (q .life) (q .lev) (q .code) (q .directory) (q .source) (q .end)) n new (rw y at laid))
 
-    go : Course t line body reply u → level (rec t h) ≤ level (rec (requested t line body reply u k .table) n)
+    go : Course t line body reply u → level (rec t h) ≤ level (rec (requested boxed t line body reply u k .table) n)
     go (untried f g e) = absurd (not-both b (rw (e k) a))
     go (tried r m e) = let y : request r ≡ request copy = sym (m .asked) ∙ q .asked in let z : r ≡ copy = cc in tries r z m e
 
 -- ---- over a history
 
 -- a file, or a copy of a copy of it, has at least its level, whatever was asked between
-pub level-kept : (t : List ℕ) (h n : ℕ) (cs : List Call) → sized t ≡ true → sound t ≡ true → heads h t ≡ true → Descends t h cs n
+pub level-kept : (t : List ℕ) (h n : ℕ) (cs : List Call) → sized t ≡ true → sound boxed t ≡ true → heads h t ≡ true → Descends t h cs n
     → level (rec t h) ≤ level (rec (after t cs) n)
 unfolding after Descends
 level-kept t h n cs a b = from-here cs t h (sound-mendable t (sound-right t a b))

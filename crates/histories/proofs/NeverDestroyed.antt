@@ -10,6 +10,7 @@ use lib.ListN.{length, take}
 use lib.Seq.{take-length}
 use borrow.Author.Tests.{eqb-true, eq-eqb}
 use Rattle.paper.specs.Record.{byte, headingCode, entryCode, blank}
+use Rattle.paper.specs.Layout.{boxed}
 use Rattle.paper.specs.Table.{sized, rec, lay}
 use Rattle.paper.specs.Line.{Word}
 use Rattle.paper.specs.Check.{refusalAt, verdict}
@@ -38,7 +39,7 @@ use Rattle.histories.proofs.Calls.Requests.{whole-moved, named-shape}
 
 -- "needs write on each file": the capped file by whatever name
 module _ (t : List ℕ) (c : Sound t) (u place : ℕ) (w : Word) (d f : State) where
-  closed : toLast t d (chainOf w) ≡ reached f → noWrite (headingCode (rec t (file t f))) ≡ true → noWrite (f .code) ≡ true
+  closed : toLast boxed t d (chainOf w) ≡ reached f → noWrite (headingCode (rec t (file t f))) ≡ true → noWrite (f .code) ≡ true
   unfolding applies
   closed q n =
       let g = walk-reached 65535 t c d (chainOf w) f q in
@@ -49,8 +50,8 @@ module _ (t : List ℕ) (c : Sound t) (u place : ℕ) (w : Word) (d f : State) w
       go (inl e) a b = e
       go (inr e) a b = absurd (not-both n (own-code (headingCode (rec t (file t f))) (entryCode (rec t (f .entry))) a b e))
 
-  pub capped-fourteen : toDirectory t 1 (start u) (chainOf w) ≡ reached d → toLast t d (chainOf w) ≡ reached f
-      → noWrite (headingCode (rec t (file t f))) ≡ true → Refused (dstPlan t u place w) (refusalAt 14 (endOf place w))
+  pub capped-fourteen : toDirectory boxed t 1 (start u) (chainOf w) ≡ reached d → toLast boxed t d (chainOf w) ≡ reached f
+      → noWrite (headingCode (rec t (file t f))) ≡ true → Refused (dstPlan boxed t u place w) (refusalAt 14 (endOf place w))
   unfolding dstPlan ended verdict
   capped-fourteen a q n = rw (a, q) (checked _ refl (rw (closed q n)))
 
@@ -80,16 +81,16 @@ module _ (t : List ℕ) (c : Sound t) where
   passed-spares x p h v = let r : Razes t (plan p) = rw (v .plan) at h in razing-spares (r (v .checks))
 
 -- .. of all names
-names-spare : (ws : List Word) (t : List ℕ) (u : ℕ) (reply : List ℕ) (k n made : ℕ) → Sound t → Spares t (deleting dstPlan t u reply k n made ws .table)
+names-spare : (ws : List Word) (t : List ℕ) (u : ℕ) (reply : List ℕ) (k n made : ℕ) → Sound t → Spares t (deleting (dstPlan boxed) t u reply k n made ws .table)
 unfolding deleting
 names-spare [] t u reply k n made c = λ h a b. a
 names-spare (w ∷ ws) t u reply k n made c = one (λ t₁. names-spare ws t₁ u reply)
   where
     x : Planned
-    x = dstPlan t u (n + 1) w
+    x = dstPlan boxed t u (n + 1) w
 
     more : List ℕ → ℕ → ℕ → ℕ → Outcome
-    more t₁ k₁ n₁ made₁ = deleting dstPlan t₁ u reply k₁ n₁ made₁ ws
+    more t₁ k₁ n₁ made₁ = deleting (dstPlan boxed) t₁ u reply k₁ n₁ made₁ ws
 
     cut-at : (p : Plan) → Passed x p → (j : ℕ) → Spares t (run t (take j (p .stores)))
     cut-at p v = passed-spares t c x p (dst-razes t c u (n + 1) w) v
@@ -109,8 +110,8 @@ names-spare (w ∷ ws) t u reply k n made c = one (λ t₁. names-spare ws t₁ 
         (λ p v _. cut-at p v k)
 
 -- the theorem: a sound table, a capped heading, a DST of any user with any stop number
-pub never-destroyed : (t line text reply : List ℕ) (u k h : ℕ) (ws : List Word) → sized t ≡ true → sound t ≡ true → asked line text ≡ request (dst ws)
-    → heads h t ≡ true → noWrite (headingCode (rec t h)) ≡ true → heads h (requested t line text reply u k .table) ≡ true
+pub never-destroyed : (t line text reply : List ℕ) (u k h : ℕ) (ws : List Word) → sized t ≡ true → sound boxed t ≡ true → asked line text ≡ request (dst ws)
+    → heads h t ≡ true → noWrite (headingCode (rec t h)) ≡ true → heads h (requested boxed t line text reply u k .table) ≡ true
 never-destroyed t line text reply u k h ws a b q i n =
     del-came (λ o. heads h (o .table) ≡ true) destruction t line text reply u k ws q
     (λ f _. i)

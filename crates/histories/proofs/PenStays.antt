@@ -9,6 +9,7 @@ use native.Mathlib.Omega.{arith}
 use lib.ListN.{length}
 use borrow.Author.Tests.{eqb-true}
 use Rattle.paper.specs.Record.{byte, level, headingCode, textLength}
+use Rattle.paper.specs.Layout.{boxed}
 use Rattle.paper.specs.Table.{sized, rec}
 use Rattle.paper.specs.Code.{noWrite}
 use Rattle.paper.specs.Block.{fileText}
@@ -49,10 +50,10 @@ tidied-held h t s m d o k z =
 called-held : (h : ℕ) (t : List ℕ) (c : Call) → Mendable t → Owned h t → heads h t ≡ true → noWrite (headingCode (rec t h)) ≡ true
     → heads h (called t c .table) ≡ true → Held h t (called t c .table)
 called-held h t (mends k) m o a w b =
-    tidied-held h t (mending t k .table) m (mend-tidied t (mendable-whole t m) k) o (eqb-true _ _ a) (eqb-true _ _ b)
+    tidied-held h t (mending boxed t k .table) m (mend-tidied t (mendable-whole t m) k) o (eqb-true _ _ a) (eqb-true _ _ b)
 called-held h t (asks line text reply u k) m o a w b = go (how-asked t line text reply u k)
   where
-    go : Asked t line text reply u k → Held h t (requested t line text reply u k .table)
+    go : Asked t line text reply u k → Held h t (requested boxed t line text reply u k .table)
     go (refused e) = rw e (held-refl h t)
     go (entered c) = request-moved t line text reply u k (c .clauses) .held h (eqb-true _ _ a) w (eqb-true _ _ b)
 
@@ -99,14 +100,14 @@ module _ (h : ℕ) (t : List ℕ) (c : Right t) (k : heads h t ≡ true) (w : no
 
 -- a sound table, a heading with write inhibited in its own code, any calls after each of which it is a heading: at the end, cut or not,
 -- it and its text lie byte for byte where they lay
-pub pen-stays : (t : List ℕ) (h : ℕ) (cs : List Call) → sized t ≡ true → sound t ≡ true
+pub pen-stays : (t : List ℕ) (h : ℕ) (cs : List Call) → sized t ≡ true → sound boxed t ≡ true
     → heads h t ≡ true → noWrite (headingCode (rec t h)) ≡ true → remains h t cs ≡ true → Capped h t (after t cs)
 pen-stays t h cs a b k w r =
     let c = sound-right t a b in
     capped h t c k w (after t cs) (held-on h t c k w cs t (sound-mendable t c) (held-refl h t) r)
 
 -- .. and so it is between any two stores of a further call, after which it is a heading
-pub pen-stays-between : (t : List ℕ) (h : ℕ) (cs : List Call) (c : Call) (j k : ℕ) → sized t ≡ true → sound t ≡ true
+pub pen-stays-between : (t : List ℕ) (h : ℕ) (cs : List Call) (c : Call) (j k : ℕ) → sized t ≡ true → sound boxed t ≡ true
     → heads h t ≡ true → noWrite (headingCode (rec t h)) ≡ true → remains h t cs ≡ true
     → j ≤ k → heads h (called (after t cs) (cutAt k c) .table) ≡ true → Capped h t (called (after t cs) (cutAt j c) .table)
 pen-stays-between t h cs c j k a b i w r l z =

@@ -12,6 +12,7 @@ use mathlib.Core.List.{List, [], _∷_}
 use mathlib.Core.Path.{_≡_, refl}
 use Prim.Native.Nat.{ℕ}
 use Rattle.paper.specs.Record.{headingCode}
+use Rattle.paper.specs.Layout.{boxed}
 use Rattle.paper.specs.Table.{sized, rec}
 use Rattle.paper.specs.Code.{noRead}
 use Rattle.paper.specs.Sound.{sound}
@@ -38,7 +39,7 @@ alike h (c ∷ cs) t s m m₁ q =
 
 -- two sound tables, record for record the same but for the bytes 8-31 of text records of heading h, whose own code inhibits reading: any
 -- calls, cut or whole, show the same answers and replies, and leave two tables that again differ there at most
-pub seal-stays : (t s : List ℕ) (h : ℕ) (cs : List Call) → sized t ≡ true → sound t ≡ true → sound s ≡ true → Veil h t s
+pub seal-stays : (t s : List ℕ) (h : ℕ) (cs : List Call) → sized t ≡ true → sound boxed t ≡ true → sound boxed s ≡ true → Veil h t s
     → heads h t ≡ true → noRead (headingCode (rec t h)) ≡ true
     → (shown s cs ≡ shown t cs) × Veil h (after t cs) (after s cs)
 seal-stays t s h cs a b b₁ v k n =
@@ -48,5 +49,5 @@ seal-stays t s h cs a b b₁ v k n =
     (r .shows, hidden-veil h (after t cs) (after s cs) (r .tables))
 
 -- .. and once the heading is gone and the table sound, nowhere
-pub seal-gone : (t s : List ℕ) (h : ℕ) → sized t ≡ true → sound t ≡ true → Veil h t s → heads h t ≡ false → s ≡ t
+pub seal-gone : (t s : List ℕ) (h : ℕ) → sized t ≡ true → sound boxed t ≡ true → Veil h t s → heads h t ≡ false → s ≡ t
 seal-gone t s h a b v n = gone-equal h t s v (sound-clauses t a b) n

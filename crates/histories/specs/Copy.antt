@@ -4,6 +4,7 @@ use mathlib.Core.List.{List, [], _∷_}
 use mathlib.Core.Logic.{_⊎_}
 use mathlib.Core.Path.{_≡_}
 use Prim.Native.Nat.{ℕ}
+use Rattle.paper.specs.Layout.{boxed}
 use Rattle.paper.specs.Declaration.{Part}
 use Rattle.paper.specs.Line.{Word}
 use Rattle.paper.specs.Request.{Begin, cpy, request, asked}
@@ -23,13 +24,13 @@ pub record CopyOf (t line text : List ℕ) (u h : ℕ) : Type 0 where
   pub asked : asked line text ≡ request (cpy from old new life lev code)
   pub directory : State
   pub source : State
-  pub end : ended t (start (listOf u from)) (chainOf (begun from old)) ≡ arrived directory source
+  pub end : ended boxed t (start (listOf u from)) (chainOf (begun from old)) ≡ arrived directory source
   pub is : file t source ≡ h
 
 -- a call that copies heading h to heading n, whole or cut: n is a heading after it, and was none before
 abbrev pub Copies : List ℕ → Call → ℕ → ℕ → Type 0
 Copies t (asks line text reply user stop) h n =
-    CopyOf t line text user h × (heads n t ≡ false) × (heads n (requested t line text reply user stop .table) ≡ true)
+    CopyOf t line text user h × (heads n t ≡ false) × (heads n (requested boxed t line text reply user stop .table) ≡ true)
 Copies t (mends stop) h n = ⊥
 
 -- the file of heading n after a history is that of heading h before it, or a copy of it, or a copy of such a copy

@@ -4,6 +4,7 @@ use mathlib.Core.List.{List, [], _∷_}
 use Prim.Native.Nat.{ℕ}
 use lib.Dec.{eqb}
 use Rattle.paper.specs.Record.{isKind}
+use Rattle.paper.specs.Layout.{boxed}
 use Rattle.paper.specs.Table.{rec}
 use Rattle.paper.specs.Answer.{Answer, Outcome, requested, mending}
 
@@ -14,8 +15,8 @@ pub data Call : Type 0 where
 
 -- its answer, the table after and the reply after
 abbrev pub called : List ℕ → Call → Outcome
-called t (asks line text reply user stop) = requested t line text reply user stop
-called t (mends stop) = mending t stop
+called t (asks line text reply user stop) = requested boxed t line text reply user stop
+called t (mends stop) = mending boxed t stop
 
 abbrev pub isRequest : Call → Bool
 isRequest (asks line text reply user stop) = true

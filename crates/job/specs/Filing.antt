@@ -4,6 +4,7 @@ use mathlib.Core.Bool.{cond}
 use mathlib.Core.List.{List, [], _∷_, _++_}
 use Prim.Native.Nat.{ℕ, suc, _+_, _-_}
 use lib.Dec.{eqb}
+use Rattle.paper.specs.Layout.{boxed}
 use Rattle.paper.specs.Answer.{Outcome, requested}
 use Rattle.job.specs.Sheet.{Sheet}
 
@@ -17,7 +18,7 @@ wrsLine chain link = 87 ∷ 82 ∷ 83 ∷ 32 ∷ 77 ∷ 32 ∷ below chain link
 
 -- one sheet filed, with k stores left; a WRS writes no reply
 unfoldable pub filed : (t chain : List ℕ) (u k : ℕ) → Sheet → Outcome
-filed t chain u k x = requested t (wrsLine chain (x .link)) (x .text) [] u k
+filed t chain u k x = requested boxed t (wrsLine chain (x .link)) (x .text) [] u k
 
 -- how the filing ends: the table and all the stores made; or the first sheet that failed too, with its reply number
 pub data Filing : Type 0 where

@@ -4,6 +4,7 @@ use mathlib.Core.List.{List, [], _∷_}
 use Prim.Native.Nat.{ℕ, suc}
 use lib.Dec.{eqb}
 use lib.ListN.{take}
+use Rattle.paper.specs.Layout.{boxed}
 use Rattle.paper.specs.Answer.{Outcome, requested}
 use Rattle.paper.specs.Name.{same}
 use Rattle.job.specs.Sheet.{Sheet}
@@ -15,7 +16,7 @@ rdsLine chain link = 82 ∷ 68 ∷ 83 ∷ 32 ∷ below chain link
 
 -- one sheet read back over the front of what the last one left: no text, and no store to make
 unfoldable pub readBack : (t chain back : List ℕ) (u : ℕ) → Sheet → Outcome
-readBack t chain back u x = requested t (rdsLine chain (x .link)) [] back u 0
+readBack t chain back u x = requested boxed t (rdsLine chain (x .link)) [] back u 0
 
 -- "reply 0", and so many bytes at the front of the buffer are "the text sent"
 abbrev pub brings : (number bytes : ℕ) (back text : List ℕ) → Bool

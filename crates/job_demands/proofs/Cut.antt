@@ -9,6 +9,7 @@ use native.Mathlib.Omega.{arith}
 use lib.Dec.{eqb}
 use lib.ListN.{length, take}
 use borrow.Author.Tests.{eqb-true, eqb-false}
+use Rattle.paper.specs.Layout.{boxed}
 use Rattle.paper.specs.Table.{sized}
 use Rattle.paper.specs.Name.{linkName}
 use Rattle.paper.specs.Line.{Word}
@@ -53,7 +54,7 @@ pub record FirstFiled (chain : List ℕ) (u : ℕ) (t : List ℕ) (xs : List She
   pub sheets : ℕ
   pub most : sheets ≤ length xs
   pub mended : Filed chain u t (take sheets xs) (mended x)
-  pub answers : (j : ℕ) → length (mendStores x) ≤ j → mending x j ≡ mendedWhole x
+  pub answers : (j : ℕ) → length (mendStores x) ≤ j → mending boxed x j ≡ mendedWhole x
 
 -- a filing line is no DEL's and no DST's
 wrs-no-del : (chain : List ℕ) (x : Sheet) → linkName (x .link) ≡ true → (v : Several) (ws : List Word)
@@ -70,13 +71,13 @@ wrs-no-rewrite chain x l v q =
 
 module _ (chain : List ℕ) (u : ℕ) where
   -- a sound table as it is
-  first-none : (t : List ℕ) (xs : List Sheet) → sized t ≡ true → sound t ≡ true → FirstFiled chain u t xs t
+  first-none : (t : List ℕ) (xs : List Sheet) → sized t ≡ true → sound boxed t ≡ true → FirstFiled chain u t xs t
   first-none t xs s e =
       let z : mended t ≡ t = mended-sound t (sound-right t s e) in
       record { sheets = 0; most = omega arith; mended = rw z none; answers = λ j. mend-whole t j (rw z s) (rw z e) }
 
   -- the sheet at which the job stops: one request, cut or refused
-  first-stop : (t : List ℕ) (k : ℕ) (x : Sheet) (xs : List Sheet) → linkName (x .link) ≡ true → sized t ≡ true → sound t ≡ true
+  first-stop : (t : List ℕ) (k : ℕ) (x : Sheet) (xs : List Sheet) → linkName (x .link) ≡ true → sized t ≡ true → sound boxed t ≡ true
       → FirstFiled chain u t (x ∷ xs) (filed t chain u k x .table)
   unfolding filed
   first-stop t k x xs l s e =
@@ -84,9 +85,9 @@ module _ (chain : List ℕ) (u : ℕ) where
       go (h .answers) (h .lands)
     where
       z : List ℕ
-      z = requested t (wrsLine chain (x .link)) (x .text) [] u k .table
+      z = requested boxed t (wrsLine chain (x .link)) (x .text) [] u k .table
 
-      go : ((j : ℕ) → length (mendStores z) ≤ j → mending z j ≡ mendedWhole z) → Lands t (wrsLine chain (x .link)) (x .text) [] u (mended z)
+      go : ((j : ℕ) → length (mendStores z) ≤ j → mending boxed z j ≡ mendedWhole z) → Lands t (wrsLine chain (x .link)) (x .text) [] u (mended z)
           → FirstFiled chain u t (x ∷ xs) z
       go a (before q) = record { sheets = 0; most = omega arith; mended = rw q none; answers = a }
       go a (after d) =
@@ -101,7 +102,7 @@ module _ (chain : List ℕ) (u : ℕ) where
       record { sheets = suc (f .sheets); most = omega (arith, f .most); mended = more k e (f .mended); answers = f .answers }
 
   -- every filing on a sound table
-  first-filed : (t : List ℕ) (k i made : ℕ) (xs : List Sheet) → Every (λ x. linkName (x .link) ≡ true) xs → sized t ≡ true → sound t ≡ true
+  first-filed : (t : List ℕ) (k i made : ℕ) (xs : List Sheet) → Every (λ x. linkName (x .link) ≡ true) xs → sized t ≡ true → sound boxed t ≡ true
       → FirstFiled chain u t xs (tableOf (filing t chain u k i made xs))
   unfolding filing filed
   first-filed t k i made [] l s e = first-none t [] s e
@@ -109,10 +110,10 @@ module _ (chain : List ℕ) (u : ℕ) where
       go (filed t chain u k x) refl (truth (eqb (filed t chain u k x .answer .number) 0)) (λ t₁ k₁ m. first-filed t₁ k₁ (suc i) m xs (l .1))
     where
       Rest : Type 0
-      Rest = (t₁ : List ℕ) (k₁ m : ℕ) → sized t₁ ≡ true → sound t₁ ≡ true
+      Rest = (t₁ : List ℕ) (k₁ m : ℕ) → sized t₁ ≡ true → sound boxed t₁ ≡ true
           → FirstFiled chain u t₁ xs (tableOf (filing t₁ chain u k₁ (suc i) m xs))
 
-      kept : (o : Outcome) → filed t chain u k x ≡ o → o .answer .number ≡ 0 → (sized (o .table) ≡ true) × (sound (o .table) ≡ true)
+      kept : (o : Outcome) → filed t chain u k x ≡ o → o .answer .number ≡ 0 → (sized (o .table) ≡ true) × (sound boxed (o .table) ≡ true)
       kept o q n = rw (← q) (sound-kept t (wrsLine chain (x .link)) (x .text) [] u k s e (λ y. omega (arith, y, ap (λ (o : Outcome). o .answer .number) q)))
 
       go : (o : Outcome) → filed t chain u k x ≡ o → (eqb (o .answer .number) 0 ≡ true) ⊎ (eqb (o .answer .number) 0 ≡ false) → Rest
@@ -144,7 +145,7 @@ reading-still t chain back u i (x ∷ xs) =
         either (λ y. readTable y ≡ t) (brought x o) _ (R.failed i (o .answer .number) (o .table) (o .reply)) (rw q (r (o .reply))) q
 
 -- "A cut, once mended, leaves the first sheets filed and no half of any": every job on a sound table, at every stop number
-pub job-cut : (t sheets texts back chain : List ℕ) (u k : ℕ) → sized t ≡ true → sound t ≡ true
+pub job-cut : (t sheets texts back chain : List ℕ) (u k : ℕ) → sized t ≡ true → sound boxed t ≡ true
     → FirstFiled chain u t (job sheets texts) (lit t sheets texts back chain u k .table)
 unfolding lit
 job-cut t sheets texts back chain u k s e = go (admission sheets texts back) refl

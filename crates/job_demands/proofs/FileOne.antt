@@ -5,6 +5,7 @@ use mathlib.Core.List.{List, [], _∷_, _++_}
 use mathlib.Core.Path.{_≡_, refl, _∙_, subst}
 use Prim.Native.Nat.{ℕ, _≤_}
 use native.Mathlib.Omega.{arith}
+use Rattle.paper.specs.Layout.{boxed}
 use Rattle.paper.specs.Name.{linkName}
 use Rattle.paper.specs.Declaration.{notGiven}
 use Rattle.paper.specs.Line.{Word}
@@ -37,14 +38,14 @@ pub record OneFiled (t chain : List ℕ) (u : ℕ) (x : Sheet) (f : List ℕ) : 
   pub user : u ≤ 999999
   pub read : (r : Request) × (asked (wrsLine chain (x .link)) (x .text) ≡ request r)
   pub directory : State
-  pub walk : toDirectory t 1 (start u) (prefix chain ++ x .link ∷ []) ≡ reached directory
+  pub walk : toDirectory boxed t 1 (start u) (prefix chain ++ x .link ∷ []) ≡ reached directory
   pub filed : Filed t f (directory .holder) (x .link) (x .text)
 
 -- the plan, all its stores made
 module _ (t chain : List ℕ) (u : ℕ) (x : Sheet) (c : Sound t) (w : Word) (l : u ≤ 999999) (h : WrsRead (x .text) 1 notGiven notGiven w)
     (e : chainOf w ≡ prefix chain ++ x .link ∷ []) (read : (r : Request) × (asked (wrsLine chain (x .link)) (x .text) ≡ request r)) where
   abbrev filing : Planned
-  filing = wrsPlan t u (x .text) 1 notGiven notGiven w
+  filing = wrsPlan boxed t u (x .text) 1 notGiven notGiven w
 
   made : (p : Plan) → Passed filing p → OneFiled t chain u x (run t (p .stores))
   made p v =
@@ -76,12 +77,12 @@ unfolding F.filed granted
 one-filed t chain u k x c l = go (course t (wrsLine chain (x .link)) (x .text) [] u)
   where
     o : Outcome
-    o = requested t (wrsLine chain (x .link)) (x .text) [] u k
+    o = requested boxed t (wrsLine chain (x .link)) (x .text) [] u k
 
-    as-wrs : (r : Request) → Admitted t (wrsLine chain (x .link)) (x .text) u r → o ≡ granted t (x .text) [] u k r → o .answer .number ≡ 0
+    as-wrs : (r : Request) → Admitted t (wrsLine chain (x .link)) (x .text) u r → o ≡ granted boxed t (x .text) [] u k r → o .answer .number ≡ 0
         → (w : Word) → r ≡ wrs 1 notGiven notGiven w → chainOf w ≡ prefix chain ++ x .link ∷ [] → OneFiled t chain u x (o .table)
     as-wrs r h e n w q m =
-        let z : o ≡ granted t (x .text) [] u k (wrs 1 notGiven notGiven w) = e ∙ rw q in
+        let z : o ≡ granted boxed t (x .text) [] u k (wrs 1 notGiven notGiven w) = e ∙ rw q in
         rw z (planned t chain u x c w (h .user) (subst (Told (x .text)) q (h .told)) m (r, h .asked) k (rw z at n))
 
     go : Course t (wrsLine chain (x .link)) (x .text) [] u → o .answer .number ≡ 0 → OneFiled t chain u x (o .table)

@@ -10,6 +10,7 @@ use lib.ListN.{length}
 use borrow.Author.Tests.{ltb-false}
 use Rattle.paper.specs.Scan.{Found, at, nowhere}
 use Rattle.paper.specs.Record.{byte, headingNamed}
+use Rattle.paper.specs.Layout.{boxed}
 use Rattle.paper.specs.Table.{rooms, rec, lay, frees, room}
 use Rattle.paper.specs.Declaration.{notGiven}
 use Rattle.paper.specs.Line.{Word}
@@ -49,7 +50,7 @@ use Rattle.job_demands.proofs.Counted.{filed-alike}
 
 module _ (t text : List ℕ) (w : Word) (d : State) (c : Sound t) (short : length text ≤ 24000) (x : Entered t (d .holder) 0 (lastName (chainOf w))) where
   abbrev sheet : Making
-  sheet = filing t 2 w d 0 (sheetHeading text) text
+  sheet = filing boxed t 2 w d 0 (sheetHeading text) text
 
   abbrev g : List ℕ
   g = run t (sheet .first)
@@ -64,7 +65,7 @@ module _ (t text : List ℕ) (w : Word) (d : State) (c : Sound t) (short : lengt
     made : Made (room t 0) t sheet
     made = filing-made t 2 w d 0 (sheetHeading text) text c new x
 
-    laying : (e h : ℕ) (f : List ℕ) → e < rooms t → (byte (rec t e) 0 ≡ 0) ⊎ (bears (d .holder) (sheet .name) (rec t e) ≡ true)
+    laying : (e h : ℕ) (f : List ℕ) → e < rooms t → (byte (rec t e) 0 ≡ 0) ⊎ (bears boxed (d .holder) (sheet .name) (rec t e) ≡ true)
         → ((m : ℕ) → m ≤ blocks (length text) → room t m ≢ e) → Tidied t h (lay g e (sheet .entry)) f
         → Laying t text (d .holder) (sheet .name) (sheet .entry) e h f
     laying e h f b was apart y =
@@ -85,7 +86,7 @@ module _ (t text : List ℕ) (w : Word) (d : State) (c : Sound t) (short : lengt
         }
 
     -- with the counts corrected once the entry is laid, and then these stores
-    module _ (e h : ℕ) (b : e < rooms t) (was : (byte (rec t e) 0 ≡ 0) ⊎ (bears (d .holder) (sheet .name) (rec t e) ≡ true))
+    module _ (e h : ℕ) (b : e < rooms t) (was : (byte (rec t e) 0 ≡ 0) ⊎ (bears boxed (d .holder) (sheet .name) (rec t e) ≡ true))
         (apart : (m : ℕ) → m ≤ blocks (length text) → room t m ≢ e) (last : List Store) where
       abbrev a : List ℕ
       a = lay g e (sheet .entry)
@@ -133,8 +134,8 @@ module _ (t text : List ℕ) (w : Word) (d : State) (c : Sound t) (short : lengt
             omega (arith, length-file t (sheetHeading text) text)
 
     -- over the entry that bears the name
-    module _ (e : ℕ) (q : borne t sheet ≡ at e) where
-      there : (e < rooms t) × (bears (d .holder) (sheet .name) (rec t e) ≡ true)
+    module _ (e : ℕ) (q : borne boxed t sheet ≡ at e) where
+      there : (e < rooms t) × (bears boxed (d .holder) (sheet .name) (rec t e) ≡ true)
       there = found-bears t (d .holder) (sheet .name) e q
 
       kind : byte (rec t e) 0 ≡ 2
@@ -192,11 +193,11 @@ module _ (t text : List ℕ) (w : Word) (d : State) (c : Sound t) (short : lengt
               (settled-gone t c e (sheet .entry) (there .0) kind laid rooms-laid stays)
 
   -- whichever it is: the check of room passed
-  pub sheet-filed : needed sheet (borne t sheet) ≤ length (frees t) → Sound (run t (placing t sheet (borne t sheet)))
-      → Filed t (run t (placing t sheet (borne t sheet))) (d .holder) (sheet .name) text
-  sheet-filed = go (borne t sheet) refl
+  pub sheet-filed : needed sheet (borne boxed t sheet) ≤ length (frees t) → Sound (run t (placing t sheet (borne boxed t sheet)))
+      → Filed t (run t (placing t sheet (borne boxed t sheet))) (d .holder) (sheet .name) text
+  sheet-filed = go (borne boxed t sheet) refl
     where
-      go : (f : Found) → borne t sheet ≡ f → needed sheet f ≤ length (frees t) → Sound (run t (placing t sheet f))
+      go : (f : Found) → borne boxed t sheet ≡ f → needed sheet f ≤ length (frees t) → Sound (run t (placing t sheet f))
           → Filed t (run t (placing t sheet f)) (d .holder) (sheet .name) text
       go (at e) q l = filed-over l e q
       go nowhere q l = filed-free (omega arith) (omega arith)
@@ -208,10 +209,10 @@ abbrev pub Files : List ℕ → ℕ → List ℕ → Word → Planned → Type 0
 Files t u text w (halted f) = Unit {0}
 Files t u text w (plan p) =
     verdict (p .checks) ≡ passed → Sound (run t (p .stores))
-    → (d : State) × (toDirectory t 1 (start u) (chainOf w) ≡ reached d) × Filed t (run t (p .stores)) (d .holder) (lastName (chainOf w)) text
+    → (d : State) × (toDirectory boxed t 1 (start u) (chainOf w) ≡ reached d) × Filed t (run t (p .stores)) (d .holder) (lastName (chainOf w)) text
 
 pub wrs-files : (t : List ℕ) (u : ℕ) (text : List ℕ) (w : Word) → Sound t → u ≤ 999999 → WrsRead text 1 notGiven notGiven w
-    → Files t u text w (wrsPlan t u text 1 notGiven notGiven w)
+    → Files t u text w (wrsPlan boxed t u text 1 notGiven notGiven w)
 unfolding wrsPlan making
 wrs-files t u text w c m r =
     holder-by (Files t u text w) 2 (λ _ _ _. tt) t u w _ (λ d q v.
@@ -219,5 +220,5 @@ wrs-files t u text w c m r =
     λ s. (d, q, sheet-filed t text w d c (r .text) x (ltb-false _ _ (verdict-idle _ v .1 .1 .1 .0)) s))
 
 pub passed-files : (t : List ℕ) (u : ℕ) (text : List ℕ) (w : Word) (y : Planned) (p : Plan) → Files t u text w y → Passed y p → Sound (run t (p .stores))
-    → (d : State) × (toDirectory t 1 (start u) (chainOf w) ≡ reached d) × Filed t (run t (p .stores)) (d .holder) (lastName (chainOf w)) text
+    → (d : State) × (toDirectory boxed t 1 (start u) (chainOf w) ≡ reached d) × Filed t (run t (p .stores)) (d .holder) (lastName (chainOf w)) text
 passed-files t u text w y p h v = let s : Files t u text w (plan p) = rw (v .plan) at h in s (v .checks)

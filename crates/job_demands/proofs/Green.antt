@@ -5,6 +5,7 @@ use mathlib.Core.Path.{_≡_, refl}
 use Prim.Native.Nat.{ℕ, suc, _≤_, _<_}
 use native.Mathlib.Omega.{arith}
 use lib.ListN.{length}
+use Rattle.paper.specs.Layout.{boxed}
 use Rattle.paper.specs.Answer.{requested}
 use Rattle.paper.specs.Check.{verdict}
 use Rattle.paper.specs.Scan.{joinBelow}
@@ -118,7 +119,7 @@ module _ (t sheets texts back chain : List ℕ) (u k : ℕ) where
   -- any stop number, into any buffer that is long enough
   pub green-reads : lit t sheets texts back chain u k .answer .light ≡ 0 → (i : ℕ) → i < count sheets → (text b : List ℕ) (j : ℕ)
       → length (sheet sheets texts i .text) ≤ length b
-      → requested (lit t sheets texts back chain u k .table) (rdsLine chain (sheet sheets texts i .link)) text b u j
+      → requested boxed (lit t sheets texts back chain u k .table) (rdsLine chain (sheet sheets texts i .link)) text b u j
       ≡ bringing (lit t sheets texts back chain u k .table) (sheet sheets texts i .text) b
   unfolding readBack
   green-reads e i l text b j m =

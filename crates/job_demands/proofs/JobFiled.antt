@@ -7,6 +7,7 @@ use mathlib.Core.Path.{_≡_, sym, _∙_, subst}
 use Prim.Native.Nat.{ℕ, suc, _+_, _-_, _≤_}
 use lib.Dec.{eqb}
 use borrow.Author.Tests.{eqb-true}
+use Rattle.paper.specs.Layout.{boxed}
 use Rattle.paper.specs.Request.{Request, request, asked}
 use Rattle.paper.specs.Walk.{State, start, Walked, reached, stopped, toDirectory}
 use Rattle.paper.specs.Answer.{Outcome}
@@ -24,7 +25,7 @@ use Rattle.job_demands.proofs.Proper.{Proper, Other, Apart}
 
 -- the walk to the directory that a chain names, whatever link follows it
 abbrev pub walk : List ℕ → List ℕ → ℕ → Walked
-walk t chain u = toDirectory t 1 (start u) (prefix chain ++ [] ∷ [])
+walk t chain u = toDirectory boxed t 1 (start u) (prefix chain ++ [] ∷ [])
 
 -- sheet x stands in d, and its line was read
 pub record Standing (t chain : List ℕ) (d : State) (x : Sheet) : Type 0 where

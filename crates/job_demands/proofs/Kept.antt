@@ -8,7 +8,8 @@ use Prim.Native.Nat.{ℕ, _+_, _<_}
 use native.Mathlib.Omega.{arith}
 use lib.ListN.{length}
 use Rattle.paper.specs.Scan.{at}
-use Rattle.paper.specs.Record.{byte, marked, simple, textLength, headingNamed, headingOf, nameOf, held}
+use Rattle.paper.specs.Record.{byte, marked, simple, textLength, headingNamed, headingOf, held}
+use Rattle.paper.specs.Layout.{nameOf, boxed}
 use Rattle.paper.specs.Table.{rooms, rec, textRoom}
 use Rattle.paper.specs.Entry.{Holder, bears, find}
 use Rattle.paper.specs.Block.{blocksOf, fileText}
@@ -29,13 +30,13 @@ pub record Filed (t f : List ℕ) (d : Holder) (n text : List ℕ) : Type 0 wher
   pub long : length f ≡ length t
   pub entry : ℕ
   pub inside : entry < rooms t
-  pub was : (byte (rec t entry) 0 ≡ 0) ⊎ (bears d n (rec t entry) ≡ true)
+  pub was : (byte (rec t entry) 0 ≡ 0) ⊎ (bears boxed d n (rec t entry) ≡ true)
   -- every other entry stays; so does a heading that is still one, but for its counts, and its text
   pub entries : (i : ℕ) → byte (rec t i) 0 ≡ 2 → i ≢ entry → rec f i ≡ rec t i
   pub headings : (h : ℕ) → byte (rec t h) 0 ≡ 1 → byte (rec f h) 0 ≡ 1 → Alike (rec t h) (rec f h)
   pub texts : (i : ℕ) → byte (rec t i) 0 ≡ 3 → byte (rec f (headingOf (rec t i))) 0 ≡ 1 → rec f i ≡ rec t i
   -- the new entry, and the simple file that it names
-  pub bears : bears d n (rec f entry) ≡ true
+  pub bears : bears boxed d n (rec f entry) ≡ true
   pub code : applies f entry ≡ 0
   pub simple : simple (rec f (headingNamed (rec f entry))) ≡ true
   pub unmarked : marked (rec f (headingNamed (rec f entry))) ≡ false
@@ -44,7 +45,7 @@ pub record Filed (t f : List ℕ) (d : Holder) (n text : List ℕ) : Type 0 wher
 -- under the name n in d stands a simple file with this text, which nothing inhibits and no mark is on
 pub record Stood (t : List ℕ) (d : Holder) (n text : List ℕ) : Type 0 where
   pub entry : ℕ
-  pub found : find t d n ≡ at entry
+  pub found : find boxed t d n ≡ at entry
   pub code : applies t entry ≡ 0
   pub simple : simple (rec t (headingNamed (rec t entry))) ≡ true
   pub unmarked : marked (rec t (headingNamed (rec t entry))) ≡ false
@@ -62,24 +63,24 @@ module _ (x r : List ℕ) (a : Alike x r) where
   alike-length = number-cong 2 r x 10 10 (λ i l. alike-byte x r a (10 + i) (omega arith))
 
 -- no name stands twice in one place, so an entry that bears it is the one found
-pub found-by : (o : ℕ) (t : List ℕ) (d : Holder) (n : List ℕ) (e : ℕ) → SoundBut o t → e < rooms t → bears d n (rec t e) ≡ true → find t d n ≡ at e
+pub found-by : (o : ℕ) (t : List ℕ) (d : Holder) (n : List ℕ) (e : ℕ) → SoundBut o t → e < rooms t → bears boxed d n (rec t e) ≡ true → find boxed t d n ≡ at e
 unfolding find
 found-by o t d n e c l b =
-    first-here (λ i. bears d n (rec t i)) (rooms t) e l b
-    (any-none (λ i. bears d n (rec t i)) e (λ j m. false-by (bears d n (rec t j)) (λ x.
+    first-here (λ i. bears boxed d n (rec t i)) (rooms t) e l b
+    (any-none (λ i. bears boxed d n (rec t i)) e (λ j m. false-by (bears boxed d n (rec t j)) (λ x.
     let q : e ≡ j = c .apart e j l (omega arith) (bears-stands d n (rec t e) b .kind) (bears-both d n (rec t e) (rec t j) b x) in
     omega arith)))
 
 module _ (t f : List ℕ) (d : Holder) (n text : List ℕ) (c : Sound t) (s : Sound f) (x : Filed t f d n text) where
   -- what was filed is found, and stands
-  pub found-new : find f d n ≡ at (x .entry)
+  pub found-new : find boxed f d n ≡ at (x .entry)
   found-new = found-by 65535 f d n (x .entry) s (rw (x .long) (x .inside)) (x .bears)
 
   pub stood : Stood f d n text
   stood = record { entry = x .entry; found = found-new; code = x .code; simple = x .simple; unmarked = x .unmarked; reads = x .reads }
 
   -- an entry found under another name, or elsewhere, is another
-  pub other-entry : (h : Holder) (m : List ℕ) (e : ℕ) → find t h m ≡ at e → e ≢ x .entry → find f h m ≡ at e
+  pub other-entry : (h : Holder) (m : List ℕ) (e : ℕ) → find boxed t h m ≡ at e → e ≢ x .entry → find boxed f h m ≡ at e
   other-entry h m e q a =
       let g = found-bears t h m e q in
       found-by 65535 f h m e s (rw (x .long) (g .0)) (rw (x .entries e (bears-stands h m (rec t e) (g .1) .kind) a) (g .1))
@@ -137,15 +138,15 @@ module _ (t f : List ℕ) (d : Holder) (n text : List ℕ) (c : Sound t) (s : So
             (same-text (headingNamed (rec t (z .entry))) (c .targets (z .entry) (g .0) k) alike ∙ z .reads);
       }
     where
-      g : (z .entry < rooms t) × (bears d m (rec t (z .entry)) ≡ true)
+      g : (z .entry < rooms t) × (bears boxed d m (rec t (z .entry)) ≡ true)
       g = found-bears t d m (z .entry) (z .found)
 
       k : byte (rec t (z .entry)) 0 ≡ 2
       k = bears-stands d m (rec t (z .entry)) (g .1) .kind
 
-      go : z .entry ≡ x .entry → (byte (rec t (x .entry)) 0 ≡ 0) ⊎ (bears d n (rec t (x .entry)) ≡ true) → ⊥
+      go : z .entry ≡ x .entry → (byte (rec t (x .entry)) 0 ≡ 0) ⊎ (bears boxed d n (rec t (x .entry)) ≡ true) → ⊥
       go e (inl o) = let w : byte (rec t (z .entry)) 0 ≡ 0 = rw e o in omega (arith, k)
-      go e (inr o) = a (bears-name d m (rec t (z .entry)) (g .1) ∙ ap (λ (i : ℕ). nameOf (rec t i)) e ∙ sym (bears-name d n (rec t (x .entry)) o))
+      go e (inr o) = a (bears-name d m (rec t (z .entry)) (g .1) ∙ ap (λ (i : ℕ). nameOf boxed (rec t i)) e ∙ sym (bears-name d n (rec t (x .entry)) o))
 
       apart : z .entry ≢ x .entry
       apart e = go e (x .was)

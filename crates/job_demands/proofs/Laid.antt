@@ -10,7 +10,8 @@ use native.Mathlib.Decide.{ℕ-discrete}
 use lib.ListN.{length}
 use lib.Dec.{eqb}
 use borrow.Author.Tests.{eq-eqb, ne-eqb}
-use Rattle.paper.specs.Record.{byte, isKind, headingType, entryCode, headingNamed, headingOf, nameOf, held, blank, headingRecord}
+use Rattle.paper.specs.Record.{byte, isKind, headingType, entryCode, headingNamed, headingOf, held, blank, headingRecord}
+use Rattle.paper.specs.Layout.{nameOf, boxed}
 use Rattle.paper.specs.Table.{rooms, rec, lay, room, textRoom}
 use Rattle.paper.specs.Entry.{Holder, holder, bears}
 use Rattle.paper.specs.Block.{blocks, block, blocksOf, fileText}
@@ -45,10 +46,10 @@ pub record Laying (t text : List ℕ) (d : Holder) (n r : List ℕ) (e h : ℕ) 
   pub kind : byte r 0 ≡ 2
   pub code : entryCode r ≡ 0
   pub place : holder r ≡ d
-  pub name : nameOf r ≡ n
+  pub name : nameOf boxed r ≡ n
   pub names : headingNamed r ≡ room t 0
   pub inside : e < rooms t
-  pub was : (byte (rec t e) 0 ≡ 0) ⊎ (bears d n (rec t e) ≡ true)
+  pub was : (byte (rec t e) 0 ≡ 0) ⊎ (bears boxed d n (rec t e) ≡ true)
   pub apart : (m : ℕ) → m ≤ blocks (length text) → room t m ≢ e
   pub tidied : Tidied t h (lay (filed t (sheetHeading text) text) e r) f
 
@@ -76,7 +77,7 @@ module _ (t text : List ℕ) (d : Holder) (n r : List ℕ) (e h : ℕ) (f : List
   no-file : (i k : ℕ) → byte (rec t i) 0 ≡ k → k ≢ 0 → k ≢ 2 → i ≢ e
   no-file i k q x z w = go (y .was)
     where
-      go : (byte (rec t e) 0 ≡ 0) ⊎ (bears d n (rec t e) ≡ true) → ⊥
+      go : (byte (rec t e) 0 ≡ 0) ⊎ (bears boxed d n (rec t e) ≡ true) → ⊥
       go (inl o) = x (sym q ∙ ap (λ (j : ℕ). byte (rec t j) 0) w ∙ o)
       go (inr o) = z (sym q ∙ ap (λ (j : ℕ). byte (rec t j) 0) w ∙ bears-stands d n (rec t e) o .kind)
 

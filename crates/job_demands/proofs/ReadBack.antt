@@ -8,6 +8,7 @@ use Prim.Native.Nat.{ℕ, suc, _≤_}
 use native.Mathlib.Omega.{arith}
 use lib.ListN.{length, drop, length-append, length-drop}
 use lib.Seq.{take-append-seam}
+use Rattle.paper.specs.Layout.{boxed}
 use Rattle.paper.specs.Table.{sized}
 use Rattle.paper.specs.Name.{linkName}
 use Rattle.paper.specs.Line.{Word}
@@ -154,7 +155,7 @@ filed-brings m (x ∷ xs) t chain u k i made f n c a p e =
     each-brings f chain u m (h .0) (h .1 .sound) (h .1 .user) (x ∷ xs) (h .1 .walk) p (h .1 .sheets)
 
 -- a job that is filed whole: whatever reading of a sheet answers 0 has brought its text
-pub zero-brings : (t sheets texts back chain : List ℕ) (u k : ℕ) (f : List ℕ) (n : ℕ) → sized t ≡ true → sound t ≡ true
+pub zero-brings : (t sheets texts back chain : List ℕ) (u k : ℕ) (f : List ℕ) (n : ℕ) → sized t ≡ true → sound boxed t ≡ true
     → admission sheets texts back ≡ passed → filing t chain u k 1 0 (job sheets texts) ≡ F.whole f n
     → Every (Brings f chain u (length back)) (job sheets texts)
 zero-brings t sheets texts back chain u k f n z e q =
@@ -167,7 +168,7 @@ zero-brings t sheets texts back chain u k f n z e q =
 abbrev pub RedReading : Lit → Type 0
 RedReading o = o .answer .light ≡ 1 → o .answer .phase ≡ 2 → (o .answer .sheet ≡ 1) × (o .answer .number ≡ 12)
 
-pub red-reading : (t sheets texts back chain : List ℕ) (u k : ℕ) → sized t ≡ true → sound t ≡ true → RedReading (lit t sheets texts back chain u k)
+pub red-reading : (t sheets texts back chain : List ℕ) (u k : ℕ) → sized t ≡ true → sound boxed t ≡ true → RedReading (lit t sheets texts back chain u k)
 unfolding lit
 red-reading t sheets texts back chain u k z e = go (admission sheets texts back) refl
   where

@@ -6,6 +6,7 @@ use Prim.Native.Nat.{ℕ, _≤_}
 use native.Mathlib.Omega.{arith}
 use lib.ListN.{length, drop}
 use borrow.Author.Tests.{le-ltb, le-leb}
+use Rattle.paper.specs.Layout.{boxed}
 use Rattle.paper.specs.Declaration.{notGiven}
 use Rattle.paper.specs.Line.{Word}
 use Rattle.paper.specs.Check.{atLink, refusalAt, verdict}
@@ -22,7 +23,7 @@ use Rattle.job_demands.proofs.Walks.{last-of}
 
 -- what was read is tried on a sound table
 pub sound-admits : (t line text reply : List ℕ) (u k : ℕ) (r : Request) → Right t → u ≤ 999999 → asked line text ≡ request r
-    → requested t line text reply u k ≡ granted t text reply u k r
+    → requested boxed t line text reply u k ≡ granted boxed t text reply u k r
 sound-admits t line text reply u k r c = let z = right-sound t c in admits t line text reply u k r (z .0) (z .1)
 
 -- the text is written to the front of the buffer, and the table stays
@@ -33,8 +34,8 @@ pub record Wrote (t buffer text : List ℕ) (o : Outcome) : Type 0 where
   pub reply : o .reply ≡ text ++ drop (length text) buffer
 
 module _ (t reply : List ℕ) (u k : ℕ) (w : Word) (pre : List (List ℕ)) (n : List ℕ) (e : chainOf w ≡ pre ++ n ∷ []) where
-  pub rds-writes : (text : List ℕ) (d : State) → toDirectory t 1 (start u) (pre ++ n ∷ []) ≡ reached d → Stood t (d .holder) n text
-      → length text ≤ length reply → Wrote t reply text (single t reply k (ran k (rdsPlan t u reply w notGiven notGiven)))
+  pub rds-writes : (text : List ℕ) (d : State) → toDirectory boxed t 1 (start u) (pre ++ n ∷ []) ≡ reached d → Stood t (d .holder) n text
+      → length text ≤ length reply → Wrote t reply text (single t reply k (ran k (rdsPlan boxed t u reply w notGiven notGiven)))
   unfolding rdsPlan ended look verdict run
   rds-writes text d q s l =
       rw (
@@ -54,7 +55,7 @@ module _ (t reply : List ℕ) (u k : ℕ) (w : Word) (pre : List (List ℕ)) (n 
       (record { number = refl; bytes = refl; table = refl; reply = refl })
 
   -- the walk stops: so does the reading, with its number
-  pub rds-stops : (number link : ℕ) → toDirectory t 1 (start u) (pre ++ n ∷ []) ≡ stopped number link
-      → single t reply k (ran k (rdsPlan t u reply w notGiven notGiven)) ≡ refusing t reply (refusalAt number (atLink 1 link))
+  pub rds-stops : (number link : ℕ) → toDirectory boxed t 1 (start u) (pre ++ n ∷ []) ≡ stopped number link
+      → single t reply k (ran k (rdsPlan boxed t u reply w notGiven notGiven)) ≡ refusing t reply (refusalAt number (atLink 1 link))
   unfolding rdsPlan ended
   rds-stops number link q = rw (e, q)

@@ -5,6 +5,7 @@ use mathlib.Core.Path.{_≡_, refl}
 use Prim.Native.Nat.{ℕ, _+_, _-_, _≤_}
 use native.Mathlib.Omega.{arith}
 use lib.ListN.{length}
+use Rattle.paper.specs.Layout.{boxed}
 use Rattle.paper.specs.Line.{Word}
 use Rattle.paper.specs.Store.{Store, run}
 use Rattle.paper.specs.Effect.{Planned}
@@ -42,10 +43,10 @@ still-deleting one (w ∷ ws) t u reply n made = go (λ n₁ made₁. still-dele
         (λ f _. refl) (λ p _ l. done-by (p .stores) l r) (λ p _ _. refl)
 
 -- a request with stop number 0 leaves the table as lent, whatever it is
-pub still : (t line text reply : List ℕ) (u : ℕ) → requested t line text reply u 0 .table ≡ t
+pub still : (t line text reply : List ℕ) (u : ℕ) → requested boxed t line text reply u 0 .table ≡ t
 still t line text reply u = go (came t line text reply u)
   where
-    go : Came t line text reply u → requested t line text reply u 0 .table ≡ t
+    go : Came t line text reply u → requested boxed t line text reply u 0 .table ≡ t
     go (lent f h e) = rw (e 0)
     go (planned r q d p h e) = rw (e 0) (still-single t reply p)
     go (deletes s ws q _ e) = rw (e 0) (still-deleting (planOf s) ws t u reply 0 0)

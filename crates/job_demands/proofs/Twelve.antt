@@ -4,7 +4,8 @@ use mathlib.Core.List.{List, [], _∷_, _++_}
 use mathlib.Core.Path.{_≡_, refl}
 use Prim.Native.Nat.{ℕ}
 use lib.ListN.{take, replicate}
-use Rattle.paper.specs.Record.{blank, headingRecord, entryRecord}
+use Rattle.paper.specs.Record.{blank, headingRecord}
+use Rattle.paper.specs.Layout.{entryRecord, boxed}
 use Rattle.paper.proofs.Cases.{hold}
 use Rattle.job.specs.Sheet.{unpadded, linkOf, formed, start, sheet, job}
 use Rattle.job.specs.Refusal.{each, admission}
@@ -14,7 +15,9 @@ use Rattle.job.specs.Lamp.{red, lit}
 
 -- `CRD .R`, `DUP .R .R:A`: a directory, named by two entries and with one, its base entry of user 1, and its own entry A; and one free record
 abbrev looped : List ℕ
-looped = take 12 (headingRecord 0 0 0 1 0) ++ 2 ∷ 0 ∷ 1 ∷ replicate 17 0 ++ entryRecord 0 65535 0 1 (46 ∷ 82 ∷ []) ++ entryRecord 0 0 0 0 (65 ∷ []) ++ blank
+looped =
+    take 12 (headingRecord 0 0 0 1 0) ++ 2 ∷ 0 ∷ 1 ∷ replicate 17 0
+    ++ entryRecord boxed 0 65535 0 1 (46 ∷ 82 ∷ []) ++ entryRecord boxed 0 0 0 0 (65 ∷ []) ++ blank
 
 -- one sheet, A, without text
 abbrev sheetA : List ℕ

@@ -10,7 +10,8 @@ use native.Mathlib.Decide.{ℕ-discrete}
 use lib.ListN.{length, length-append}
 use lib.Seq.{getD-append-seam}
 use Rattle.paper.specs.Scan.{at}
-use Rattle.paper.specs.Record.{byte, directory, simple, nameOf}
+use Rattle.paper.specs.Record.{byte, directory, simple}
+use Rattle.paper.specs.Layout.{nameOf, boxed}
 use Rattle.paper.specs.Table.{rec}
 use Rattle.paper.specs.Entry.{Holder, holder, bears, find}
 use Rattle.paper.specs.Walk.{State, applies, file, Step, on, off, look, enter, then, follow, Walked, reached, stopped, linked, toDirectory, lastName}
@@ -25,14 +26,14 @@ use Rattle.job_demands.proofs.Kept.{Filed, found-new, other-entry, same
 -- ---- the last name is not looked at
 
 pub walk-last : (t : List ℕ) (k : ℕ) (s : State) (pre : List (List ℕ)) (m n : List ℕ)
-    → toDirectory t k s (pre ++ m ∷ []) ≡ toDirectory t k s (pre ++ n ∷ [])
+    → toDirectory boxed t k s (pre ++ m ∷ []) ≡ toDirectory boxed t k s (pre ++ n ∷ [])
 unfolding toDirectory
 walk-last t k s [] m n = refl
 walk-last t k s (a ∷ []) m n = refl
-walk-last t k s (a ∷ b ∷ pre) m n = go (follow t s a) (λ x. walk-last t (suc k) x (b ∷ pre) m n)
+walk-last t k s (a ∷ b ∷ pre) m n = go (follow boxed t s a) (λ x. walk-last t (suc k) x (b ∷ pre) m n)
   where
-    go : (x : Step) → ((d : State) → toDirectory t (suc k) d (b ∷ pre ++ m ∷ []) ≡ toDirectory t (suc k) d (b ∷ pre ++ n ∷ []))
-        → linked k x (λ d. toDirectory t (suc k) d (b ∷ pre ++ m ∷ [])) ≡ linked k x (λ d. toDirectory t (suc k) d (b ∷ pre ++ n ∷ []))
+    go : (x : Step) → ((d : State) → toDirectory boxed t (suc k) d (b ∷ pre ++ m ∷ []) ≡ toDirectory boxed t (suc k) d (b ∷ pre ++ n ∷ []))
+        → linked k x (λ d. toDirectory boxed t (suc k) d (b ∷ pre ++ m ∷ [])) ≡ linked k x (λ d. toDirectory boxed t (suc k) d (b ∷ pre ++ n ∷ []))
     go (on d) h = h d
     go (off number) h = refl
 
@@ -57,7 +58,8 @@ abbrev pub Meets : Walked → Walked → Type 0
 Meets a b = (b ≡ a) ⊎ ((link : ℕ) × (b ≡ stopped 12 link))
 
 module _ (t f : List ℕ) (d : Holder) (n text : List ℕ) (c : Sound t) (s : Sound f) (x : Filed t f d n text) where
-  look-same : (a : State) (m : List ℕ) (e : ℕ) → find t (a .holder) m ≡ at e → e ≢ x .entry → applies f e ≡ applies t e → look f a m ≡ look t a m
+  look-same : (a : State) (m : List ℕ) (e : ℕ) → find boxed t (a .holder) m ≡ at e → e ≢ x .entry → applies f e ≡ applies t e
+      → look boxed f a m ≡ look boxed t a m
   unfolding look
   look-same a m e q z r = rw (other-entry t f d n text c s x (a .holder) m e q z, q, r)
 
@@ -67,31 +69,31 @@ module _ (t f : List ℕ) (d : Holder) (n text : List ℕ) (c : Sound t) (s : So
 
   -- the entry filed is met under its own name alone
   met : (a : State) (m : List ℕ) (y : State) → Looked t a m y → y .entry ≡ x .entry
-      → (byte (rec t (x .entry)) 0 ≡ 0) ⊎ (bears d n (rec t (x .entry)) ≡ true) → then (look f a m) (enter f) ≡ off 12
+      → (byte (rec t (x .entry)) 0 ≡ 0) ⊎ (bears boxed d n (rec t (x .entry)) ≡ true) → then (look boxed f a m) (enter f) ≡ off 12
   unfolding look
   met a m y l z (inl o) = let w : byte (rec t (y .entry)) 0 ≡ 0 = rw z o in let v : ⊥ = omega (arith, l .stands .kind) in absurd v
   met a m y l z (inr o) =
       let h : a .holder ≡ d =
       sym (stands-holder (a .holder) (rec t (y .entry)) (l .stands)) ∙ ap (λ (i : ℕ). holder (rec t i)) z
       ∙ stands-holder d (rec t (x .entry)) (bears-stands d n (rec t (x .entry)) o) in
-      let e : m ≡ n = l .name ∙ ap (λ (i : ℕ). nameOf (rec t i)) z ∙ sym (bears-name d n (rec t (x .entry)) o) in
-      let g : find f (a .holder) m ≡ at (x .entry) =
-      ap (λ (i : Holder). find f i m) h ∙ ap (find f d) e ∙ found-new t f d n text c s x in
+      let e : m ≡ n = l .name ∙ ap (λ (i : ℕ). nameOf boxed (rec t i)) z ∙ sym (bears-name d n (rec t (x .entry)) o) in
+      let g : find boxed f (a .holder) m ≡ at (x .entry) =
+      ap (λ (i : Holder). find boxed f i m) h ∙ ap (find boxed f d) e ∙ found-new t f d n text c s x in
       rw g (simple-stops f (record { holder = a .holder; entry = x .entry; code = applies f (x .entry) }) (x .simple))
 
-  follow-kept : (a : State) (m : List ℕ) (b : State) → follow t a m ≡ on b → (follow f a m ≡ on b) ⊎ (follow f a m ≡ off 12)
+  follow-kept : (a : State) (m : List ℕ) (b : State) → follow boxed t a m ≡ on b → (follow boxed f a m ≡ on b) ⊎ (follow boxed f a m ≡ off 12)
   unfolding follow
-  follow-kept a m b q = go (look t a m) refl q
+  follow-kept a m b q = go (look boxed t a m) refl q
     where
-      other : (y : State) → look t a m ≡ on y → Looked t a m y → y .entry ≢ x .entry → then (look f a m) (enter f) ≡ enter t y
+      other : (y : State) → look boxed t a m ≡ on y → Looked t a m y → y .entry ≢ x .entry → then (look boxed f a m) (enter f) ≡ enter t y
       other y p l z =
           let k = l .stands .kind in
-          let lf : look f a m ≡ on y =
+          let lf : look boxed f a m ≡ on y =
           look-same a m (y .entry) (l .first) z (same-code t f d n text c s x (y .entry) (l .within) k z) ∙ p in
           rw lf (enter-same y (x .entries (y .entry) k z) (same-heading t f d n text c s x (y .entry) (l .within) k z))
 
-      go : (y : Step) → look t a m ≡ y → then y (enter t) ≡ on b
-          → (then (look f a m) (enter f) ≡ on b) ⊎ (then (look f a m) (enter f) ≡ off 12)
+      go : (y : Step) → look boxed t a m ≡ y → then y (enter t) ≡ on b
+          → (then (look boxed f a m) (enter f) ≡ on b) ⊎ (then (look boxed f a m) (enter f) ≡ off 12)
       go (off number) p r = clash (cc)
       go (on y) p r =
           let l = look-on t a m y p in
@@ -101,20 +103,20 @@ module _ (t f : List ℕ) (d : Holder) (n text : List ℕ) (c : Sound t) (s : So
 
   -- ---- the walk
 
-  pub walk-kept : (k : ℕ) (a : State) (ns : List (List ℕ)) (b : State) → toDirectory t k a ns ≡ reached b
-      → Meets (reached b) (toDirectory f k a ns)
+  pub walk-kept : (k : ℕ) (a : State) (ns : List (List ℕ)) (b : State) → toDirectory boxed t k a ns ≡ reached b
+      → Meets (reached b) (toDirectory boxed f k a ns)
   unfolding toDirectory
   walk-kept k a [] b q = inl q
   walk-kept k a (m ∷ []) b q = inl q
-  walk-kept k a (m ∷ o ∷ ns) b q = go (follow t a m) refl q (λ y. walk-kept (suc k) y (o ∷ ns) b)
+  walk-kept k a (m ∷ o ∷ ns) b q = go (follow boxed t a m) refl q (λ y. walk-kept (suc k) y (o ∷ ns) b)
     where
-      again : (y : State) → (follow f a m ≡ on y) ⊎ (follow f a m ≡ off 12) → Meets (reached b) (toDirectory f (suc k) y (o ∷ ns))
-          → Meets (reached b) (linked k (follow f a m) (λ z. toDirectory f (suc k) z (o ∷ ns)))
+      again : (y : State) → (follow boxed f a m ≡ on y) ⊎ (follow boxed f a m ≡ off 12) → Meets (reached b) (toDirectory boxed f (suc k) y (o ∷ ns))
+          → Meets (reached b) (linked k (follow boxed f a m) (λ z. toDirectory boxed f (suc k) z (o ∷ ns)))
       again y (inl p) h = rw p h
       again y (inr p) h = inr (k, rw p)
 
-      go : (y : Step) → follow t a m ≡ y → linked k y (λ z. toDirectory t (suc k) z (o ∷ ns)) ≡ reached b
-          → ((z : State) → toDirectory t (suc k) z (o ∷ ns) ≡ reached b → Meets (reached b) (toDirectory f (suc k) z (o ∷ ns)))
-          → Meets (reached b) (linked k (follow f a m) (λ z. toDirectory f (suc k) z (o ∷ ns)))
+      go : (y : Step) → follow boxed t a m ≡ y → linked k y (λ z. toDirectory boxed t (suc k) z (o ∷ ns)) ≡ reached b
+          → ((z : State) → toDirectory boxed t (suc k) z (o ∷ ns) ≡ reached b → Meets (reached b) (toDirectory boxed f (suc k) z (o ∷ ns)))
+          → Meets (reached b) (linked k (follow boxed f a m) (λ z. toDirectory boxed f (suc k) z (o ∷ ns)))
       go (off number) p r h = clash (cc)
       go (on y) p r h = again y (follow-kept a m y p) (h y r)

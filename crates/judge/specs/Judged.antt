@@ -2,16 +2,17 @@
 use mathlib.Core.Bool.{Bool, cond}
 use mathlib.Core.List.{List}
 use Prim.Native.Nat.{ℕ}
+use Rattle.paper.specs.Layout.{boxed}
 use Rattle.paper.specs.Table.{sized}
 use Rattle.paper.specs.Sound.{shaped, sound}
 use Rattle.judge_laws.specs.Counts.{soundBut}
 
 unfoldable pub judged : List ℕ → ℕ
-judged t = cond (sized t) (cond (sound t) 0 2) 1
+judged t = cond (sized t) (cond (sound boxed t) 0 2) 1
 
 -- the same of all but the counts
 unfoldable pub judgedShape : List ℕ → ℕ
-judgedShape t = cond (sized t) (cond (shaped t) 0 2) 1
+judgedShape t = cond (sized t) (cond (shaped boxed t) 0 2) 1
 
 -- the counts judged or not
 unfoldable pub judgedBut : Bool → List ℕ → ℕ

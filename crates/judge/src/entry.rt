@@ -1,28 +1,30 @@
 // An entry: what it shows by itself and by the records it names, and what is counted of it.
 use crate::heading::is_directory;
 use crate::heading::is_heading;
+use crate::name::is_laid;
 use crate::name::is_legal_base;
 use crate::name::is_link;
-use crate::read::byte_of;
+use crate::read::name_of;
 use crate::read::raw_of;
 use crate::read::three_of;
 use crate::read::two_of;
 use crate::twins::Walked;
 use crate::twins::chain_turn;
-use crate::zeros::are_twelve_zeros;
 use records::bytes::Room;
 use records::code::Code;
 use records::entry::Entry;
 use records::entry::Holder;
 ghost use mathlib.Core.Path.{_≡_};
 ghost use mathlib.Core.Bool.{true, false};
-ghost use Prim.Native.Nat.{_+_, _<_, _≤_, _%_};
+ghost use Prim.Native.Nat.{_+_, _<_, _≤_, _%_, _^_};
 ghost use lib.ListN.{length};
-ghost use Rattle.paper.specs.Record.{isKind, directory, headingNamed, holderOf, userOf, nameLength};
+ghost use Rattle.paper.specs.Record.{isKind, directory, headingNamed, holderOf, userOf};
+ghost use Rattle.paper.specs.Layout.{packedName, boxed};
 ghost use Rattle.paper.specs.Sound.{isBase, noneCrowded, shaped};
 ghost use Rattle.paper.specs.Table.{rooms, rec};
 ghost use Rattle.judge_laws.specs.Mask.{without};
-ghost use Rattle.judge_laws.specs.Shapes.{baseRight, entryRight, Classed};
+ghost use Rattle.judge_laws.specs.Codes.{Classed};
+ghost use Rattle.judge_laws.specs.Shapes.{baseRight, entryRight};
 ghost use Rattle.judge_laws.specs.Pass.{Held, Found, Entries};
 ghost use Rattle.records.specs.Numbered.{naming, Numbered};
 
@@ -37,16 +39,16 @@ pub(crate) fn is_entry(t: &[u8], gone: &[u8; Room::MOST], i: usize) -> bool
     gone[i] == 0
 }
 
-// Whether the entry i of a base file, its name n bytes, has a fit user and a legal base name.
-fn is_base_right(t: &[u8], i: usize, n: usize) -> bool
-    requires { ⌜ (i < rooms (now t)) × (n ≡ nameLength (rec (now t) i)) × (n ≤ 10) ⌝ }
+// Whether the entry i of a base file has a fit user and a legal base name.
+fn is_base_right(t: &[u8], i: usize) -> bool
+    requires { ⌜ (i < rooms (now t)) × (packedName (rec (now t) i) < 2 ^ 60) ⌝ }
     ensures { λ r. ⌜ r ≡ baseRight (rec (now (t .entry)) i) ⌝ }
 {
     let last = Holder::LAST_USER as usize;
     if last < three_of(t, i, Entry::USER) {
         return false;
     }
-    is_legal_base(t, i, n)
+    is_legal_base(name_of(t, i))
 }
 
 // Whether record d is a directory's heading that stays: what holds an entry was found to be one.
@@ -67,7 +69,7 @@ fn is_holder(t: &[u8], gone: &[u8; Room::MOST], held: &[u8; Room::MOST], d: usiz
 fn is_entry_right(
     t: &[u8],
     gone: &[u8; Room::MOST],
-    class: &[u8; 256],
+    class: &[u8; 64],
     held: &[u8; Room::MOST],
     i: usize,
 ) -> bool
@@ -78,22 +80,18 @@ fn is_entry_right(
     if Code::ALL < raw_of(t, i, Entry::CODE) {
         return false;
     }
-    let n = byte_of(t, i, Entry::NAME_LENGTH);
-    if Entry::MOST_NAME < n {
-        return false;
-    }
-    if !are_twelve_zeros(t, i, Entry::REST) {
+    if !is_laid(t, i) {
         return false;
     }
     if !is_heading(t, gone, two_of(t, i, Entry::HEADING)) {
         return false;
     }
-    if !is_link(class, t, i, n) {
+    if !is_link(class, name_of(t, i)) {
         return false;
     }
     let holder = two_of(t, i, Entry::HOLDER);
     if holder == Holder::BASE {
-        return is_base_right(t, i, n);
+        return is_base_right(t, i);
     }
     if !is_holder(t, gone, held, holder) {
         return false;
@@ -135,7 +133,7 @@ fn hold_turn(t: &[u8], gone: &[u8; Room::MOST], held: &mut [u8; Room::MOST], i: 
 pub(crate) fn entry_turn(
     t: &[u8],
     gone: &[u8; Room::MOST],
-    class: &[u8; 256],
+    class: &[u8; 64],
     named: &mut [u16; Room::MOST],
     held: &mut [u8; Room::MOST],
     head: &mut [u16; Room::MOST],
@@ -146,7 +144,7 @@ pub(crate) fn entry_turn(
     requires { ⌜ (i < rooms (now t)) × (length (now t) % 32 ≡ 0) × (length (now t) ≤ 65536) × (isKind 2 (rec (without (now gone) (now t)) i) ≡ true)
         × Classed (now class) × Entries (without (now gone) (now t)) (now named) (now held) (now head) (now next) left i
         × Found (now gone) (now t) (now held) ⌝ }
-    ensures { λ r. ⌜ (r .right ≡ false → shaped (without (now (gone .entry)) (now (t .entry))) ≡ false)
+    ensures { λ r. ⌜ (r .right ≡ false → shaped boxed (without (now (gone .entry)) (now (t .entry))) ≡ false)
         × (r .right ≡ true → (entryRight (without (now (gone .entry)) (now (t .entry))) (rec (now (t .entry)) i) ≡ true)
         × Entries (without (now (gone .entry)) (now (t .entry))) (now (named .exit)) (now (held .exit)) (now (head .exit)) (now (next .exit)) (r .left)
         (i + 1)) ⌝ }

@@ -17,6 +17,7 @@ ghost use mathlib.Core.Path.{_≡_};
 ghost use mathlib.Core.Bool.{true, false, cond};
 ghost use Prim.Native.Nat.{_+_, _<_, _≤_, _%_};
 ghost use lib.ListN.{length};
+ghost use Rattle.paper.specs.Layout.{boxed};
 ghost use Rattle.paper.specs.Sound.{isBase, shaped};
 ghost use Rattle.paper.specs.Table.{rooms, rec};
 ghost use Rattle.judge_laws.specs.Mask.{without};
@@ -24,7 +25,7 @@ ghost use Rattle.judge_laws.specs.Counts.{headed, allHeaded};
 ghost use Rattle.judge_laws.specs.Places.{Laid};
 ghost use Rattle.judge_laws.specs.Pass.{Passed};
 ghost use Rattle.records.specs.Numbered.{naming, holding, Numbered};
-ghost use Rattle.judge_laws.specs.Shapes.{Classed};
+ghost use Rattle.judge_laws.specs.Codes.{Classed};
 
 // What was passed: whether all of it is right, how many text records, how many entries of base files, and the steps left for the chains.
 pub(crate) struct Tally {
@@ -49,7 +50,7 @@ fn base_of(t: &[u8], i: usize) -> usize
 fn turn(
     t: &[u8],
     gone: &[u8; Room::MOST],
-    class: &[u8; 256],
+    class: &[u8; 64],
     start: &[u16; Room::MOST],
     mark: &mut [u8; Room::MOST],
     named: &mut [u16; Room::MOST],
@@ -62,7 +63,7 @@ fn turn(
     requires { ⌜ (i < rooms (now t)) × (length (now t) % 32 ≡ 0) × (length (now t) ≤ 65536) × Classed (now class)
         × Laid (without (now gone) (now t)) (now start)
         × Passed (now gone) (now t) (now mark) (now named) (now held) (now head) (now next) (s .texts) (s .bases) (s .left) i ⌝ }
-    ensures { λ r. ⌜ (r .right ≡ false → shaped (without (now (gone .entry)) (now (t .entry))) ≡ false)
+    ensures { λ r. ⌜ (r .right ≡ false → shaped boxed (without (now (gone .entry)) (now (t .entry))) ≡ false)
         × (r .right ≡ true → Passed (now (gone .entry)) (now (t .entry)) (now (mark .exit)) (now (named .exit)) (now (held .exit)) (now (head .exit))
         (now (next .exit)) (r .texts) (r .bases) (r .left) (i + 1)) ⌝ }
 {
@@ -123,7 +124,7 @@ fn turn(
 pub(crate) fn pass_all(
     t: &[u8],
     gone: &[u8; Room::MOST],
-    class: &[u8; 256],
+    class: &[u8; 64],
     start: &[u16; Room::MOST],
     mark: &mut [u8; Room::MOST],
     named: &mut [u16; Room::MOST],
@@ -133,7 +134,7 @@ pub(crate) fn pass_all(
 ) -> Tally
     requires { ⌜ (length (now t) % 32 ≡ 0) × (length (now t) ≤ 65536) × Classed (now class) × Laid (without (now gone) (now t)) (now start)
         × Passed (now gone) (now t) (now mark) (now named) (now held) (now head) (now next) 0 0 8192 0 ⌝ }
-    ensures { λ r. ⌜ (r .right ≡ false → shaped (without (now (gone .entry)) (now (t .entry))) ≡ false)
+    ensures { λ r. ⌜ (r .right ≡ false → shaped boxed (without (now (gone .entry)) (now (t .entry))) ≡ false)
         × (r .right ≡ true → Passed (now (gone .entry)) (now (t .entry)) (now (mark .exit)) (now (named .exit)) (now (held .exit)) (now (head .exit))
         (now (next .exit)) (r .texts) (r .bases) (r .left) (rooms (now (t .entry)))) ⌝ }
 {

@@ -1,7 +1,9 @@
 // Bytes and numbers of a record, read where the caller knows that the record is there.
 use records::bytes::Room;
+use records::entry::Entry;
 ghost use mathlib.Core.Path.{_≡_};
 ghost use Prim.Native.Nat.{_<_};
+ghost use Rattle.paper.specs.Layout.{packedName};
 ghost use Rattle.paper.specs.Number.{numberAt};
 ghost use Rattle.paper.specs.Record.{byte, two, three};
 ghost use Rattle.paper.specs.Table.{rooms, rec};
@@ -63,4 +65,12 @@ pub(crate) fn eight_of(t: &[u8], i: usize, j: usize) -> usize
     ensures { λ r. ⌜ r ≡ numberAt 8 (rec (now (t .entry)) i) j ⌝ }
 {
     four_of(t, i, j) + four_of(t, i, j + 4) * 4294967296
+}
+
+// The name of entry i, as its number: "low byte first in bytes 10-17".
+pub(crate) fn name_of(t: &[u8], i: usize) -> usize
+    requires { ⌜ i < rooms (now t) ⌝ }
+    ensures { λ r. ⌜ (r ≡ packedName (rec (now (t .entry)) i)) × (r < 18446744073709551616) ⌝ }
+{
+    eight_of(t, i, Entry::NUMBER)
 }

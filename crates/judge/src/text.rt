@@ -14,6 +14,7 @@ ghost use mathlib.Core.Bool.{true, false, _&&_};
 ghost use Prim.Native.Nat.{_+_, _<_, _≤_, _%_};
 ghost use lib.ListN.{length, getD};
 ghost use Rattle.paper.specs.Record.{byte, simple, position, zeros};
+ghost use Rattle.paper.specs.Layout.{boxed};
 ghost use Rattle.paper.specs.Table.{rooms, rec};
 ghost use Rattle.paper.specs.Sound.{textAsAbove, inPlace, shaped};
 ghost use Rattle.judge_laws.specs.Mask.{without};
@@ -23,7 +24,7 @@ ghost use Rattle.judge_laws.specs.Shapes.{rightAt};
 // How many slots the table has; if there are no more than records, each heading's first slot is laid down.
 pub(crate) fn lay_out(t: &[u8], gone: &[u8; Room::MOST], start: &mut [u16; Room::MOST]) -> usize
     requires { ⌜ (length (now t) % 32 ≡ 0) × (length (now t) ≤ 65536) × (length (now start) ≡ 2048) ⌝ }
-    ensures { λ r. ⌜ (rooms (now (t .entry)) < r → shaped (without (now (gone .entry)) (now (t .entry))) ≡ false)
+    ensures { λ r. ⌜ (rooms (now (t .entry)) < r → shaped boxed (without (now (gone .entry)) (now (t .entry))) ≡ false)
         × (r ≤ rooms (now (t .entry)) → Laid (without (now (gone .entry)) (now (t .entry))) (now (start .exit))
         × (r ≡ starts (without (now (gone .entry)) (now (t .entry))) (rooms (now (t .entry))))) ⌝ }
 {
@@ -98,7 +99,7 @@ pub(crate) fn text_turn(
 ) -> bool
     requires { ⌜ (i < rooms (now t)) × Laid (without (now gone) (now t)) (now start) × Marked (without (now gone) (now t)) (now mark) i
         × (byte (rec (now t) i) 0 ≡ 3) × (getD (now gone) i 0 ≡ 0) ⌝ }
-    ensures { λ r. ⌜ (r ≡ false → shaped (without (now (gone .entry)) (now (t .entry))) ≡ false)
+    ensures { λ r. ⌜ (r ≡ false → shaped boxed (without (now (gone .entry)) (now (t .entry))) ≡ false)
         × (r ≡ true → (rightAt (without (now (gone .entry)) (now (t .entry))) i ≡ true)
         × Marked (without (now (gone .entry)) (now (t .entry))) (now (mark .exit)) (i + 1)) ⌝ }
 {

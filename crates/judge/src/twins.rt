@@ -1,7 +1,6 @@
 // Entries are chained by a hash of their place and name, and a name borne twice in one place is found in its chain. Only those that stay
 // are chained: the marks of what goes are handed on with the table, since it is the table without them that the chains are of.
-use crate::read::byte_of;
-use crate::read::four_of;
+use crate::read::name_of;
 use crate::read::three_of;
 use crate::read::two_of;
 use crate::read::wide16;
@@ -30,11 +29,11 @@ fn hash_of(t: &[u8], i: usize) -> usize
     requires { ⌜ i < rooms (now t) ⌝ }
     ensures { λ r. ⌜ (r ≡ hashOf (rec (now (t .entry)) i)) × (r < 2048) ⌝ }
 {
+    let x = name_of(t, i);
     let a = two_of(t, i, Entry::HOLDER) * 926071635 + three_of(t, i, Entry::USER) * 621943401;
-    let b = a + four_of(t, i, Entry::NAME_LENGTH) * 374761393;
-    let c = b + four_of(t, i, Entry::NAME + 3) * 1013904223;
-    let d = c + four_of(t, i, Entry::NAME + 6) * 962287919;
-    d / 1048576 % Room::MOST
+    let b = a + x / 4294967296 * 374761393;
+    let c = b + x % 4294967296 * 1013904223;
+    c / 16777216 % Room::MOST
 }
 
 // Whether entry k stands where entry i does and bears its name.
@@ -48,14 +47,7 @@ pub(crate) fn are_twins(t: &[u8], i: usize, k: usize) -> bool
     if three_of(t, i, Entry::USER) != three_of(t, k, Entry::USER) {
         return false;
     }
-    let mut j: usize = 0;
-    while j < 11 {
-        if byte_of(t, i, Entry::NAME_LENGTH + j) != byte_of(t, k, Entry::NAME_LENGTH + j) {
-            return false;
-        }
-        j += 1;
-    }
-    true
+    name_of(t, i) == name_of(t, k)
 }
 
 // Whether entry i has no twin before it: a walk through its bucket, from one more than the last entry there, to its end or to the last step.

@@ -56,15 +56,15 @@ pub(crate) fn is_free(t: &[u8], i: usize) -> bool
     eight_of(t, i, 24) == 0
 }
 
-// Whether the twelve bytes of record i from place j on are zero: two reads.
-pub(crate) fn are_twelve_zeros(t: &[u8], i: usize, j: usize) -> bool
-    requires { ⌜ (i < rooms (now t)) × (j ≤ 20) ⌝ }
-    ensures { λ r. ⌜ r ≡ zeros j 12 (rec (now (t .entry)) i) ⌝ }
+// Whether the fourteen bytes of record i from place j on are zero: two reads, which share two of them.
+pub(crate) fn are_fourteen_zeros(t: &[u8], i: usize, j: usize) -> bool
+    requires { ⌜ (i < rooms (now t)) × (j ≤ 18) ⌝ }
+    ensures { λ r. ⌜ r ≡ zeros j 14 (rec (now (t .entry)) i) ⌝ }
 {
     if eight_of(t, i, j) != 0 {
         return false;
     }
-    four_of(t, i, j + 8) == 0
+    eight_of(t, i, j + 6) == 0
 }
 
 // Whether the sixteen bytes of record i from place j on are zero: two reads.

@@ -3,7 +3,7 @@
 use mathlib.Core.Bool.{true, false}
 use mathlib.Core.List.{List, [], _∷_}
 use mathlib.Core.Logic.{_≢_, by-cases}
-use mathlib.Core.Path.{_≡_, sym, _∙_}
+use mathlib.Core.Path.{_≡_, refl, sym, _∙_}
 use Prim.Native.Nat.{ℕ, _≤_, _<_}
 use native.Mathlib.Omega.{arith}
 use native.Mathlib.Decide.{ℕ-discrete}
@@ -11,7 +11,8 @@ use lib.Dec.{leb}
 use borrow.Author.Tests.{ne-eqb, leb-true, le-leb}
 use Rattle.judge_laws.specs.Shapes.{headingRight, entryRight, rightAt, eachRight}
 use Rattle.paper.specs.Name.{linkName}
-use Rattle.paper.specs.Record.{byte, entryCode, nameLength, nameOf, zeros}
+use Rattle.paper.specs.Record.{byte, entryCode, zeros}
+use Rattle.paper.specs.Layout.{nameOf, boxed}
 use Rattle.paper.specs.Sound.{freeAsAbove, headingAsAbove, entryAsAbove, textAsAbove, asAbove, holderThere, holdersThere, headingThere, headingsThere, userRight, usersRight, namePadded, namesPadded, directoryPlain, directoriesPlain, nameLegal, namesLegal}
 use Rattle.paper.specs.Table.{rooms, rec}
 use Rattle.laws.proofs.Scans.{all-true, all-here}
@@ -42,26 +43,26 @@ module _ (t : List ℕ) (i : ℕ) where
 
 -- the clauses that the records show one by one
 pub record Clauses (t : List ℕ) : Type 0 where
-  pub above : asAbove t ≡ true
+  pub above : asAbove boxed t ≡ true
   pub holders : holdersThere t ≡ true
   pub headings : headingsThere t ≡ true
   pub users : usersRight t ≡ true
-  pub padded : namesPadded t ≡ true
+  pub padded : namesPadded boxed t ≡ true
   pub plain : directoriesPlain t ≡ true
-  pub legal : namesLegal t ≡ true
+  pub legal : namesLegal boxed t ≡ true
 
 pub each-view : (t : List ℕ) → eachRight t ≡ true → Clauses t
 unfolding eachRight joined
 each-view t e =
-    let s = holdersThere t ∷ headingsThere t ∷ usersRight t ∷ namesPadded t ∷ directoriesPlain t ∷ namesLegal t ∷ [] in
+    let s = holdersThere t ∷ headingsThere t ∷ usersRight t ∷ namesPadded boxed t ∷ directoriesPlain t ∷ namesLegal boxed t ∷ [] in
     record {
-      above = joined-first (asAbove t) s e;
-      holders = joined-part (asAbove t) s 0 e;
-      headings = joined-part (asAbove t) s 1 e;
-      users = joined-part (asAbove t) s 2 e;
-      padded = joined-part (asAbove t) s 3 e;
-      plain = joined-part (asAbove t) s 4 e;
-      legal = joined-part (asAbove t) s 5 e;
+      above = joined-first (asAbove boxed t) s e;
+      holders = joined-part (asAbove boxed t) s 0 e;
+      headings = joined-part (asAbove boxed t) s 1 e;
+      users = joined-part (asAbove boxed t) s 2 e;
+      padded = joined-part (asAbove boxed t) s 3 e;
+      plain = joined-part (asAbove boxed t) s 4 e;
+      legal = joined-part (asAbove boxed t) s 5 e;
     }
 
 pub each-made : (t : List ℕ) → Clauses t → eachRight t ≡ true
@@ -76,22 +77,19 @@ module _ (t : List ℕ) (h : Clauses t) (a : Above t) (i : ℕ) (l : i < rooms t
       and-both (headingAsAbove 0 (rec t i)) _ (every-true 1 headingAsAbove t (a .heading) i l k) (every-true 1 directoryPlain t (h .plain) i l k)
 
   entry-passes : byte (rec t i) 0 ≡ 2 → entryRight t (rec t i) ≡ true
-  unfolding holdersThere headingsThere usersRight namesPadded namesLegal joined
+  unfolding holdersThere headingsThere usersRight namesLegal
   entry-passes k =
       let r = rec t i in
-      let e : entryAsAbove 0 r ≡ true = every-true 2 entryAsAbove t (a .entry) i l k in
-      let s = leb (nameLength r) 10 ∷ zeros 20 12 r ∷ [] in
-      let n : nameLegal i r ≡ true = every-true 2 nameLegal t (h .legal) i l k in
+      let e : entryAsAbove boxed 0 r ≡ true = every-true 2 (entryAsAbove boxed) t (a .entry) i l k in
+      let n : nameLegal boxed i r ≡ true = every-true 2 (nameLegal boxed) t (h .legal) i l k in
       entry-made t r (record {
-        code = leb-true _ _ (joined-first (leb (entryCode r) 7) s e);
-        short = leb-true _ _ (joined-part (leb (entryCode r) 7) s 0 e);
-        rest = joined-part (leb (entryCode r) 7) s 1 e;
-        padded = every-true 2 namePadded t (h .padded) i l k;
+        code = leb-true _ _ (and-left (leb (entryCode r) 7) _ e);
+        laid = and-right (leb (entryCode r) 7) _ e;
         named = every-true 2 (headingThere t) t (h .headings) i l k;
-        link = and-left (linkName (nameOf r)) _ n;
+        link = and-left (linkName (nameOf boxed r)) _ n;
         place =
             base-place t r (every-true 2 (holderThere t) t (h .holders) i l k) (every-true 2 userRight t (h .users) i l k)
-            (and-right (linkName (nameOf r)) _ n);
+            (and-right (linkName (nameOf boxed r)) _ n);
       })
 
   clause-right : rightAt t i ≡ true
@@ -134,8 +132,8 @@ module _ (t : List ℕ) (h : (i : ℕ) → i < rooms t → rightAt t i ≡ true)
         kinds = all-here (λ i. leb (byte (rec t i) 0) 3) (rooms t) low;
         free = every-here 0 freeAsAbove t (λ i l k. sym (right-free t i k) ∙ h i l);
         heading = every-here 1 headingAsAbove t (λ i l k. and-left (headingAsAbove 0 (rec t i)) _ (headed i l k));
-        entry = every-here 2 entryAsAbove t (λ i l k. let e = entered i l k in
-            rw (le-leb (entryCode (rec t i)) 7 (e .code), le-leb (nameLength (rec t i)) 10 (e .short)) (e .rest));
+        entry = every-here 2 (entryAsAbove boxed) t (λ i l k. let e = entered i l k in
+            and-both (leb (entryCode (rec t i)) 7) _ (le-leb _ _ (e .code)) (e .laid));
         text = every-here 3 textAsAbove t (λ i l k. sym (right-text t i k) ∙ h i l);
       }
 
@@ -147,10 +145,10 @@ module _ (t : List ℕ) (h : (i : ℕ) → i < rooms t → rightAt t i ≡ true)
         holders = every-here 2 (holderThere t) t (λ i l k. base-holder t (rec t i) (entered i l k .place));
         headings = every-here 2 (headingThere t) t (λ i l k. entered i l k .named);
         users = every-here 2 userRight t (λ i l k. base-user t (rec t i) (entered i l k .place));
-        padded = every-here 2 namePadded t (λ i l k. entered i l k .padded);
+        padded = every-here 2 (namePadded boxed) t (λ i l k. refl);
         plain = every-here 1 directoryPlain t (λ i l k. and-right (headingAsAbove 0 (rec t i)) _ (headed i l k));
-        legal = every-here 2 nameLegal t (λ i l k.
-            and-both (linkName (nameOf (rec t i))) _ (entered i l k .link) (base-legal t (rec t i) (entered i l k .place)));
+        legal = every-here 2 (nameLegal boxed) t (λ i l k.
+            and-both (linkName (nameOf boxed (rec t i))) _ (entered i l k .link) (base-legal t (rec t i) (entered i l k .place)));
       }
 
 pub each-all : (t : List ℕ) → ((i : ℕ) → i < rooms t → rightAt t i ≡ true) → eachRight t ≡ true

@@ -11,6 +11,7 @@ use Rattle.judge_laws.specs.Mask.{stays, without}
 use Rattle.paper.specs.Count.{countsRight}
 use Rattle.paper.specs.Entry.{named}
 use Rattle.paper.specs.Record.{byte, isKind}
+use Rattle.paper.specs.Layout.{boxed}
 use Rattle.paper.specs.Sound.{implies, allNamed, isNamed, countsTrue, shaped, sound}
 use Rattle.paper.specs.Table.{rooms, rec}
 use Rattle.laws.proofs.Lay.{Whole}
@@ -55,36 +56,36 @@ module _ (counted : Bool) (t : List ℕ) where
           every-true 1 (countsRight t) t (implies-use counted _ (and-right (allNamed t) _ e) c) i l (eqb-true _ _ k))))
 
   -- soundness from the shape and the headings
-  pub sound-not-shaped : shaped t ≡ false → soundBut counted t ≡ false
+  pub sound-not-shaped : shaped boxed t ≡ false → soundBut counted t ≡ false
   unfolding soundBut
-  sound-not-shaped f = and-no-left (shaped t) _ f
+  sound-not-shaped f = and-no-left (shaped boxed t) _ f
 
   pub sound-not-headed : allHeaded counted t ≡ false → soundBut counted t ≡ false
   unfolding soundBut allHeaded
   sound-not-headed f =
       false-by (soundBut counted t) (λ e.
-      not-both (and-both (allNamed t) _ (tested t (and-left (shaped t) _ e) .named) (and-right (shaped t) _ e)) f)
+      not-both (and-both (allNamed t) _ (tested t (and-left (shaped boxed t) _ e) .named) (and-right (shaped boxed t) _ e)) f)
 
   pub headed-named : allHeaded counted t ≡ true → allNamed t ≡ true
   unfolding allHeaded
   headed-named e = and-left (allNamed t) _ e
 
-  pub sound-headed : allHeaded counted t ≡ true → soundBut counted t ≡ shaped t
+  pub sound-headed : allHeaded counted t ≡ true → soundBut counted t ≡ shaped boxed t
   unfolding soundBut allHeaded
-  sound-headed e = rw (and-right (allNamed t) (implies counted (countsTrue t)) e) (go (shaped t))
+  sound-headed e = rw (and-right (allNamed t) (implies counted (countsTrue t)) e) (go (shaped boxed t))
     where
       go : (b : Bool) → (b && true) ≡ b
       go true = refl
       go false = refl
 
 -- with counts it is soundness, and without them the shape
-pub sound-counted : (t : List ℕ) → soundBut true t ≡ sound t
+pub sound-counted : (t : List ℕ) → soundBut true t ≡ sound boxed t
 unfolding soundBut sound
 sound-counted t = refl
 
-pub sound-uncounted : (t : List ℕ) → soundBut false t ≡ shaped t
+pub sound-uncounted : (t : List ℕ) → soundBut false t ≡ shaped boxed t
 unfolding soundBut
-sound-uncounted t = go (shaped t)
+sound-uncounted t = go (shaped boxed t)
   where
     go : (b : Bool) → (b && true) ≡ b
     go true = refl

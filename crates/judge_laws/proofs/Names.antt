@@ -1,322 +1,317 @@
--- A name as a stretch of its record, and the tests on names by the bytes there.
--- In a record of 32 bytes the name of at most 10 bytes is the bytes from place 10 on, so every test on it is a scan of them.
+-- Names by their codes: a number without the blanks at its end has a code for each character, so that every test on the name is a walk over
+-- its codes, the lowest first; and the four short base names are four numbers.
 use mathlib.Core.Bool.{Bool, true, false, _&&_, _||_, cond, true≢false}
 use mathlib.Core.List.{List, [], _∷_}
-use mathlib.Core.Logic.{_≢_, by-cases}
+use mathlib.Core.Logic.{_≢_, _⊎_, inl, inr, by-cases}
 use mathlib.Core.Path.{_≡_, refl, sym, ap, _∙_}
-use Prim.Native.Nat.{ℕ, zero, suc, _+_, _-_, _*_, _^_, _≤_, _<_}
+use Prim.Native.Nat.{ℕ, zero, suc, _+_, _-_, _*_, _/_, _%_, _^_, _≤_, _<_}
 use native.Mathlib.Omega.{arith}
-use native.Mathlib.Decide.{ℕ-discrete, decLt}
-use native.Mathlib.Nat.{pow-suc}
+use native.Mathlib.Decide.{ℕ-discrete}
 use native.Mathlib.Numerals.{add-one}
-use lib.ListN.{length, getD, set, length-set, length-take, length-drop}
-use lib.Seq.{getD-take, getD-drop, getD-set-same, getD-set-other}
-use lib.Dec.{eqb, leb, ltb}
+use native.Mathlib.Nat.{pow-zero, pow-suc, pow-succ', div-one, div-div-eq-div-mul, div-lt-iff-lt-mul, mod-eq-of-lt, zero-lt-suc}
+use lib.ListN.{length, getD, set, replicate}
 use lib.Pow.{pow-mono}
-use borrow.Author.Tests.{eqb-true, eq-eqb, ne-eqb, leb-true, le-leb, lt-leb, ltb-true, lt-ltb, le-ltb}
-use Rattle.judge_laws.specs.Shapes.{area, classOf, Classed, nameBits}
-use Rattle.paper.specs.Name.{same, all, inName, linkName, pointed, inBase, legalBase}
-use Rattle.paper.specs.Record.{byte, nameLength, nameOf, zeros}
-use Rattle.laws.proofs.Fields.{zeros-by}
-use Rattle.laws.proofs.Tests.{and-left, and-right, and-both, and-no-right, false-by, joined, joined-first, joined-part, same-truth, clash}
-use Rattle.judge_laws.proofs.Shapes.{zeros-at}
+use lib.Dec.{eqb, leb}
+use borrow.Author.Tests.{eqb-true, eq-eqb, ne-eqb, le-leb, lt-leb}
+use Rattle.judge_laws.specs.Codes.{spelled, classOf, Classed, classBits, area}
+use Rattle.paper.specs.Layout.{packed, ahead, unpacking, unpacked, packedName, sixName, nameOf, boxed}
+use Rattle.paper.specs.Scan.{allBelow}
+use Rattle.paper.specs.Name.{same, all, inName, linkName, pointed, inBase, legalBase, dotR, dotW, dotG, dotT}
+use Rattle.laws.proofs.Entries.{same-true, eq-same, link-short}
+use Rattle.laws.proofs.Scans.{all-true}
+use Rattle.laws.proofs.Packing.{packed-unpacked, unpacked-packed}
+use Rattle.laws.proofs.Tests.{and-left, and-right, and-both, and-no-right, false-by, same-truth, clash}
 
--- tests over a list are tests at each place
-pub all-at : (p : ℕ → Bool) (m : List ℕ) → all p m ≡ true → (j : ℕ) → j < length m → p (getD m j 0) ≡ true
-unfolding all
-all-at p [] e j l = let z : ⊥ = omega arith in absurd z
-all-at p (a ∷ m) e zero l = and-left (p a) _ e
-all-at p (a ∷ m) e (suc j) l = all-at p m (and-right (p a) _ e) j (omega arith)
+-- ---- without the lowest code
 
-pub all-by : (p : ℕ → Bool) (m : List ℕ) → ((j : ℕ) → j < length m → p (getD m j 0) ≡ true) → all p m ≡ true
-unfolding all
-all-by p [] h = refl
-all-by p (a ∷ m) h = and-both (p a) _ (h 0 (omega arith)) (all-by p m (λ j l. h (suc j) (omega arith)))
+lowest : (x : ℕ) → x / 64 ^ 0 ≡ x
+lowest x = rw pow-zero (div-one x)
 
--- the name in its record
-module _ (r : List ℕ) (w : length r ≡ 32) (s : nameLength r ≤ 10) where
-  pub name-length : length (nameOf r) ≡ nameLength r
-  unfolding nameOf
-  name-length = simp (length-take, length-drop) (omega arith)
+-- the codes above it are those of what is left
+above : (w x : ℕ) → x / 64 / 64 ^ w ≡ x / 64 ^ suc w
+above w x = div-div-eq-div-mul x 64 (64 ^ w) ∙ rw (pow-succ' 64 w)
 
-  pub name-at : (j : ℕ) → j < nameLength r → getD (nameOf r) j 0 ≡ byte r (10 + j)
-  unfolding nameOf
-  name-at j l = let k : j < 10 = omega arith in rw (getD-take, getD-take, getD-drop)
+-- a blank at the end is padding
+blank-drops : (w x : ℕ) → x % 64 ≡ 0 → unpacking (suc w) x ≡ unpacking w (x / 64)
+unfolding unpacking ahead
+blank-drops zero x e = rw (lowest x, e)
+blank-drops (suc w) x e =
+    ap (ahead (x / 64 ^ suc w % 64)) (blank-drops w x e) ∙ ap (λ (c : ℕ). ahead (c % 64) (unpacking w (x / 64))) (sym (above w x))
 
--- a link name, by its bytes
-pub record Linkable (r : List ℕ) : Type 0 where
-  pub some : 1 ≤ nameLength r
-  pub bytes : (j : ℕ) → j < nameLength r → inName (byte r (10 + j)) ≡ true
+pub blank-off : (n x : ℕ) → 0 < n → x % 64 ≡ 0 → unpacking n x ≡ unpacking (n - 1) (x / 64)
+blank-off zero x l e = let z : ⊥ = omega arith in absurd z
+blank-off (suc w) x l e = let q : suc w - 1 ≡ w = omega arith in rw q (blank-drops w x e)
 
-module _ (r : List ℕ) (w : length r ≡ 32) (s : nameLength r ≤ 10) where
-  pub link-view : linkName (nameOf r) ≡ true → Linkable r
-  unfolding linkName joined
-  link-view e =
-      let n = nameOf r in
-      let m = leb (length n) 10 ∷ all inName n ∷ [] in
-      let q = name-length r w s in
-      record {
-        some = omega (arith, leb-true 1 (length n) (joined-first (leb 1 (length n)) m e));
-        bytes = λ j l. rw (← (name-at r w s j l)) (all-at inName n (joined-part (leb 1 (length n)) m 1 e) j (omega arith));
-      }
+-- .. and the number loses a place
+pub blank-room : (n x : ℕ) → 0 < x → x < 64 ^ n → 0 < n
+blank-room zero x a l = let z : ⊥ = omega (arith, rw pow-zero at l) in absurd z
+blank-room (suc w) x a l = omega arith
 
-  pub link-made : Linkable r → linkName (nameOf r) ≡ true
-  unfolding linkName
-  link-made h =
-      let q = name-length r w s in
-      rw (le-leb 1 (length (nameOf r)) (omega arith), le-leb (length (nameOf r)) 10 (omega arith))
-      (all-by inName (nameOf r) (λ j l. let k : j < nameLength r = omega arith in rw (name-at r w s j k) (h .bytes j k)))
+pub blank-less : (n x : ℕ) → 0 < n → x < 64 ^ n → x / 64 < 64 ^ (n - 1)
+blank-less zero x a l = let z : ⊥ = omega arith in absurd z
+blank-less (suc w) x a l = let q : suc w - 1 ≡ w = omega arith in rw q (div-lt-iff-lt-mul (zero-lt-suc 63) .1 (rw pow-suc at l))
 
-module _ (r : List ℕ) (w : length r ≡ 32) (s : nameLength r ≤ 10) where
-  pub link-none : nameLength r < 1 → linkName (nameOf r) ≡ false
-  link-none l = false-by (linkName (nameOf r)) (λ e. let h = link-view r w s e in let z : ⊥ = omega arith in z)
+-- with none at the end every code is a character
+spells : (w x : ℕ) → x % 64 ≢ 0 → spelled (suc w) x ≡ unpacking (suc w) x
+unfolding unpacking ahead spelled
+spells zero x n = rw (lowest x, ne-eqb (x % 64) 0 n)
+spells (suc w) x n = ap (ahead (x / 64 ^ suc w % 64)) (spells w x n)
 
--- what a class says
-class-most : (b : ℕ) → classOf b ≤ 2
-class-most b = go (inName b) (eqb b 0)
+pub spelled-out : (n x : ℕ) → 0 < n → (x % 64 ≡ 0 → ⊥) → spelled n x ≡ unpacking n x
+spelled-out zero x l n = let z : ⊥ = omega arith in absurd z
+spelled-out (suc w) x l n = spells w x n
+
+-- ---- a test of all characters, the lowest code first
+
+all-lowest : (p : ℕ → Bool) (w x : ℕ) → all p (spelled (suc w) x) ≡ (p (x % 64 + 32) && all p (spelled w (x / 64)))
+unfolding spelled all
+all-lowest p zero x = rw (lowest x)
+all-lowest p (suc w) x =
+    ap (λ (b : Bool). p (x / 64 ^ suc w % 64 + 32) && b) (all-lowest p w x)
+    ∙ swap (p (x / 64 ^ suc w % 64 + 32)) (p (x % 64 + 32)) (all p (spelled w (x / 64)))
+    ∙ ap (λ (c : ℕ). p (x % 64 + 32) && (p (c % 64 + 32) && all p (spelled w (x / 64)))) (sym (above w x))
+  where
+    swap : (a b c : Bool) → (a && (b && c)) ≡ (b && (a && c))
+    swap true b c = refl
+    swap false b c = sym (and-no-right b false refl)
+
+-- the first that fails refutes the test, and one that passes leaves it to those above
+pub all-stops : (p : ℕ → Bool) (n x : ℕ) → 0 < n → p (x % 64 + 32) ≡ false → all p (spelled n x) ≡ false
+all-stops p zero x l e = let z : ⊥ = omega arith in absurd z
+all-stops p (suc w) x l e = all-lowest p w x ∙ rw e
+
+pub all-goes : (p : ℕ → Bool) (n x : ℕ) → 0 < n → p (x % 64 + 32) ≡ true → all p (spelled n x) ≡ all p (spelled (n - 1) (x / 64))
+all-goes p zero x l e = let z : ⊥ = omega arith in absurd z
+all-goes p (suc w) x l e = let q : suc w - 1 ≡ w = omega arith in rw q (all-lowest p w x ∙ rw e)
+
+pub all-none : (p : ℕ → Bool) (x : ℕ) → all p (spelled 0 x) ≡ true
+unfolding spelled all
+all-none p x = refl
+
+length-spelled : (w x : ℕ) → length (spelled w x) ≡ w
+unfolding spelled
+length-spelled zero x = refl
+length-spelled (suc w) x = ap suc (length-spelled w x)
+
+-- ---- link names
+
+pub named-by : (r : List ℕ) (x : ℕ) → x ≡ packedName r → unpacked x ≡ nameOf boxed r
+unfolding sixName
+named-by r x e = ap unpacked e
+
+class-most : (c : ℕ) → classOf c ≤ 2
+class-most c = go (inName (c + 32)) (eqb c 0)
   where
     go : (x y : Bool) → cond x 1 (cond y 0 2) ≤ 2
     go true y = omega arith
     go false true = omega arith
     go false false = omega arith
 
-class-one : (b : ℕ) → classOf b ≡ 1 → inName b ≡ true
-class-one b e = go (inName b) (eqb b 0) e
+class-one : (c : ℕ) → classOf c ≡ 1 → inName (c + 32) ≡ true
+class-one c e = go (inName (c + 32)) (eqb c 0) e
   where
     go : (x y : Bool) → _≡_ {A = ℕ} (cond x 1 (cond y 0 2)) 1 → x ≡ true
     go true y e = refl
     go false true e = clash e
     go false false e = let z : ⊥ = omega arith in absurd z
 
-class-none : (b : ℕ) → classOf b ≡ 0 → b ≡ 0
-class-none b e = eqb-true b 0 (go (inName b) (eqb b 0) e)
+class-none : (c : ℕ) → classOf c ≡ 0 → c ≡ 0
+class-none c e = eqb-true c 0 (go (inName (c + 32)) (eqb c 0) e)
   where
     go : (x y : Bool) → _≡_ {A = ℕ} (cond x 1 (cond y 0 2)) 0 → y ≡ true
     go true y e = let z : ⊥ = omega arith in absurd z
     go false true e = refl
     go false false e = let z : ⊥ = omega arith in absurd z
 
-pub bits-none : (r : List ℕ) → nameBits r 0 ≡ 0
-unfolding nameBits
-bits-none r = refl
+class-in : (c : ℕ) → inName (c + 32) ≡ true → classOf c ≡ 1
+class-in c e = go (inName (c + 32)) e
+  where
+    go : (x : Bool) → x ≡ true → _≡_ {A = ℕ} (cond x 1 (cond (eqb c 0) 0 2)) 1
+    go x e = rw e
 
-pub bits-more : (r : List ℕ) (m j : ℕ) → j + m ≡ 9 → nameBits r (m + 1) ≡ nameBits r m * 2 + classOf (byte r (10 + j))
-unfolding nameBits
-bits-more r m j e = let q : 9 - m ≡ j = omega arith in rw (add-one m, q)
+-- a code before the characters after it
+ahead-in : (c : ℕ) (s : List ℕ) → (c ≡ 0 → ⊥) → ahead c s ≡ (c + 32) ∷ s
+unfolding ahead
+ahead-in c [] n = rw (ne-eqb c 0 n)
+ahead-in c (b ∷ s) n = refl
 
--- they are no more than twos
-bits-bound : (r : List ℕ) (m : ℕ) → nameBits r m + 2 ≤ 2 ^ (m + 1)
-unfolding nameBits
-bits-bound r zero = omega arith
-bits-bound r (suc m) =
-    let h = bits-bound r m in
-    let c = class-most (byte r (10 + (9 - m))) in
+ahead-more : (c b : ℕ) (s : List ℕ) → ahead c (b ∷ s) ≡ (c + 32) ∷ b ∷ s
+unfolding ahead
+ahead-more c b s = refl
+
+ahead-none : (c : ℕ) (s : List ℕ) → c ≡ 0 → length s ≡ 0 → ahead c s ≡ []
+unfolding ahead
+ahead-none c [] e l = rw e
+ahead-none c (b ∷ s) e l = let z : ⊥ = omega arith in absurd z
+
+-- the classes are one less than a power of 2 exactly where there are so many characters, all of them of names
+bits-name : (w x n : ℕ) → classBits w x + 1 ≡ 2 ^ n → (length (unpacking w x) ≡ n) × (all inName (unpacking w x) ≡ true)
+unfolding classBits unpacking all
+bits-name zero x zero e = (refl, refl)
+bits-name zero x (suc n) e = let z : ⊥ = omega (arith, rw pow-suc at e) in absurd z
+bits-name (suc w) x zero e =
+    let c = x / 64 ^ w % 64 in
+    let f : classBits w x * 2 + classOf c + 1 ≡ 1 = e ∙ pow-zero 2 in
+    let h = bits-name w x 0 (omega (arith, pow-zero 2)) in
+    rw (ahead-none c (unpacking w x) (class-none c (omega arith)) (h .0)) (refl, refl)
+bits-name (suc w) x (suc n) e =
+    let c = x / 64 ^ w % 64 in
+    let f : classBits w x * 2 + classOf c + 1 ≡ 2 ^ n * 2 = rw pow-suc at e in
+    let o : classOf c ≡ 1 = omega (arith, class-most c) in
+    let h = bits-name w x n (omega arith) in
+    let i = class-one c o in
+    let k : c ≡ 0 → ⊥ = λ q. let z : _≡_ {A = ℕ} 0 1 = rw q at o in omega arith in
+    rw (ahead-in c (unpacking w x) k) (ap suc (h .0), and-both (inName (c + 32)) (all inName (unpacking w x)) i (h .1))
+
+name-bits : (w x : ℕ) → all inName (unpacking w x) ≡ true → classBits w x + 1 ≡ 2 ^ length (unpacking w x)
+unfolding classBits unpacking all
+name-bits zero x e = refl
+name-bits (suc w) x e = go (x / 64 ^ w % 64) (classBits w x) (unpacking w x) e (name-bits w x)
+  where
+    tail : (c b a : ℕ) (s : List ℕ) → all inName ((c + 32) ∷ a ∷ s) ≡ true → (all inName (a ∷ s) ≡ true → b + 1 ≡ 2 ^ length (a ∷ s))
+        → b * 2 + classOf c + 1 ≡ 2 ^ suc (length (a ∷ s))
+    tail c b a s e h =
+        let o = class-in c (and-left (inName (c + 32)) (all inName (a ∷ s)) e) in
+        let f = h (and-right (inName (c + 32)) (all inName (a ∷ s)) e) in
+        let p : 2 ^ suc (length (a ∷ s)) ≡ 2 ^ length (a ∷ s) * 2 = rw pow-suc in
+        omega arith
+
+    go : (c b : ℕ) (s : List ℕ) → all inName (ahead c s) ≡ true → (all inName s ≡ true → b + 1 ≡ 2 ^ length s)
+        → b * 2 + classOf c + 1 ≡ 2 ^ length (ahead c s)
+    go c b [] e h =
+        by-cases (ℕ-discrete c 0)
+        (λ (q : c ≡ 0). let o : classOf c ≡ 0 = rw q in rw (ahead-none c [] q refl) (omega (arith, h refl)))
+        (λ (q : c ≢ 0). let o = class-in c (and-left (inName (c + 32)) true (rw (ahead-in c [] q) at e)) in
+        rw (ahead-in c [] q) (omega (arith, h refl)))
+    go c b (a ∷ s) e h = tail c b a s (rw (ahead-more c a s) at e) h ∙ rw (ahead-more c a s)
+
+-- they are read from the lowest code on, and are no more than twos
+pub bits-none : (x : ℕ) → classBits 0 x ≡ 0
+unfolding classBits
+bits-none x = refl
+
+pub bits-more : (x m : ℕ) → classBits (m + 1) x ≡ classBits m x * 2 + classOf (x / 64 ^ m % 64)
+unfolding classBits
+bits-more x m = rw (add-one m)
+
+pub rest-more : (x m : ℕ) → x / 64 ^ m / 64 ≡ x / 64 ^ (m + 1)
+rest-more x m = div-div-eq-div-mul x (64 ^ m) 64 ∙ rw (add-one m, pow-suc)
+
+bits-bound : (x m : ℕ) → classBits m x + 2 ≤ 2 ^ (m + 1)
+unfolding classBits
+bits-bound x zero = omega arith
+bits-bound x (suc m) =
+    let h = bits-bound x m in
+    let c = class-most (x / 64 ^ m % 64) in
     let p : 2 ^ (suc m + 1) ≡ 2 ^ (m + 1) * 2 = rw (add-one (suc m), pow-suc, add-one m) in
     omega arith
 
-pub bits-most : (r : List ℕ) (m : ℕ) → m ≤ 10 → nameBits r m ≤ 2046
-bits-most r m l = let p : 2 ^ (m + 1) ≤ 2 ^ 11 = pow-mono {i = m + 1} {j = 11} (omega arith) in omega (arith, bits-bound r m)
+pub bits-most : (x m : ℕ) → m ≤ 10 → classBits m x ≤ 2046
+bits-most x m l = let p : 2 ^ (m + 1) ≤ 2 ^ 11 = pow-mono {i = m + 1} {j = 11} (omega arith) in omega (arith, bits-bound x m)
 
--- byte j is as it is in a padded link name of n bytes
-record Placed (r : List ℕ) (n j : ℕ) : Type 0 where
-  inside : j < n → inName (byte r (10 + j)) ≡ true
-  past : n ≤ j → byte r (10 + j) ≡ 0
-
--- one less than a power of 2 has ones alone, so the number is that one exactly when every byte is as it is in such a name
-module _ (r : List ℕ) (n : ℕ) (s : n ≤ 10) where
-  power-more : (k : ℕ) → 2 ^ suc k ≡ 2 ^ k * 2
-  power-more k = rw pow-suc
-
-  bits-placed : (m : ℕ) → m ≤ 10 → nameBits r m + 1 ≡ 2 ^ (n - (10 - m)) → (j : ℕ) → 10 - m ≤ j → j < 10 → Placed r n j
-  unfolding nameBits
-  bits-placed zero l e j a b = let z : ⊥ = omega arith in absurd z
-  bits-placed (suc m) l e j a b =
-      by-cases (decLt (9 - m) n)
-      (λ (d : 9 - m < n).
-      let q : n - (10 - suc m) ≡ suc (n - (10 - m)) = omega arith in
-      let f : nameBits r m * 2 + c + 1 ≡ 2 ^ (n - (10 - m)) * 2 = e ∙ rw q (power-more (n - (10 - m))) in
-      let o : c ≡ 1 = omega (arith, most) in
-      at (bits-placed m (omega arith) (omega arith)) (record { inside = λ _. class-one x o; past = λ v. let z : ⊥ = omega arith in absurd z }))
-      (λ (d : ¬ (9 - m < n)).
-      let q : n - (10 - suc m) ≡ 0 = omega arith in
-      let v : n - (10 - m) ≡ 0 = omega arith in
-      let f : nameBits r m * 2 + c + 1 ≡ 1 = e ∙ rw q in
-      let g : nameBits r m ≡ 0 = omega arith in
-      let o : c ≡ 0 = omega arith in
-      at (bits-placed m (omega arith) (rw (g, v))) (record { inside = λ v. let z : ⊥ = omega arith in absurd z; past = λ _. class-none x o }))
-    where
-      x : ℕ
-      x = byte r (10 + (9 - m))
-
-      c : ℕ
-      c = classOf x
-
-      most : c ≤ 2
-      most = class-most x
-
-      at : ((i : ℕ) → 10 - m ≤ i → i < 10 → Placed r n i) → Placed r n (9 - m) → Placed r n j
-      at h k = by-cases (ℕ-discrete j (9 - m)) (λ (y : j ≡ 9 - m). rw y k) (λ (y : j ≢ 9 - m). h j (omega arith) b)
-
-  placed-bits : (m : ℕ) → m ≤ 10 → ((j : ℕ) → 10 - m ≤ j → j < 10 → Placed r n j) → nameBits r m + 1 ≡ 2 ^ (n - (10 - m))
-  unfolding nameBits
-  placed-bits zero l h = let q : n - 10 ≡ 0 = omega arith in rw q
-  placed-bits (suc m) l h =
-      let i = placed-bits m (omega arith) (λ j a b. h j (omega arith) b) in
-      let p = h (9 - m) (omega arith) (omega arith) in
-      by-cases (decLt (9 - m) n)
-      (λ (d : 9 - m < n).
-      let q : n - (10 - suc m) ≡ suc (n - (10 - m)) = omega arith in
-      let o : classOf (byte r (10 + (9 - m))) ≡ 1 = rw (p .inside d) in
-      rw (q, power-more (n - (10 - m)), o) (omega arith))
-      (λ (d : ¬ (9 - m < n)).
-      let q : n - (10 - suc m) ≡ 0 = omega arith in
-      let v : n - (10 - m) ≡ 0 = omega arith in
-      let o : classOf (byte r (10 + (9 - m))) ≡ 0 = rw (p .past (omega arith)) in
-      let g : nameBits r m + 1 ≡ 1 = i ∙ rw v in
-      rw (q, o) (omega arith))
-
-module _ (r : List ℕ) (w : length r ≡ 32) (s : nameLength r ≤ 10) (l : 1 ≤ nameLength r) where
-  pub link-bits : eqb (nameBits r 10 + 1) (2 ^ nameLength r) ≡ (zeros (10 + nameLength r) (10 - nameLength r) r && linkName (nameOf r))
-  link-bits = same-truth (eqb (nameBits r 10 + 1) (2 ^ nameLength r)) _ into from
-    where
-      whole : 2 ^ (nameLength r - (10 - 10)) ≡ 2 ^ nameLength r
-      whole = let q : nameLength r - (10 - 10) ≡ nameLength r = omega arith in ap (λ (k : ℕ). 2 ^ k) q
-
-      into : eqb (nameBits r 10 + 1) (2 ^ nameLength r) ≡ true → (zeros (10 + nameLength r) (10 - nameLength r) r && linkName (nameOf r)) ≡ true
-      into e =
-          let h = bits-placed r (nameLength r) s 10 (omega arith) (eqb-true (nameBits r 10 + 1) (2 ^ nameLength r) e ∙ sym whole) in
-          and-both (zeros (10 + nameLength r) (10 - nameLength r) r) (linkName (nameOf r))
-          (zeros-by (10 + nameLength r) (10 - nameLength r) r
-          (λ k b. let q : 10 + nameLength r + k ≡ 10 + (nameLength r + k) = omega arith in
-          rw q (h (nameLength r + k) (omega arith) (omega arith) .past (omega arith))))
-          (link-made r w s (record { some = l; bytes = λ j b. h j (omega arith) (omega arith) .inside b }))
-
-      from : (zeros (10 + nameLength r) (10 - nameLength r) r && linkName (nameOf r)) ≡ true → eqb (nameBits r 10 + 1) (2 ^ nameLength r) ≡ true
-      from e =
-          let z = and-left (zeros (10 + nameLength r) (10 - nameLength r) r) (linkName (nameOf r)) e in
-          let v = link-view r w s (and-right (zeros (10 + nameLength r) (10 - nameLength r) r) (linkName (nameOf r)) e) in
-          eq-eqb (nameBits r 10 + 1) (2 ^ nameLength r)
-          (placed-bits r (nameLength r) s 10 (omega arith)
-          (λ j a b. record {
-            inside = v .bytes j;
-            past = λ y. let q : 10 + j ≡ 10 + nameLength r + (j - nameLength r) = omega arith in
-                rw q (zeros-at (10 + nameLength r) (10 - nameLength r) r z (j - nameLength r) (omega arith));
-          }) ∙ whole)
-
--- a legal base name, by its length
-pub legal-plain : (m : List ℕ) → (getD m 0 0 ≡ 46 → ⊥) → legalBase m ≡ false
-unfolding legalBase same pointed
-legal-plain [] n = refl
-legal-plain (a ∷ m) n = rw (ne-eqb a 46 n)
-
-pub legal-one : (m : List ℕ) → length m < 2 → legalBase m ≡ false
-unfolding legalBase same pointed
-legal-one [] l = refl
-legal-one (a ∷ []) l = rw (and-no-right (eqb a 46) false refl)
-legal-one (a ∷ b ∷ m) l = let z : ⊥ = omega arith in absurd z
-
-pub legal-two : (m : List ℕ) → length m ≡ 2 → getD m 0 0 ≡ 46 → legalBase m ≡ area (getD m 1 0)
-unfolding legalBase same pointed
-legal-two [] l e = let z : ⊥ = omega arith in absurd z
-legal-two (a ∷ []) l e = let z : ⊥ = omega arith in absurd z
-legal-two (a ∷ b ∷ []) l e = rw e (go (eqb b 82) (eqb b 87) (eqb b 71) (eqb b 84))
-  where
-    go : (x y z w : Bool) → (x && true || y && true || z && true || w && true || false) ≡ (x || y || z || w)
-    go true y z w = refl
-    go false true z w = refl
-    go false false true w = refl
-    go false false false true = refl
-    go false false false false = refl
-legal-two (a ∷ b ∷ c ∷ m) l e = let z : ⊥ = omega arith in absurd z
-
-pub legal-long : (m : List ℕ) → 3 ≤ length m → getD m 0 0 ≡ 46 → legalBase m ≡ all inBase m
-unfolding legalBase same pointed
-legal-long [] l e = let z : ⊥ = omega arith in absurd z
-legal-long (a ∷ []) l e = let z : ⊥ = omega arith in absurd z
-legal-long (a ∷ b ∷ []) l e = let z : ⊥ = omega arith in absurd z
-legal-long (a ∷ b ∷ c ∷ m) l e = rw (e, le-leb 3 (length (a ∷ b ∷ c ∷ m)) l) (go (eqb b 82) (eqb b 87) (eqb b 71) (eqb b 84) (all inBase (46 ∷ b ∷ c ∷ m)))
-  where
-    go : (x y z w v : Bool) → (x && false || y && false || z && false || w && false || v) ≡ v
-    go x y z w v = rw (and-no-right x false refl, and-no-right y false refl, and-no-right z false refl, and-no-right w false refl)
-
--- the same of the name in its record
-module _ (r : List ℕ) (w : length r ≡ 32) (s : nameLength r ≤ 10) where
-  pub base-plain : (byte r 10 ≡ 46 → ⊥) → 1 ≤ nameLength r → legalBase (nameOf r) ≡ false
-  base-plain n l = legal-plain (nameOf r) (λ e. n (sym (name-at r w s 0 (omega arith)) ∙ e))
-
-  pub base-one : nameLength r < 2 → legalBase (nameOf r) ≡ false
-  base-one l = legal-one (nameOf r) (omega (arith, name-length r w s))
-
-  pub base-two : nameLength r ≡ 2 → byte r 10 ≡ 46 → legalBase (nameOf r) ≡ area (byte r 11)
-  base-two l e =
-      legal-two (nameOf r) (name-length r w s ∙ l) (name-at r w s 0 (omega arith) ∙ e) ∙ rw (name-at r w s 1 (omega arith))
-
-  pub base-long : 3 ≤ nameLength r → byte r 10 ≡ 46 → legalBase (nameOf r) ≡ all inBase (nameOf r)
-  base-long l e = legal-long (nameOf r) (omega (arith, name-length r w s)) (name-at r w s 0 (omega arith) ∙ e)
-
-  pub base-all : ((j : ℕ) → j < nameLength r → inBase (byte r (10 + j)) ≡ true) → all inBase (nameOf r) ≡ true
-  base-all h =
-      all-by inBase (nameOf r) (λ j l. let k : j < nameLength r = omega (arith, name-length r w s) in rw (name-at r w s j k) (h j k))
-
-  pub base-not : (j : ℕ) → j < nameLength r → inBase (byte r (10 + j)) ≡ false → all inBase (nameOf r) ≡ false
-  base-not j l e =
-      false-by (all inBase (nameOf r))
-      (λ a. true≢false (sym (all-at inBase (nameOf r) a j (omega (arith, name-length r w s))) ∙ rw (name-at r w s j l) e))
-
--- the classes, byte by byte: 1 from 33 on below b and else 2, and then without zero and the two that may not be in a name
-pub record Ranged (class : List ℕ) (b : ℕ) : Type 0 where
-  pub at : (x : ℕ) → x < 256 → getD class x 0 ≡ cond (leb 33 x && ltb x b) 1 2
-  pub long : length class ≡ 256
-
-pub ranged-none : (class : List ℕ) → length class ≡ 256 → ((x : ℕ) → x < 256 → getD class x 0 ≡ 2) → Ranged class 33
-ranged-none class l z = record { at = λ x b. z x b ∙ sym (go x (decLt x 33)); long = l }
-  where
-    go : (x : ℕ) → Dec (x < 33) → _≡_ {A = ℕ} (cond (leb 33 x && ltb x 33) 1 2) 2
-    go x d =
-        by-cases d (λ (q : x < 33). rw (lt-leb 33 x q))
-        (λ (q : ¬ (x < 33)). rw (and-no-right (leb 33 x) (ltb x 33) (le-ltb x 33 (omega arith))))
-
-pub ranged-more : (class : List ℕ) (b : ℕ) → Ranged class b → 33 ≤ b → b < 256 → Ranged (set class b 1) (b + 1)
-ranged-more class b h a l =
+-- the table of classes, code by code
+pub classed : Classed (set (set (set (replicate 64 1) 0 0) 26 2) 32 2)
+unfolding allBelow
+classed =
     record {
-      at = λ x m. by-cases (ℕ-discrete x b)
-          (λ (q : x ≡ b). rw (q, le-leb 33 b a, lt-ltb b (b + 1) (omega arith)) (getD-set-same class b 1 0 (omega (arith, h .long))))
-          (λ (q : x ≢ b). getD-set-other class b x 1 0 q ∙ h .at x m ∙ rw (below x q));
-      long = length-set class b 1 ∙ h .long;
+      at = λ c l. eqb-true _ _ (all-true (λ (k : ℕ). eqb (getD (set (set (set (replicate 64 1) 0 0) 26 2) 32 2) k 0) (classOf k)) 64 c l refl);
+      long = refl;
     }
-  where
-    below : (x : ℕ) → x ≢ b → ltb x b ≡ ltb x (b + 1)
-    below x q = same-truth (ltb x b) (ltb x (b + 1)) (λ e. lt-ltb x (b + 1) (omega (arith, ltb-true x b e)))
-        (λ e. lt-ltb x b (omega (arith, ltb-true x (b + 1) e)))
 
-pub ranged-classed : (class : List ℕ) → Ranged class 96 → Classed (set (set (set class 0 0) 58 2) 64 2)
-ranged-classed class h =
-    record {
-      at = λ x m. at x m (ℕ-discrete x 64) (ℕ-discrete x 58) (ℕ-discrete x 0);
-      long = length-set (set (set class 0 0) 58 2) 64 2 ∙ long;
-    }
-  where
-    short : length (set class 0 0) ≡ 256
-    short = length-set class 0 0 ∙ h .long
+pub link-bits : (x n : ℕ) → 1 ≤ n → n ≤ 10 → classBits 10 x + 1 ≡ 2 ^ n → linkName (unpacked x) ≡ true
+unfolding linkName
+link-bits x n l m e = let h = bits-name 10 x n e in rw (h .0, le-leb 1 n l, le-leb n 10 m) (h .1)
 
-    long : length (set (set class 0 0) 58 2) ≡ 256
-    long = length-set (set class 0 0) 58 2 ∙ short
+pub link-other : (x : ℕ) → ((n : ℕ) → 1 ≤ n → n ≤ 10 → classBits 10 x + 1 ≡ 2 ^ n → ⊥) → linkName (unpacked x) ≡ false
+unfolding linkName
+link-other x h =
+    false-by (linkName (unpacked x))
+    (λ e. let s = link-short (unpacked x) e in
+    h (length (unpacked x)) (s .0) (s .1) (name-bits 10 x (and-right (leb 1 (length (unpacked x)) && leb (length (unpacked x)) 10) _ e)))
 
-    upper : (x : ℕ) → ltb x 96 ≡ leb x 95
-    upper x = same-truth (ltb x 96) (leb x 95) (λ e. le-leb x 95 (omega (arith, ltb-true x 96 e))) (λ e. lt-ltb x 96 (omega (arith, leb-true x 95 e)))
+-- the numbers up to the tenth power of 2, less one
+pub ones : (s n : ℕ) → 1 ≤ n → n ≤ 10 → s + 1 ≡ 2 ^ n
+    → (s ≡ 1) ⊎ ((s ≡ 3) ⊎ ((s ≡ 7) ⊎ ((s ≡ 15) ⊎ ((s ≡ 31) ⊎ ((s ≡ 63) ⊎ ((s ≡ 127) ⊎ ((s ≡ 255) ⊎ ((s ≡ 511) ⊎ ((s ≡ 1023))))))))))
+ones s zero a b e = let z : ⊥ = omega arith in absurd z
+ones s (suc zero) a b e = inl (omega arith)
+ones s (suc (suc zero)) a b e = inr (inl (omega arith))
+ones s (suc (suc (suc zero))) a b e = inr (inr (inl (omega arith)))
+ones s (suc (suc (suc (suc zero)))) a b e = inr (inr (inr (inl (omega arith))))
+ones s (suc (suc (suc (suc (suc zero))))) a b e = inr (inr (inr (inr (inl (omega arith)))))
+ones s (suc (suc (suc (suc (suc (suc zero)))))) a b e = inr (inr (inr (inr (inr (inl (omega arith))))))
+ones s (suc (suc (suc (suc (suc (suc (suc zero))))))) a b e = inr (inr (inr (inr (inr (inr (inl (omega arith)))))))
+ones s (suc (suc (suc (suc (suc (suc (suc (suc zero)))))))) a b e = inr (inr (inr (inr (inr (inr (inr (inl (omega arith))))))))
+ones s (suc (suc (suc (suc (suc (suc (suc (suc (suc zero))))))))) a b e = inr (inr (inr (inr (inr (inr (inr (inr (inl (omega arith)))))))))
+ones s (suc (suc (suc (suc (suc (suc (suc (suc (suc (suc zero)))))))))) a b e = inr (inr (inr (inr (inr (inr (inr (inr (inr (omega arith)))))))))
+ones s (suc (suc (suc (suc (suc (suc (suc (suc (suc (suc (suc n))))))))))) a b e = let z : ⊥ = omega arith in absurd z
 
-    plain : (a b : Bool) → _≡_ {A = ℕ} (cond (a && b) 1 2) (cond (a && b && true && true) 1 2)
-    plain true true = refl
-    plain true false = refl
-    plain false b = refl
+-- ---- base names
 
-    at : (x : ℕ) → x < 256 → Dec (x ≡ 64) → Dec (x ≡ 58) → Dec (x ≡ 0) → getD (set (set (set class 0 0) 58 2) 64 2) x 0 ≡ classOf x
-    at x m d f g =
-        by-cases d (λ (q : x ≡ 64). rw q (getD-set-same (set (set class 0 0) 58 2) 64 2 0 (omega (arith, long))))
-        (λ (q : x ≢ 64). getD-set-other (set (set class 0 0) 58 2) 64 x 2 0 q ∙ by-cases f
-        (λ (r : x ≡ 58). rw r (getD-set-same (set class 0 0) 58 2 0 (omega (arith, short))))
-        (λ (r : x ≢ 58). getD-set-other (set class 0 0) 58 x 2 0 r ∙ by-cases g
-        (λ (z : x ≡ 0). rw z (getD-set-same class 0 0 0 (omega (arith, h .long))))
-        (λ (z : x ≢ 0).
-        getD-set-other class 0 x 0 0 z ∙ h .at x m
-        ∙ rw (upper x, ne-eqb x 64 q, ne-eqb x 58 r, ne-eqb x 0 z) (plain (leb 33 x) (leb x 95)))))
+-- the same name, by its number
+short-number : (x : ℕ) (m : List ℕ) → linkName m ≡ true → x < 2 ^ 60 → same (unpacked x) m ≡ eqb x (packed m)
+short-number x m e l =
+    same-truth (same (unpacked x) m) (eqb x (packed m))
+    (λ q. eq-eqb _ _ (sym (packed-unpacked x l) ∙ ap packed (same-true (unpacked x) m q)))
+    (λ q. eq-same _ _ (ap unpacked (eqb-true x (packed m) q) ∙ unpacked-packed m e))
+
+eqb-less : (c : ℕ) → eqb (c + 32) 46 ≡ eqb c 14
+eqb-less c =
+    same-truth (eqb (c + 32) 46) (eqb c 14) (λ q. eq-eqb c 14 (omega (arith, eqb-true (c + 32) 46 q)))
+    (λ q. eq-eqb (c + 32) 46 (omega (arith, eqb-true c 14 q)))
+
+ahead-first : (c : ℕ) (s : List ℕ) → eqb (getD (ahead c s) 0 0) 46 ≡ eqb c 14
+unfolding ahead
+ahead-first c (b ∷ s) = eqb-less c
+ahead-first c [] = by-cases (ℕ-discrete c 0) (λ (e : c ≡ 0). rw e) (λ (e : c ≢ 0). rw (ne-eqb c 0 e) (eqb-less c))
+
+module _ (x : ℕ) (l : x < 2 ^ 60) where
+  -- a leading point is the highest code
+  point-first : pointed (unpacked x) ≡ eqb (x / 64 ^ 9) 14
+  unfolding pointed unpacking
+  point-first =
+      let e : x / 64 ^ 9 % 64 ≡ x / 64 ^ 9 = mod-eq-of-lt (omega arith) in
+      ap (λ (c : ℕ). eqb (getD (ahead c (unpacking 9 x)) 0 0) 46) e ∙ ahead-first (x / 64 ^ 9) (unpacking 9 x)
+
+  pub base-area : area x ≡ true → legalBase (unpacked x) ≡ true
+  unfolding legalBase area linkName all
+  base-area e =
+      rw (short-number x dotR refl l, short-number x dotW refl l, short-number x dotG refl l, short-number x dotT refl l)
+      (go (eqb x (packed dotR)) (eqb x (packed dotW)) (eqb x (packed dotG)) (eqb x (packed dotT)) rest e)
+    where
+      rest : Bool
+      rest = pointed (unpacked x) && (leb 3 (length (unpacked x)) && all inBase (unpacked x))
+
+      go : (a b c d z : Bool) → (a || b || c || d) ≡ true → (a || b || c || d || z) ≡ true
+      go true b c d z e = refl
+      go false true c d z e = refl
+      go false false true d z e = refl
+      go false false false true z e = refl
+      go false false false false z e = absurd (true≢false (sym e))
+
+  module _ (e : area x ≡ false) where
+    others : legalBase (unpacked x) ≡ (pointed (unpacked x) && (leb 3 (length (unpacked x)) && all inBase (unpacked x)))
+    unfolding legalBase area linkName all
+    others =
+        rw (short-number x dotR refl l, short-number x dotW refl l, short-number x dotG refl l, short-number x dotT refl l)
+        (go (eqb x (packed dotR)) (eqb x (packed dotW)) (eqb x (packed dotG)) (eqb x (packed dotT)) rest e)
+      where
+        rest : Bool
+        rest = pointed (unpacked x) && (leb 3 (length (unpacked x)) && all inBase (unpacked x))
+
+        go : (a b c d z : Bool) → (a || b || c || d) ≡ false → (a || b || c || d || z) ≡ z
+        go true b c d z e = absurd (true≢false e)
+        go false true c d z e = absurd (true≢false e)
+        go false false true d z e = absurd (true≢false e)
+        go false false false true z e = absurd (true≢false e)
+        go false false false false z e = refl
+
+    pub base-plain : (x / 64 ^ 9 ≡ 14 → ⊥) → legalBase (unpacked x) ≡ false
+    base-plain n = rw (others, point-first, ne-eqb (x / 64 ^ 9) 14 n)
+
+    module _ (n y : ℕ) (q : spelled n y ≡ unpacked x) where
+      pub base-short : n < 3 → legalBase (unpacked x) ≡ false
+      base-short s =
+          rw (others, ← q, length-spelled n y, lt-leb 3 n s) (and-no-right (pointed (spelled n y)) false refl)
+
+      pub base-long : x / 64 ^ 9 ≡ 14 → 3 ≤ n → legalBase (unpacked x) ≡ all inBase (spelled n y)
+      base-long f s = rw (others, point-first, eq-eqb (x / 64 ^ 9) 14 f, ← q, length-spelled n y, le-leb 3 n s)

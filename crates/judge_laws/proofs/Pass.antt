@@ -18,6 +18,7 @@ use Rattle.judge_laws.specs.Shapes.{headingRight, entryRight, rightAt, e
 use Rattle.judge_laws.specs.Twins.{hashOf, single, noTwins}
 use Rattle.paper.specs.Entry.{inDirectory, holder, stands, crowd, limit, named}
 use Rattle.paper.specs.Record.{byte, isKind, headingType, textLength, simple, directory, headingNamed, holderOf, userOf, headingOf, position, zeros}
+use Rattle.paper.specs.Layout.{boxed}
 use Rattle.paper.specs.Scan.{countBelow}
 use Rattle.paper.specs.Sound.{textAsAbove, isBase, notCrowded, noneCrowded, allNamed, inPlace, shaped}
 use Rattle.paper.specs.Table.{rooms, rec}
@@ -153,18 +154,18 @@ module _ (gone t : List ℕ) (w : Whole t) where
 
   -- what one record refutes
   module _ (i : ℕ) (l : i < rooms t) where
-    pub refuted : rightAt (without gone t) i ≡ false → shaped (without gone t) ≡ false
+    pub refuted : rightAt (without gone t) i ≡ false → shaped boxed (without gone t) ≡ false
     refuted e = shaped-not-each (without gone t) (each-not (without gone t) i (rw (rooms-without gone t) l) e)
 
-    pub refuted-long : shortAt (without gone t) i ≡ false → shaped (without gone t) ≡ false
+    pub refuted-long : shortAt (without gone t) i ≡ false → shaped boxed (without gone t) ≡ false
     unfolding textSound
     refuted-long e =
         shaped-not-text (without gone t) (sound-not-long (without gone t) (whole-without gone t w) i (rw (rooms-without gone t) l) e)
 
-    pub refuted-twin : single (without gone t) i ≡ false → shaped (without gone t) ≡ false
+    pub refuted-twin : single (without gone t) i ≡ false → shaped boxed (without gone t) ≡ false
     refuted-twin e = shaped-not-twins (without gone t) (twin-one (without gone t) i (rw (rooms-without gone t) l) e)
 
-    pub refuted-entry : isKind 2 (rec (without gone t) i) ≡ true → entryRight (without gone t) (rec t i) ≡ false → shaped (without gone t) ≡ false
+    pub refuted-entry : isKind 2 (rec (without gone t) i) ≡ true → entryRight (without gone t) (rec t i) ≡ false → shaped boxed (without gone t) ≡ false
     refuted-entry k e = refuted (right-entry (without gone t) i (eqb-true _ _ k) ∙ rw (rec-entry gone t i l k) e)
 
     pub heading-right : byte (rec t i) 0 ≡ 1 → stays gone i ≡ true → rightAt (without gone t) i ≡ headingRight (rec t i)
@@ -174,10 +175,10 @@ module _ (gone t : List ℕ) (w : Whole t) where
 
     -- a heading that is not right, or too long: a directory's has length 0
     pub refuted-heading : byte (rec t i) 0 ≡ 1 → stays gone i ≡ true → (headingRight (rec t i) && leb (textLength (rec t i)) 24000) ≡ false
-        → shaped (without gone t) ≡ false
+        → shaped boxed (without gone t) ≡ false
     refuted-heading k s f = go (truth (headingRight (rec t i)))
       where
-        long : headingRight (rec t i) ≡ true → 24000 < textLength (rec t i) → shaped (without gone t) ≡ false
+        long : headingRight (rec t i) ≡ true → 24000 < textLength (rec t i) → shaped boxed (without gone t) ≡ false
         long e n =
             let v = heading-view (rec t i) e in
             by-cases (ℕ-discrete (headingType (rec t i)) 0)
@@ -186,7 +187,7 @@ module _ (gone t : List ℕ) (w : Whole t) where
             let one : headingType (rec t i) ≡ 1 = omega (arith, v .type) in
             refuted-long (rw (rec-stays gone t w i s, k, one) (lt-leb (textLength (rec t i)) 24000 n)))
 
-        go : (headingRight (rec t i) ≡ true) ⊎ (headingRight (rec t i) ≡ false) → shaped (without gone t) ≡ false
+        go : (headingRight (rec t i) ≡ true) ⊎ (headingRight (rec t i) ≡ false) → shaped boxed (without gone t) ≡ false
         go (inr e) = refuted (heading-right k s ∙ e)
         go (inl e) = long e (leb-false _ _ (rw e at f))
 
@@ -199,7 +200,7 @@ module _ (gone t : List ℕ) (w : Whole t) where
         right-other (without gone t) i (λ q. n1 (sym y ∙ q)) (λ q. n2 (sym y ∙ q)) (λ q. n3 (sym y ∙ q)) ∙ rw z
 
   -- more slots than records, or another number of text records than of slots
-  pub refuted-slots : (i : ℕ) → i < rooms t → rooms t < starts (without gone t) (i + 1) → shaped (without gone t) ≡ false
+  pub refuted-slots : (i : ℕ) → i < rooms t → rooms t < starts (without gone t) (i + 1) → shaped boxed (without gone t) ≡ false
   unfolding textSound
   refuted-slots i l m =
       let q = rooms-without gone t in
@@ -208,7 +209,7 @@ module _ (gone t : List ℕ) (w : Whole t) where
       shaped-not-text (without gone t) (sound-not-apart (without gone t) (whole-without gone t w)
       (λ (e : texts (without gone t) (rooms (without gone t)) ≡ starts (without gone t) (rooms (without gone t))). omega arith))
 
-  pub refuted-total : (texts (without gone t) (rooms t) ≡ starts (without gone t) (rooms t) → ⊥) → shaped (without gone t) ≡ false
+  pub refuted-total : (texts (without gone t) (rooms t) ≡ starts (without gone t) (rooms t) → ⊥) → shaped boxed (without gone t) ≡ false
   unfolding textSound
   refuted-total n =
       shaped-not-text (without gone t) (sound-not-apart (without gone t) (whole-without gone t w) (rw (rooms-without gone t) n))
@@ -225,19 +226,19 @@ module _ (gone t : List ℕ) (w : Whole t) where
     pub text-right : rightAt (without gone t) i ≡ textAsAbove 0 (rec t i)
     text-right = right-text (without gone t) i kind ∙ rw same
 
-    stale : fresh (without gone t) mark i ≡ false → shaped (without gone t) ≡ false
+    stale : fresh (without gone t) mark i ≡ false → shaped boxed (without gone t) ≡ false
     unfolding textSound
     stale e = shaped-not-text (without gone t) (mark-refused (without gone t) start mark i a (rw (rooms-without gone t) l) m e)
 
     -- in the file of heading h, from slot v on
     module _ (h v : ℕ) (eh : h ≡ headingOf (rec t i)) where
-      misplaced : inPlace (rec (without gone t) h) (rec t i) ≡ false → shaped (without gone t) ≡ false
+      misplaced : inPlace (rec (without gone t) h) (rec t i) ≡ false → shaped boxed (without gone t) ≡ false
       misplaced e = stale (rw (kind, same, ← eh, e))
 
-      pub text-refuted : (textAsAbove 0 (rec t i) && inPlace (rec (without gone t) h) (rec t i)) ≡ false → shaped (without gone t) ≡ false
+      pub text-refuted : (textAsAbove 0 (rec t i) && inPlace (rec (without gone t) h) (rec t i)) ≡ false → shaped boxed (without gone t) ≡ false
       text-refuted e = go (truth (textAsAbove 0 (rec t i)))
         where
-          go : (textAsAbove 0 (rec t i) ≡ true) ⊎ (textAsAbove 0 (rec t i) ≡ false) → shaped (without gone t) ≡ false
+          go : (textAsAbove 0 (rec t i) ≡ true) ⊎ (textAsAbove 0 (rec t i) ≡ false) → shaped boxed (without gone t) ≡ false
           go (inl q) = misplaced (sym (and-past (textAsAbove 0 (rec t i)) (inPlace (rec (without gone t) h) (rec t i)) q) ∙ e)
           go (inr q) = refuted i l (text-right ∙ q)
 
@@ -252,7 +253,7 @@ module _ (gone t : List ℕ) (w : Whole t) where
         fits : textFits (without gone t) i ≡ true
         fits = rw (kind, same, ← eh, e)
 
-        pub slot-taken : (getD mark (v + p) 0 ≡ 0 → ⊥) → shaped (without gone t) ≡ false
+        pub slot-taken : (getD mark (v + p) 0 ≡ 0 → ⊥) → shaped boxed (without gone t) ≡ false
         slot-taken n = stale (and-no-right (textFits (without gone t) i) _ (rw (kind, ← (slot .0)) (ne-eqb (getD mark (v + p) 0) 0 n)))
 
         pub slot-marked : getD mark (v + p) 0 ≡ 0 → Marked (without gone t) (set mark (v + p) 1) (i + 1)
@@ -394,7 +395,7 @@ module _ (gone t : List ℕ) (w : Whole t) where
     passed-single z = single-all (without gone t) (λ j l. p .entries .single z j (rw (rooms-without gone t) at l))
 
     pub passed-all : x ≡ starts (without gone t) (rooms t) → allNamed (without gone t) ≡ true → noTwins (without gone t) ≡ true
-        → shaped (without gone t) ≡ noneCrowded (without gone t)
+        → shaped boxed (without gone t) ≡ noneCrowded (without gone t)
     unfolding textSound
     passed-all e n o = shaped-left (without gone t) all-right n (all-text e) o
 

@@ -4,17 +4,18 @@ use mathlib.Core.Bool.{true, false, _&&_, _||_, cond, true≢false}
 use mathlib.Core.List.{List, [], _∷_}
 use mathlib.Core.Logic.{_⊎_, inl, inr, by-cases}
 use mathlib.Core.Path.{_≡_, refl, sym, _∙_}
-use Prim.Native.Nat.{ℕ, zero, suc, _+_, _-_, _*_, _≤_, _<_}
+use Prim.Native.Nat.{ℕ, zero, suc, _+_, _-_, _*_, _^_, _≤_, _<_}
 use native.Mathlib.Omega.{arith}
 use native.Mathlib.Decide.{decLt}
 use native.Mathlib.Nat.{add-zero}
-use lib.Dec.{eqb, leb}
+use lib.Dec.{eqb, leb, ltb}
 use lib.ListN.{getD}
-use borrow.Author.Tests.{eqb-true, eq-eqb, leb-true, le-leb}
+use borrow.Author.Tests.{eqb-true, eq-eqb, ne-eqb, leb-true, le-leb, ltb-true, lt-ltb}
 use Rattle.judge_laws.specs.Shapes.{plainTest, bareTest, headingRight, baseRight, insideRight, entryRight}
 use Rattle.paper.specs.Name.{linkName, legalBase}
 use Rattle.paper.specs.Number.{numberAt}
-use Rattle.paper.specs.Record.{byte, isKind, headingType, level, headingCode, lifetime, textLength, directory, entryCode, holderOf, headingNamed, userOf, nameLength, nameOf, bytesHeld, zeros}
+use Rattle.paper.specs.Record.{byte, isKind, headingType, level, headingCode, lifetime, textLength, directory, entryCode, holderOf, headingNamed, userOf, bytesHeld, zeros}
+use Rattle.paper.specs.Layout.{nameOf, packedName, boxed}
 use Rattle.paper.specs.Sound.{implies, markRight, textAsAbove, isBase}
 use Rattle.paper.specs.Table.{rec}
 use Rattle.laws.proofs.Numbers.{number-zeros}
@@ -59,6 +60,9 @@ zeros-refuted j n w k r l f =
 pub number-eight : (s : List ℕ) (j : ℕ) → numberAt 8 s j ≡ numberAt 4 s j + numberAt 4 s (j + 4) * 4294967296
 unfolding numberAt
 number-eight s j = let e : j + 4 ≡ suc (suc (suc (suc j))) = omega arith in rw e (omega arith)
+
+pub zeros-fewer : (j m n : ℕ) (r : List ℕ) → m ≤ n → zeros j n r ≡ true → zeros j m r ≡ true
+zeros-fewer j m n r l z = zeros-by j m r (λ k b. zeros-at j n r z k (omega arith))
 
 pub zeros-none : (j : ℕ) (r : List ℕ) → zeros j 0 r ≡ true
 zeros-none j r = zeros-by j 0 r (λ m l. let z : ⊥ = omega arith in absurd z)
@@ -127,28 +131,38 @@ text-view r e =
 -- an entry, part by part
 pub record Entered (t r : List ℕ) : Type 0 where
   pub code : entryCode r ≤ 7
-  pub short : nameLength r ≤ 10
-  pub rest : zeros 20 12 r ≡ true
-  pub padded : zeros (10 + nameLength r) (10 - nameLength r) r ≡ true
+  pub laid : boxed .asAbove r ≡ true
   pub named : isKind 1 (rec t (headingNamed r)) ≡ true
-  pub link : linkName (nameOf r) ≡ true
+  pub link : linkName (nameOf boxed r) ≡ true
   pub place : cond (isBase r) (baseRight r) (insideRight t r) ≡ true
+
+-- the number of a name that is as above
+pub above-number : (r : List ℕ) → boxed .asAbove r ≡ true → packedName r < 2 ^ 60
+unfolding joined
+above-number r e = ltb-true _ _ (joined-part (eqb (byte r 9) 0) (ltb (packedName r) (2 ^ 60) ∷ zeros 18 14 r ∷ []) 0 e)
+
+-- .. which are its bytes from 9 on, part by part
+pub above-gap : (r : List ℕ) → (byte r 9 ≡ 0 → ⊥) → boxed .asAbove r ≡ false
+above-gap r n = rw (ne-eqb (byte r 9) 0 n)
+
+pub above-long : (r : List ℕ) → 2 ^ 60 ≤ packedName r → boxed .asAbove r ≡ false
+above-long r l = false-by (boxed .asAbove r) (λ e. let z : ⊥ = omega (arith, above-number r e) in z)
+
+pub above-rest : (r : List ℕ) → byte r 9 ≡ 0 → packedName r < 2 ^ 60 → boxed .asAbove r ≡ zeros 18 14 r
+above-rest r g l = rw (g, lt-ltb (packedName r) (2 ^ 60) l)
 
 pub entry-view : (t r : List ℕ) → entryRight t r ≡ true → Entered t r
 unfolding entryRight joined
 entry-view t r e =
     let a = leb (entryCode r) 7 in
     let s =
-    leb (nameLength r) 10 ∷ zeros 20 12 r ∷ zeros (10 + nameLength r) (10 - nameLength r) r ∷ isKind 1 (rec t (headingNamed r)) ∷ linkName (nameOf r)
-    ∷ cond (isBase r) (baseRight r) (insideRight t r) ∷ [] in
+    boxed .asAbove r ∷ isKind 1 (rec t (headingNamed r)) ∷ linkName (nameOf boxed r) ∷ cond (isBase r) (baseRight r) (insideRight t r) ∷ [] in
     record {
       code = leb-true _ _ (joined-first a s e);
-      short = leb-true _ _ (joined-part a s 0 e);
-      rest = joined-part a s 1 e;
-      padded = joined-part a s 2 e;
-      named = joined-part a s 3 e;
-      link = joined-part a s 4 e;
-      place = joined-part a s 5 e;
+      laid = joined-part a s 0 e;
+      named = joined-part a s 1 e;
+      link = joined-part a s 2 e;
+      place = joined-part a s 3 e;
     }
 
 -- the place of an entry, as the clauses have it
@@ -168,12 +182,12 @@ base-user t r e = go (truth (isBase r))
     go (inl b) = rw b (and-left (leb (userOf r) 999999) _ (rw b at e))
     go (inr b) = rw b (and-right (directory (rec t (holderOf r))) _ (rw b at e))
 
-pub base-legal : (t r : List ℕ) → cond (isBase r) (baseRight r) (insideRight t r) ≡ true → implies (isBase r) (legalBase (nameOf r)) ≡ true
+pub base-legal : (t r : List ℕ) → cond (isBase r) (baseRight r) (insideRight t r) ≡ true → implies (isBase r) (legalBase (nameOf boxed r)) ≡ true
 unfolding baseRight
 base-legal t r e = implies-by (isBase r) _ (λ b. and-right (leb (userOf r) 999999) _ (rw b at e))
 
 pub base-place : (t r : List ℕ) → (isBase r || directory (rec t (holderOf r))) ≡ true → cond (isBase r) (leb (userOf r) 999999) (eqb (userOf r) 0) ≡ true
-    → implies (isBase r) (legalBase (nameOf r)) ≡ true → cond (isBase r) (baseRight r) (insideRight t r) ≡ true
+    → implies (isBase r) (legalBase (nameOf boxed r)) ≡ true → cond (isBase r) (baseRight r) (insideRight t r) ≡ true
 unfolding insideRight baseRight
 base-place t r p u n = go (truth (isBase r))
   where
@@ -204,13 +218,13 @@ text-full r k g = text-left r (omega arith) (omega arith) g ∙ rw k (zeros-none
 pub entry-not : (t r : List ℕ) → (Entered t r → ⊥) → entryRight t r ≡ false
 entry-not t r n = false-by (entryRight t r) (λ e. n (entry-view t r e))
 
-pub entry-left : (t r : List ℕ) → entryCode r ≤ 7 → nameLength r ≤ 10 → zeros 20 12 r ≡ true → zeros (10 + nameLength r) (10 - nameLength r) r ≡ true
-    → isKind 1 (rec t (headingNamed r)) ≡ true → linkName (nameOf r) ≡ true → entryRight t r ≡ cond (isBase r) (baseRight r) (insideRight t r)
+pub entry-left : (t r : List ℕ) → entryCode r ≤ 7 → boxed .asAbove r ≡ true → isKind 1 (rec t (headingNamed r)) ≡ true
+    → linkName (nameOf boxed r) ≡ true → entryRight t r ≡ cond (isBase r) (baseRight r) (insideRight t r)
 unfolding entryRight
-entry-left t r a b d e f g = rw (le-leb (entryCode r) 7 a, le-leb (nameLength r) 10 b, d, e, f, g)
+entry-left t r a b d e = rw (le-leb (entryCode r) 7 a, b, d, e)
 
 pub entry-made : (t r : List ℕ) → Entered t r → entryRight t r ≡ true
-entry-made t r h = entry-left t r (h .code) (h .short) (h .rest) (h .padded) (h .named) (h .link) ∙ h .place
+entry-made t r h = entry-left t r (h .code) (h .laid) (h .named) (h .link) ∙ h .place
 
 -- an entry that is no base file's
 pub inside-not : (t r : List ℕ) → isBase r ≡ false → directory (rec t (holderOf r)) ≡ false → entryRight t r ≡ false

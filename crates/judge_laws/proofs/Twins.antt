@@ -1,9 +1,9 @@
--- Twins: entries that stand in one place and bear one name, found in the chains by a hash of what they share.
+-- Twins: entries that stand in one place and bear one number, found in the chains by a hash of what they share.
 -- A twin has the same hash, so it is in the bucket; the walk down the bucket meets the last one first.
 use mathlib.Core.Bool.{true, false}
 use mathlib.Core.List.{List}
-use mathlib.Core.Path.{_≡_, sym, _∙_}
-use Prim.Native.Nat.{ℕ, _+_, _-_, _≤_, _<_}
+use mathlib.Core.Path.{_≡_, sym}
+use Prim.Native.Nat.{ℕ, _-_, _≤_, _<_}
 use native.Mathlib.Omega.{arith}
 use lib.ListN.{getD}
 use lib.Dec.{eqb}
@@ -11,16 +11,16 @@ use borrow.Author.Tests.{eqb-true, eq-eqb}
 use Rattle.judge_laws.specs.Chains.{inBucket, lastIn, Linked}
 use Rattle.judge_laws.specs.Twins.{twin, twinTo, single, noTwins, hashOf}
 use Rattle.paper.specs.Entry.{holder, stands}
-use Rattle.paper.specs.Number.{numberAt}
-use Rattle.paper.specs.Record.{byte, two, isKind, holderOf, userOf}
+use Rattle.paper.specs.Layout.{packedName}
+use Rattle.paper.specs.Record.{isKind, holderOf, userOf}
 use Rattle.paper.specs.Scan.{anyBelow}
 use Rattle.paper.specs.Table.{rooms, rec}
 use Rattle.judge_laws.proofs.Chains.{Walk, walk-start, walk-end, walk-found, walk-on}
 use Rattle.judge_laws.proofs.Lasts.{last-none, last-some}
-use Rattle.laws.proofs.Numbers.{number-two, number-cong}
-use Rattle.laws.proofs.Scans.{all-true, all-here, all-false}
+use Rattle.laws.proofs.Scans.{all-here, all-false}
 use Rattle.laws.proofs.Entries.{stands-true, stands-by}
 use Rattle.laws.proofs.Tests.{and-left, and-right, and-both, false-by}
+use Rattle.judge_laws.proofs.Tests.{and-past}
 
 pub hash-below : (r : List ℕ) → hashOf r < 2048
 unfolding hashOf
@@ -31,7 +31,7 @@ pub record Alike (a b : List ℕ) : Type 0 where
   pub kind : isKind 2 b ≡ true
   pub place : holderOf b ≡ holderOf a
   pub user : userOf b ≡ userOf a
-  pub bytes : (j : ℕ) → j < 11 → byte a (9 + j) ≡ byte b (9 + j)
+  pub name : packedName b ≡ packedName a
 
 pub twin-alike : (a b : List ℕ) → twin a b ≡ true → Alike a b
 twin-alike a b e =
@@ -40,28 +40,18 @@ twin-alike a b e =
       kind = eq-eqb _ _ (s .kind);
       place = s .heading;
       user = s .user;
-      bytes = λ j l. eqb-true _ _ (all-true (λ j. eqb (byte a (9 + j)) (byte b (9 + j))) 11 j l (and-right (stands (holder a) b) _ e));
+      name = sym (eqb-true _ _ (and-right (stands (holder a) b) _ e));
     }
 
 pub alike-twin : (a b : List ℕ) → Alike a b → twin a b ≡ true
 alike-twin a b s =
     and-both (stands (holder a) b) _ (stands-by (holder a) b (record { kind = eqb-true _ _ (s .kind); heading = s .place; user = s .user }))
-    (all-here (λ j. eqb (byte a (9 + j)) (byte b (9 + j))) 11 (λ j l. eq-eqb _ _ (s .bytes j l)))
-
-pub two-alike : (a b : List ℕ) → Alike a b → (j : ℕ) → j < 10 → two b (9 + j) ≡ two a (9 + j)
-two-alike a b s j l =
-    let q : 9 + j + 1 ≡ 9 + (j + 1) = omega arith in
-    number-two b (9 + j) ∙ rw (q, ← (s .bytes j (omega arith)), ← (s .bytes (j + 1) (omega arith)), ← q) (sym (number-two a (9 + j)))
+    (eq-eqb _ _ (sym (s .name)))
 
 -- twins have one hash
 pub hash-alike : (a b : List ℕ) → Alike a b → hashOf b ≡ hashOf a
 unfolding hashOf
-hash-alike a b s =
-    rw (s .place, s .user, w 0 (omega arith), w 4 (omega arith), w 7 (omega arith))
-  where
-    w : (j : ℕ) → j < 8 → numberAt 4 b (9 + j) ≡ numberAt 4 a (9 + j)
-    w j l =
-        number-cong 4 b a (9 + j) (9 + j) (λ i m. let q : 9 + j + i ≡ 9 + (j + i) = omega arith in rw q (sym (s .bytes (j + i) (omega arith))))
+hash-alike a b s = rw (s .place, s .user, s .name)
 
 twin-bucket : (t : List ℕ) (i j : ℕ) → twinTo t i j ≡ true → inBucket hashOf t (hashOf (rec t i)) j ≡ true
 twin-bucket t i j e =
@@ -103,5 +93,6 @@ module _ (a b : List ℕ) where
   pub twin-not-user : (userOf a ≡ userOf b → ⊥) → twin a b ≡ false
   twin-not-user n = false-by (twin a b) (λ e. n (sym (twin-alike a b e .user)))
 
-  pub twin-not-byte : (j : ℕ) → j < 11 → (byte a (9 + j) ≡ byte b (9 + j) → ⊥) → twin a b ≡ false
-  twin-not-byte j l n = false-by (twin a b) (λ e. n (twin-alike a b e .bytes j l))
+  pub twin-name : isKind 2 b ≡ true → holderOf a ≡ holderOf b → userOf a ≡ userOf b → twin a b ≡ eqb (packedName a) (packedName b)
+  twin-name k p u =
+      and-past (stands (holder a) b) _ (stands-by (holder a) b (record { kind = eqb-true _ _ k; heading = sym p; user = sym u }))

@@ -4,6 +4,7 @@ use mathlib.Core.List.{List}
 use Prim.Native.Nat.{ℕ}
 use Rattle.paper.specs.Count.{countsRight}
 use Rattle.paper.specs.Record.{isKind}
+use Rattle.paper.specs.Layout.{boxed}
 use Rattle.paper.specs.Table.{rec}
 use Rattle.paper.specs.Entry.{named}
 use Rattle.paper.specs.Sound.{implies, allNamed, countsTrue, shaped}
@@ -18,4 +19,4 @@ allHeaded counted t = allNamed t && implies counted (countsTrue t)
 
 -- sound or, where counts are not judged, all of it but the counts
 unfoldable pub soundBut : Bool → List ℕ → Bool
-soundBut counted t = shaped t && implies counted (countsTrue t)
+soundBut counted t = shaped boxed t && implies counted (countsTrue t)

@@ -4,6 +4,7 @@ pub mod Chains
 pub mod Crowds
 pub mod Twins
 pub mod Order
+pub mod Codes
 pub mod Shapes
 pub mod Mask
 pub mod Pass

@@ -8,6 +8,7 @@ use native.Mathlib.Omega.{arith}
 use native.Mathlib.Numerals.{add-one}
 use lib.ListN.{take, drop}
 use borrow.Author.Tests.{ne-eqb}
+use Rattle.paper.specs.Layout.{boxed}
 use Rattle.paper.specs.Answer.{requested}
 use Rattle.paper.specs.Table.{rec}
 use Rattle.demands.proofs.Answered.{answered}
@@ -32,19 +33,19 @@ sheet-at sheets texts link text at n i a b c d = rw (a, b, c, d)
 -- ---- one request, by a line cut one byte past what the box reads
 
 pub asked-filed : (t chain link text line : List ℕ) (u k : ℕ) (r : Answer) (v w : List ℕ) → line ≡ take 257 (wrsLine chain link)
-    → Promised (requested t line text [] u k) r v w → Asked (filed t chain u k (sheetOf link text)) k r v
+    → Promised (requested boxed t line text [] u k) r v w → Asked (filed t chain u k (sheetOf link text)) k r v
 unfolding filed
 asked-filed t chain link text line u k r v w e p =
-    let q : requested t line text [] u k ≡ requested t (wrsLine chain link) text [] u k = rw e (line-cut t (wrsLine chain link) text [] u k) in
+    let q : requested boxed t line text [] u k ≡ requested boxed t (wrsLine chain link) text [] u k = rw e (line-cut t (wrsLine chain link) text [] u k) in
     let a = answered t (wrsLine chain link) text [] u k in
-    let n : r ≡ shown (requested t (wrsLine chain link) text [] u k .answer) = rw q at (p .answer) in
+    let n : r ≡ shown (requested boxed t (wrsLine chain link) text [] u k .answer) = rw q at (p .answer) in
     record { answer = n; table = rw q at (p .table); most = rw n (a .stores) }
 
 pub promised-read : (t chain back link line : List ℕ) (u : ℕ) (r : Answer) (v w : List ℕ) → line ≡ take 257 (rdsLine chain link)
-    → Promised (requested t line [] back u 0) r v w → Promised (readBack t chain back u (sheetOf link [])) r v w
+    → Promised (requested boxed t line [] back u 0) r v w → Promised (readBack t chain back u (sheetOf link [])) r v w
 unfolding readBack
 promised-read t chain back link line u r v w e p =
-    let q : requested t line [] back u 0 ≡ requested t (rdsLine chain link) [] back u 0 = rw e (line-cut t (rdsLine chain link) [] back u 0) in
+    let q : requested boxed t line [] back u 0 ≡ requested boxed t (rdsLine chain link) [] back u 0 = rw e (line-cut t (rdsLine chain link) [] back u 0) in
     rw q at p
 
 -- a reading goes by the sheet's link alone

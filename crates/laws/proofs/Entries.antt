@@ -8,7 +8,8 @@ use lib.Dec.{eqb, leb}
 use lib.ListN.{length}
 use borrow.Author.Tests.{eqb-true, eq-eqb, leb-true}
 use Rattle.paper.specs.Scan.{at}
-use Rattle.paper.specs.Record.{byte, isKind, headingType, holderOf, headingNamed, userOf, nameOf, names, headingOf, position, textAt}
+use Rattle.paper.specs.Record.{byte, isKind, headingType, holderOf, headingNamed, userOf, names, headingOf, position, textAt}
+use Rattle.paper.specs.Layout.{nameOf, boxed}
 use Rattle.paper.specs.Table.{rooms, rec}
 use Rattle.paper.specs.Name.{same, linkName}
 use Rattle.paper.specs.Entry.{Holder, holder, stands, bears, find}
@@ -62,40 +63,40 @@ pub stands-holder : (d : Holder) (r : List ℕ) → Stands d r → holder r ≡ 
 stands-holder d r s = λ i. record { heading = s .heading i; user = s .user i }
 
 -- .. and bears the name n
-pub bears-stands : (d : Holder) (n r : List ℕ) → bears d n r ≡ true → Stands d r
+pub bears-stands : (d : Holder) (n r : List ℕ) → bears boxed d n r ≡ true → Stands d r
 unfolding bears
 bears-stands d n r e = stands-true d r (and-left _ _ e)
 
-pub bears-name : (d : Holder) (n r : List ℕ) → bears d n r ≡ true → n ≡ nameOf r
+pub bears-name : (d : Holder) (n r : List ℕ) → bears boxed d n r ≡ true → n ≡ nameOf boxed r
 unfolding bears
 bears-name d n r e = same-true _ _ (and-right (stands d r) _ e)
 
-pub bears-by : (d : Holder) (n r : List ℕ) → Stands d r → n ≡ nameOf r → bears d n r ≡ true
+pub bears-by : (d : Holder) (n r : List ℕ) → Stands d r → n ≡ nameOf boxed r → bears boxed d n r ≡ true
 unfolding bears
 bears-by d n r s e = and-both (stands d r) _ (stands-by d r s) (eq-same _ _ e)
 
 -- an entry bears its own name
-pub bears-own : (r : List ℕ) → byte r 0 ≡ 2 → bears (holder r) (nameOf r) r ≡ true
-bears-own r k = bears-by (holder r) (nameOf r) r (record { kind = k; heading = refl; user = refl }) refl
+pub bears-own : (r : List ℕ) → byte r 0 ≡ 2 → bears boxed (holder r) (nameOf boxed r) r ≡ true
+bears-own r k = bears-by (holder r) (nameOf boxed r) r (record { kind = k; heading = refl; user = refl }) refl
 
 -- two entries that bear one name in one place: the second bears the first's
-pub bears-both : (d : Holder) (n a b : List ℕ) → bears d n a ≡ true → bears d n b ≡ true → bears (holder a) (nameOf a) b ≡ true
+pub bears-both : (d : Holder) (n a b : List ℕ) → bears boxed d n a ≡ true → bears boxed d n b ≡ true → bears boxed (holder a) (nameOf boxed a) b ≡ true
 bears-both d n a b x y =
     let s = bears-stands d n a x in
     let u = bears-stands d n b y in
-    bears-by (holder a) (nameOf a) b (record { kind = u .kind; heading = u .heading ∙ sym (s .heading); user = u .user ∙ sym (s .user) })
+    bears-by (holder a) (nameOf boxed a) b (record { kind = u .kind; heading = u .heading ∙ sym (s .heading); user = u .user ∙ sym (s .user) })
     (sym (bears-name d n a x) ∙ bears-name d n b y)
 
 -- .. and so the first the second's
-pub bears-back : (a b : List ℕ) → byte a 0 ≡ 2 → bears (holder a) (nameOf a) b ≡ true → bears (holder b) (nameOf b) a ≡ true
-bears-back a b k e = bears-both (holder a) (nameOf a) b a e (bears-own a k)
+pub bears-back : (a b : List ℕ) → byte a 0 ≡ 2 → bears boxed (holder a) (nameOf boxed a) b ≡ true → bears boxed (holder b) (nameOf boxed b) a ≡ true
+bears-back a b k e = bears-both (holder a) (nameOf boxed a) b a e (bears-own a k)
 
 -- what is found under a name in d bears it there
-pub found-bears : (t : List ℕ) (d : Holder) (n : List ℕ) (e : ℕ) → find t d n ≡ at e → (e < rooms t) × (bears d n (rec t e) ≡ true)
+pub found-bears : (t : List ℕ) (d : Holder) (n : List ℕ) (e : ℕ) → find boxed t d n ≡ at e → (e < rooms t) × (bears boxed d n (rec t e) ≡ true)
 unfolding find
-found-bears t d n e q = let f = first-at (λ i. bears d n (rec t i)) (rooms t) e q in (f .below, f .passes)
+found-bears t d n e q = let f = first-at (λ i. bears boxed d n (rec t i)) (rooms t) e q in (f .below, f .passes)
 
-pub found-stands : (t : List ℕ) (d : Holder) (n : List ℕ) (e : ℕ) → find t d n ≡ at e → (e < rooms t) × Stands d (rec t e)
+pub found-stands : (t : List ℕ) (d : Holder) (n : List ℕ) (e : ℕ) → find boxed t d n ≡ at e → (e < rooms t) × Stands d (rec t e)
 found-stands t d n e q = let f = found-bears t d n e q in (f .0, bears-stands d n (rec t e) (f .1))
 
 -- an entry that names heading h

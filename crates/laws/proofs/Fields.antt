@@ -1,21 +1,25 @@
--- Records built from their fields: a number that fits its bytes comes back from them, and what was padded with zeros
--- comes back by its length. So each record has 32 bytes and reads in each field what was put there.
+-- Records built from their fields: a number that fits its bytes comes back from them, a link name from its number, and what was
+-- padded with zeros by its length. So each record has 32 bytes and reads in each field what was put there.
 use mathlib.Core.Bool.{true}
-use mathlib.Core.List.{List, _∷_, _++_, append-assoc}
+use mathlib.Core.List.{List, _∷_, _++_}
 use mathlib.Core.Logic.{by-cases}
 use mathlib.Core.Path.{_≡_, refl, sym, ap, _∙_}
 use Prim.Native.Nat.{ℕ, suc, _+_, _-_, _^_, _≤_, _<_}
 use native.Mathlib.Omega.{arith}
 use native.Mathlib.Decide.{decLt}
-use lib.ListN.{length, getD, drop, replicate, length-append, length-replicate, getD-replicate, replicate-append-replicate, List·getD-eq-default}
-use lib.Seq.{getD-at, drop-append-add, getD-append-add, getD-drop, take-append-seam, take-at}
+use lib.ListN.{length, getD, drop, replicate, length-append, length-replicate, getD-replicate, List·getD-eq-default}
+use lib.Seq.{getD-at, drop-append-add, getD-append-add, getD-drop, take-append-seam}
 use lib.Dec.{eqb}
-use borrow.Author.Tests.{eq-eqb}
+use borrow.Author.Tests.{eq-eqb, lt-ltb}
 use Rattle.paper.specs.Number.{numberAt, bytesOf}
 use Rattle.paper.specs.Scan.{allBelow}
-use Rattle.paper.specs.Record.{byte, headingType, headingCode, mark, textLength, entryCode, holderOf, headingNamed, userOf, nameLength, nameOf, bytesHeld, headingOf, position, held, zeros, padded, headingRecord, nameField, entryRecord, textRecord}
-use Rattle.laws.proofs.Numbers.{number-drop, number-bytes}
+use Rattle.paper.specs.Record.{byte, headingType, headingCode, mark, textLength, entryCode, holderOf, headingNamed, userOf, bytesHeld, headingOf, position, held, zeros, padded, headingRecord, textRecord}
+use Rattle.paper.specs.Layout.{nameOf, nameField, entryRecord, packed, packedName, sixName, sixField, boxed}
+use Rattle.paper.specs.Name.{linkName}
+use Rattle.laws.proofs.Tests.{and-both}
+use Rattle.laws.proofs.Numbers.{length-bytes, number-drop, number-bytes}
 use Rattle.laws.proofs.Scans.{all-here}
+use Rattle.laws.proofs.Packing.{packed-less, unpacked-packed}
 
 -- ---- zeros, and what is padded with them
 
@@ -70,52 +74,56 @@ module _ (type lev code life n : ℕ) where
 
 -- ---- an entry
 
-pub length-name : (name : List ℕ) → length name ≤ 10 → length (nameField name) ≡ 23
-unfolding nameField
-length-name name l = rw (length-append, length-padded 10 name l)
+-- bytes 9-31 begin with byte 9 and the number of the name, nine bytes in all
+length-number : (name : List ℕ) → length (0 ∷ bytesOf 8 (packed name)) ≡ 9
+length-number name = ap suc (length-bytes 8 (packed name))
+
+pub length-name : (name : List ℕ) → length (nameField boxed name) ≡ 23
+unfolding sixField
+length-name name = rw (length-append, length-bytes)
 
 -- a record whose first nine bytes are followed by a name
 module _ (front name : List ℕ) (e : length front ≡ 9) where
-  pub name-size : nameLength (front ++ nameField name) ≡ length name
-  unfolding nameField
-  name-size = getD-at front (length name) (padded 10 name ++ replicate 12 0) 0 9 e
+  pub name-total : length (front ++ nameField boxed name) ≡ 32
+  name-total = rw (length-append, length-name name, e)
 
-  pub name-after : (i : ℕ) → byte (front ++ nameField name) (10 + (length name + i)) ≡ 0
-  unfolding nameField
-  name-after i =
-      let p : 10 + (length name + i) ≡ length front + suc (length name + i) = omega arith in
-      rw (p, getD-append-add front (nameField name) (suc (length name + i)) 0)
-      (rw (append-assoc name, replicate-append-replicate) (zero-after name (10 - length name + 12) i))
+  -- its number
+  pub name-number : packedName (front ++ nameField boxed name) ≡ packed name
+  unfolding sixField
+  name-number =
+      number-field 8 (packed name) 10 (front ++ nameField boxed name) (replicate 14 0) (omega (arith, packed-less name))
+      (rw e at (drop-append-add front (nameField boxed name) 1))
 
-  -- past the name all is zero
-  pub name-zeros : (j m : ℕ) → 10 + length name ≤ j → zeros j m (front ++ nameField name) ≡ true
-  name-zeros j m l =
-      zeros-by j m (front ++ nameField name)
+  -- before the number a zero, after it zeros
+  pub name-first : byte (front ++ nameField boxed name) 9 ≡ 0
+  unfolding sixField
+  name-first = getD-at front 0 (bytesOf 8 (packed name) ++ replicate 14 0) 0 9 e
+
+  pub name-zeros : zeros 18 14 (front ++ nameField boxed name) ≡ true
+  unfolding sixField
+  name-zeros =
+      zeros-by 18 14 (front ++ nameField boxed name)
       (λ i _.
-      let k : ℕ = j - (10 + length name) + i in
-      let p : j + i ≡ 10 + (length name + k) = omega arith in
-      rw p (name-after k))
+      let p : 18 + i ≡ length front + (9 + i) = omega arith in
+      rw (p, getD-append-add front (nameField boxed name) (9 + i) 0)
+      (rw (length-number name) at (zero-after (0 ∷ bytesOf 8 (packed name)) 14 i)))
 
-  pub name-padded : zeros (10 + nameLength (front ++ nameField name)) (10 - nameLength (front ++ nameField name)) (front ++ nameField name) ≡ true
-  name-padded = rw name-size (name-zeros (10 + length name) (10 - length name) (omega arith))
+  -- so it is "as above", and a link name comes back
+  pub name-above : boxed .asAbove (front ++ nameField boxed name) ≡ true
+  name-above =
+      let l : packedName (front ++ nameField boxed name) < 2 ^ 60 = rw name-number (packed-less name) in
+      and-both _ _ (and-both _ _ (eq-eqb _ _ name-first) (lt-ltb _ _ l)) name-zeros
 
-  module _ (l : length name ≤ 10) where
-    pub name-total : length (front ++ nameField name) ≡ 32
-    name-total = rw (length-append, length-name name l, e)
-
-    pub name-there : nameOf (front ++ nameField name) ≡ name
-    unfolding nameOf nameField
-    name-there =
-        let d : drop 10 (front ++ nameField name) ≡ padded 10 name ++ replicate 12 0 = rw e at (drop-append-add front (nameField name) 1) in
-        rw (name-size, d, take-at (padded 10 name) (replicate 12 0) 10 (length-padded 10 name l))
-        (take-append-seam name (replicate (10 - length name) 0))
+  pub name-there : linkName name ≡ true → nameOf boxed (front ++ nameField boxed name) ≡ name
+  unfolding sixName
+  name-there k = rw name-number (unpacked-packed name k)
 
 module _ (code holder heading user : ℕ) (name : List ℕ) where
   -- the bytes before the name
   abbrev front : List ℕ
   front = 2 ∷ code ∷ bytesOf 2 holder ++ bytesOf 2 heading ++ bytesOf 3 user
 
-  is-entry : entryRecord code holder heading user name ≡ front ++ nameField name
+  is-entry : entryRecord boxed code holder heading user name ≡ front ++ nameField boxed name
   unfolding entryRecord bytesOf
   is-entry = refl
 
@@ -123,42 +131,39 @@ module _ (code holder heading user : ℕ) (name : List ℕ) where
   unfolding bytesOf
   front-nine = refl
 
-  pub entry-record-kind : byte (entryRecord code holder heading user name) 0 ≡ 2
+  pub entry-record-kind : byte (entryRecord boxed code holder heading user name) 0 ≡ 2
   unfolding entryRecord
   entry-record-kind = refl
 
-  pub entry-code : entryCode (entryRecord code holder heading user name) ≡ code
+  pub entry-code : entryCode (entryRecord boxed code holder heading user name) ≡ code
   unfolding entryRecord
   entry-code = refl
 
-  pub length-entry : length name ≤ 10 → length (entryRecord code holder heading user name) ≡ 32
-  length-entry l = rw is-entry (name-total front name front-nine l)
+  pub length-entry : length (entryRecord boxed code holder heading user name) ≡ 32
+  length-entry = rw is-entry (name-total front name front-nine)
 
-  pub entry-name : length name ≤ 10 → nameOf (entryRecord code holder heading user name) ≡ name
-  entry-name l = rw is-entry (name-there front name front-nine l)
+  pub entry-name : linkName name ≡ true → nameOf boxed (entryRecord boxed code holder heading user name) ≡ name
+  entry-name k = rw is-entry (name-there front name front-nine k)
 
-  pub entry-size : nameLength (entryRecord code holder heading user name) ≡ length name
-  entry-size = rw is-entry (name-size front name front-nine)
+  pub entry-number : packedName (entryRecord boxed code holder heading user name) ≡ packed name
+  entry-number = rw is-entry (name-number front name front-nine)
 
-  -- past the name all is zero
-  pub entry-padded : zeros (10 + nameLength (entryRecord code holder heading user name)) (10 - nameLength (entryRecord code holder heading user name))
-      (entryRecord code holder heading user name) ≡ true
-  entry-padded = rw is-entry (name-padded front name front-nine)
+  -- the name's bytes are "as above"
+  pub entry-above : boxed .asAbove (entryRecord boxed code holder heading user name) ≡ true
+  entry-above = rw is-entry (name-above front name front-nine)
 
-  pub entry-rest : length name ≤ 10 → zeros 20 12 (entryRecord code holder heading user name) ≡ true
-  entry-rest l = rw is-entry (name-zeros front name front-nine 20 12 (omega arith))
-
-  pub entry-holder : holder < 256 ^ 2 → holderOf (entryRecord code holder heading user name) ≡ holder
+  pub entry-holder : holder < 256 ^ 2 → holderOf (entryRecord boxed code holder heading user name) ≡ holder
   unfolding entryRecord bytesOf
-  entry-holder l = number-field 2 holder 2 (entryRecord code holder heading user name) (bytesOf 2 heading ++ bytesOf 3 user ++ nameField name) l refl
+  entry-holder l =
+      number-field 2 holder 2 (entryRecord boxed code holder heading user name) (bytesOf 2 heading ++ bytesOf 3 user ++ nameField boxed name) l refl
 
-  pub entry-heading : heading < 256 ^ 2 → headingNamed (entryRecord code holder heading user name) ≡ heading
+  pub entry-heading : heading < 256 ^ 2 → headingNamed (entryRecord boxed code holder heading user name) ≡ heading
   unfolding entryRecord bytesOf
-  entry-heading l = number-field 2 heading 4 (entryRecord code holder heading user name) (bytesOf 3 user ++ nameField name) l refl
+  entry-heading l = number-field 2 heading 4 (entryRecord boxed code holder heading user name) (bytesOf 3 user ++ nameField boxed name) l refl
 
-  pub entry-user : user < 256 ^ 3 → userOf (entryRecord code holder heading user name) ≡ user
+  pub entry-user : user < 256 ^ 3 → userOf (entryRecord boxed code holder heading user name) ≡ user
   unfolding entryRecord bytesOf
-  entry-user l = number-field 3 user 6 (entryRecord code holder heading user name) (nameField name) l refl
+  entry-user l = number-field 3 user 6 (entryRecord boxed code holder heading user name) (nameField boxed name) l refl
 
 -- ---- a text record
 

@@ -5,9 +5,11 @@ pub mod Digits
 pub mod Scans
 pub mod Counts
 pub mod Lists
--- records built and read, names and entries, blocks of text
-pub mod Fields
+-- names and entries, six-bit names, records built and read, blocks of text
 pub mod Entries
+pub mod Packing
+pub mod Places
+pub mod Fields
 pub mod Blocks
 -- a table: one store, a list of stores, records laid by a test, counts corrected, its free records
 pub mod Lay

@@ -12,7 +12,7 @@ use lib.ListN.{length}
 use lib.Dec.{eqb, ltb}
 use borrow.Author.Tests.{ltb-true, ltb-false, lt-ltb, le-ltb, eqb-true, eq-eqb, ne-eqb}
 use Rattle.paper.specs.Scan.{joinBelow, listBelow}
-use Rattle.paper.specs.Record.{nameOf}
+use Rattle.paper.specs.Layout.{nameOf, boxed}
 use Rattle.paper.specs.Table.{rooms, rec}
 use Rattle.paper.specs.Name.{before}
 use Rattle.paper.specs.Listing.{insert, inOrder, listed}
@@ -110,44 +110,44 @@ pairs-below p (suc n) = go (p n) (pairs-below p n)
 module _ (t : List ℕ) where
   -- the name of entry i is before that of entry j
   abbrev pub Ahead : ℕ → ℕ → Type 0
-  Ahead i j = before (nameOf (rec t i)) (nameOf (rec t j)) ≡ true
+  Ahead i j = before (nameOf boxed (rec t i)) (nameOf boxed (rec t j)) ≡ true
 
   -- the two bear different names
   abbrev pub Unlike : ℕ → ℕ → Type 0
-  Unlike i j = nameOf (rec t i) ≡ nameOf (rec t j) → ⊥
+  Unlike i j = nameOf boxed (rec t i) ≡ nameOf boxed (rec t j) → ⊥
 
-  every-insert : (P : ℕ → Type 0) (e : ℕ) (is : List ℕ) → P e → Every P is → Every P (insert t e is)
+  every-insert : (P : ℕ → Type 0) (e : ℕ) (is : List ℕ) → P e → Every P is → Every P (insert boxed t e is)
   unfolding insert
   every-insert P e [] p h = (p, tt)
-  every-insert P e (i ∷ is) p h = go (before (nameOf (rec t e)) (nameOf (rec t i))) (every-insert P e is p (h .1))
+  every-insert P e (i ∷ is) p h = go (before (nameOf boxed (rec t e)) (nameOf boxed (rec t i))) (every-insert P e is p (h .1))
     where
-      go : (b : Bool) → Every P (insert t e is) → Every P (cond b (e ∷ i ∷ is) (i ∷ insert t e is))
+      go : (b : Bool) → Every P (insert boxed t e is) → Every P (cond b (e ∷ i ∷ is) (i ∷ insert boxed t e is))
       go true r = (p, h)
       go false r = (h .0, r)
 
-  pub every-order : (P : ℕ → Type 0) (es : List ℕ) → Every P es → Every P (inOrder t es)
+  pub every-order : (P : ℕ → Type 0) (es : List ℕ) → Every P es → Every P (inOrder boxed t es)
   unfolding inOrder
   every-order P [] h = tt
-  every-order P (e ∷ es) h = every-insert P e (inOrder t es) (h .0) (every-order P es (h .1))
+  every-order P (e ∷ es) h = every-insert P e (inOrder boxed t es) (h .0) (every-order P es (h .1))
 
-  insert-ahead : (e : ℕ) (is : List ℕ) → Every (Unlike e) is → Pairs Ahead is → Pairs Ahead (insert t e is)
+  insert-ahead : (e : ℕ) (is : List ℕ) → Every (Unlike e) is → Pairs Ahead is → Pairs Ahead (insert boxed t e is)
   unfolding insert
   insert-ahead e [] u h = (tt, tt)
-  insert-ahead e (i ∷ is) u h = go (before (nameOf (rec t e)) (nameOf (rec t i))) refl (insert-ahead e is (u .1) (h .1))
+  insert-ahead e (i ∷ is) u h = go (before (nameOf boxed (rec t e)) (nameOf boxed (rec t i))) refl (insert-ahead e is (u .1) (h .1))
     where
-      go : (b : Bool) → before (nameOf (rec t e)) (nameOf (rec t i)) ≡ b → Pairs Ahead (insert t e is)
-          → Pairs Ahead (cond b (e ∷ i ∷ is) (i ∷ insert t e is))
+      go : (b : Bool) → before (nameOf boxed (rec t e)) (nameOf boxed (rec t i)) ≡ b → Pairs Ahead (insert boxed t e is)
+          → Pairs Ahead (cond b (e ∷ i ∷ is) (i ∷ insert boxed t e is))
       go true q r = ((q, every-imp (Ahead i) (Ahead e) is (λ j k. before-transitive _ _ _ q k) (h .0)), h)
       go false q r = (
         every-insert (Ahead i) e is
-            (true-by (before (nameOf (rec t i)) (nameOf (rec t e))) (λ k. u .0 (before-total _ _ q k))) (h .0),
+            (true-by (before (nameOf boxed (rec t i)) (nameOf boxed (rec t e))) (λ k. u .0 (before-total _ _ q k))) (h .0),
         r,
       )
 
-  pub order-ahead : (es : List ℕ) → Pairs Unlike es → Pairs Ahead (inOrder t es)
+  pub order-ahead : (es : List ℕ) → Pairs Unlike es → Pairs Ahead (inOrder boxed t es)
   unfolding inOrder
   order-ahead [] h = tt
-  order-ahead (e ∷ es) h = insert-ahead e (inOrder t es) (every-order (Unlike e) es (h .0)) (order-ahead es (h .1))
+  order-ahead (e ∷ es) h = insert-ahead e (inOrder boxed t es) (every-order (Unlike e) es (h .0)) (order-ahead es (h .1))
 
 -- ---- how often an entry stands in a list
 
@@ -179,22 +179,22 @@ times-swap i e j js = go (eqb i e) (eqb i j)
     go false true = refl
     go false false = refl
 
-times-insert : (t : List ℕ) (i e : ℕ) (js : List ℕ) → times i (insert t e js) ≡ times i (e ∷ js)
+times-insert : (t : List ℕ) (i e : ℕ) (js : List ℕ) → times i (insert boxed t e js) ≡ times i (e ∷ js)
 unfolding insert
 times-insert t i e [] = refl
-times-insert t i e (j ∷ js) = go (before (nameOf (rec t e)) (nameOf (rec t j))) (times-insert t i e js)
+times-insert t i e (j ∷ js) = go (before (nameOf boxed (rec t e)) (nameOf boxed (rec t j))) (times-insert t i e js)
   where
-    later : times i (insert t e js) ≡ times i (e ∷ js) → times i (j ∷ insert t e js) ≡ times i (j ∷ e ∷ js)
+    later : times i (insert boxed t e js) ≡ times i (e ∷ js) → times i (j ∷ insert boxed t e js) ≡ times i (j ∷ e ∷ js)
     later r = unfold times in rw r
 
-    go : (b : Bool) → times i (insert t e js) ≡ times i (e ∷ js) → times i (cond b (e ∷ j ∷ js) (j ∷ insert t e js)) ≡ times i (e ∷ j ∷ js)
+    go : (b : Bool) → times i (insert boxed t e js) ≡ times i (e ∷ js) → times i (cond b (e ∷ j ∷ js) (j ∷ insert boxed t e js)) ≡ times i (e ∷ j ∷ js)
     go true r = refl
     go false r = later r ∙ sym (times-swap i e j js)
 
-pub times-order : (t : List ℕ) (i : ℕ) (es : List ℕ) → times i (inOrder t es) ≡ times i es
+pub times-order : (t : List ℕ) (i : ℕ) (es : List ℕ) → times i (inOrder boxed t es) ≡ times i es
 unfolding inOrder times
 times-order t i [] = refl
-times-order t i (e ∷ es) = times-insert t i e (inOrder t es) ∙ rw (times-order t i es)
+times-order t i (e ∷ es) = times-insert t i e (inOrder boxed t es) ∙ rw (times-order t i es)
 
 -- an item that stands in a list has what every item has
 pub times-every : (P : ℕ → Type 0) (i : ℕ) (js : List ℕ) → Every P js → 0 < times i js → P i
@@ -243,19 +243,19 @@ times-below p i (suc n) =
         (λ (l : ¬ (i < n)). rw (le-ltb i n (omega arith), le-ltb i (suc n) (omega arith))))
 
 -- as many are in order as there were
-length-insert : (t : List ℕ) (e : ℕ) (is : List ℕ) → length (insert t e is) ≡ length is + 1
+length-insert : (t : List ℕ) (e : ℕ) (is : List ℕ) → length (insert boxed t e is) ≡ length is + 1
 unfolding insert
 length-insert t e [] = refl
-length-insert t e (i ∷ is) = go (before (nameOf (rec t e)) (nameOf (rec t i))) (length-insert t e is)
+length-insert t e (i ∷ is) = go (before (nameOf boxed (rec t e)) (nameOf boxed (rec t i))) (length-insert t e is)
   where
-    go : (b : Bool) → length (insert t e is) ≡ length is + 1 → length (cond b (e ∷ i ∷ is) (i ∷ insert t e is)) ≡ length (i ∷ is) + 1
+    go : (b : Bool) → length (insert boxed t e is) ≡ length is + 1 → length (cond b (e ∷ i ∷ is) (i ∷ insert boxed t e is)) ≡ length (i ∷ is) + 1
     go true r = omega arith
     go false r = omega arith
 
-pub length-inOrder : (t es : List ℕ) → length (inOrder t es) ≡ length es
+pub length-inOrder : (t es : List ℕ) → length (inOrder boxed t es) ≡ length es
 unfolding inOrder
 length-inOrder t [] = refl
-length-inOrder t (e ∷ es) = length-insert t e (inOrder t es) ∙ omega (arith, length-inOrder t es)
+length-inOrder t (e ∷ es) = length-insert t e (inOrder boxed t es) ∙ omega (arith, length-inOrder t es)
 
 -- ---- the listing
 
@@ -267,11 +267,11 @@ pub record Listing (t : List ℕ) (test : List ℕ → Bool) (es : List ℕ) : T
 -- no two records that pass bear one name
 abbrev pub Apart : List ℕ → (List ℕ → Bool) → Type 0
 Apart t test =
-    (i j : ℕ) → i < rooms t → j < rooms t → test (rec t i) ≡ true → test (rec t j) ≡ true → nameOf (rec t i) ≡ nameOf (rec t j)
+    (i j : ℕ) → i < rooms t → j < rooms t → test (rec t i) ≡ true → test (rec t j) ≡ true → nameOf boxed (rec t i) ≡ nameOf boxed (rec t j)
     → i ≡ j
 
 -- where none do, the listing is one
-pub listing : (t : List ℕ) (test : List ℕ → Bool) → Apart t test → Listing t test (listed t test)
+pub listing : (t : List ℕ) (test : List ℕ → Bool) → Apart t test → Listing t test (listed boxed t test)
 unfolding listed
 listing t test a =
     record {
@@ -286,14 +286,14 @@ listing t test a =
 
 -- what holds of every record that passes holds of those listed
 pub every-listed : (P : ℕ → Type 0) (t : List ℕ) (test : List ℕ → Bool) → ((i : ℕ) → i < rooms t → test (rec t i) ≡ true → P i)
-    → Every P (listed t test)
+    → Every P (listed boxed t test)
 unfolding listed
 every-listed P t test h =
     every-order t P (listBelow (λ i. test (rec t i)) (rooms t))
     (every-imp _ P (listBelow (λ i. test (rec t i)) (rooms t)) (λ i k. h i (k .0) (k .1)) (every-below (λ i. test (rec t i)) (rooms t)))
 
 -- no more are listed than there are records
-pub few-listed : (t : List ℕ) (test : List ℕ → Bool) → length (listed t test) ≤ rooms t
+pub few-listed : (t : List ℕ) (test : List ℕ → Bool) → length (listed boxed t test) ≤ rooms t
 unfolding listed
 few-listed t test =
     rw (length-inOrder, length-list) (count-most (λ i. test (rec t i)) (rooms t))

@@ -9,6 +9,7 @@ use lib.Dec.{eqb, leb}
 use borrow.Author.Tests.{eqb-true, eq-eqb, leb-true}
 use Rattle.paper.specs.Scan.{allBelow}
 use Rattle.paper.specs.Record.{byte, isKind}
+use Rattle.paper.specs.Layout.{boxed}
 use Rattle.paper.specs.Table.{sized, rooms, rec}
 use Rattle.paper.specs.Sound.{implies, every, freeAsAbove, headingAsAbove, entryAsAbove, textAsAbove, asAbove, holdersThere, headingsThere, usersRight, namesPadded, noneTwice, allNamed, noneCrowded, directoriesPlain, textsWhole, noOtherText, namesLegal, shaped}
 use Rattle.laws.proofs.Tests.{and-left, and-right, implies-use, implies-by, joined, joined-first, joined-part}
@@ -20,26 +21,26 @@ sized-whole t e = (eqb-true _ _ (and-left (eqb (length t % 32) 0) _ e), leb-true
 
 -- the clauses of the computed test, each by itself
 pub record Tested (t : List ℕ) : Type 0 where
-  pub above : asAbove t ≡ true
+  pub above : asAbove boxed t ≡ true
   pub holders : holdersThere t ≡ true
   pub headings : headingsThere t ≡ true
   pub users : usersRight t ≡ true
-  pub padded : namesPadded t ≡ true
-  pub twice : noneTwice t ≡ true
+  pub padded : namesPadded boxed t ≡ true
+  pub twice : noneTwice boxed t ≡ true
   pub named : allNamed t ≡ true
   pub crowded : noneCrowded t ≡ true
   pub plain : directoriesPlain t ≡ true
   pub whole : textsWhole t ≡ true
   pub other : noOtherText t ≡ true
-  pub legal : namesLegal t ≡ true
+  pub legal : namesLegal boxed t ≡ true
 
-pub tested : (t : List ℕ) → shaped t ≡ true → Tested t
+pub tested : (t : List ℕ) → shaped boxed t ≡ true → Tested t
 unfolding shaped joined
 tested t e =
-    let a = asAbove t in
+    let a = asAbove boxed t in
     let s =
-    holdersThere t ∷ headingsThere t ∷ usersRight t ∷ namesPadded t ∷ noneTwice t ∷ allNamed t ∷ noneCrowded t ∷ directoriesPlain t ∷ textsWhole t
-    ∷ noOtherText t ∷ namesLegal t ∷ [] in
+    holdersThere t ∷ headingsThere t ∷ usersRight t ∷ namesPadded boxed t ∷ noneTwice boxed t ∷ allNamed t ∷ noneCrowded t ∷ directoriesPlain t ∷ textsWhole t
+    ∷ noOtherText t ∷ namesLegal boxed t ∷ [] in
     record {
       above = joined-first a s e;
       holders = joined-part a s 0 e;
@@ -55,7 +56,7 @@ tested t e =
       legal = joined-part a s 10 e;
     }
 
-pub untested : (t : List ℕ) → Tested t → shaped t ≡ true
+pub untested : (t : List ℕ) → Tested t → shaped boxed t ≡ true
 unfolding shaped
 untested t c =
     rw (c .above, c .holders, c .headings, c .users, c .padded, c .twice, c .named, c .crowded, c .plain, c .whole, c .other, c .legal)
@@ -65,14 +66,14 @@ pub record Above (t : List ℕ) : Type 0 where
   pub kinds : allBelow (λ i. leb (byte (rec t i) 0) 3) (rooms t) ≡ true
   pub free : every 0 freeAsAbove t ≡ true
   pub heading : every 1 headingAsAbove t ≡ true
-  pub entry : every 2 entryAsAbove t ≡ true
+  pub entry : every 2 (entryAsAbove boxed) t ≡ true
   pub text : every 3 textAsAbove t ≡ true
 
-pub above-view : (t : List ℕ) → asAbove t ≡ true → Above t
+pub above-view : (t : List ℕ) → asAbove boxed t ≡ true → Above t
 unfolding asAbove joined
 above-view t e =
     let a = allBelow (λ i. leb (byte (rec t i) 0) 3) (rooms t) in
-    let s = every 0 freeAsAbove t ∷ every 1 headingAsAbove t ∷ every 2 entryAsAbove t ∷ every 3 textAsAbove t ∷ [] in
+    let s = every 0 freeAsAbove t ∷ every 1 headingAsAbove t ∷ every 2 (entryAsAbove boxed) t ∷ every 3 textAsAbove t ∷ [] in
     record {
       kinds = joined-first a s e;
       free = joined-part a s 0 e;
@@ -81,7 +82,7 @@ above-view t e =
       text = joined-part a s 3 e;
     }
 
-pub above-made : (t : List ℕ) → Above t → asAbove t ≡ true
+pub above-made : (t : List ℕ) → Above t → asAbove boxed t ≡ true
 unfolding asAbove
 above-made t h = rw (h .kinds, h .free, h .heading, h .entry) (h .text)
 

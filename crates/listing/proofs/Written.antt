@@ -7,7 +7,7 @@ use native.Mathlib.Omega.{arith}
 use native.Mathlib.Numerals.{add-one}
 use lib.ListN.{length, take, drop, getD, length-set, drop-of-length-le}
 use lib.Seq.{sets, drop-cons}
-use Rattle.paper.specs.Record.{nameOf}
+use Rattle.paper.specs.Layout.{nameOf, boxed}
 use Rattle.paper.specs.Table.{rec}
 use Rattle.paper.specs.Listing.{line}
 use Rattle.records.proofs.Copies.{sets-append}
@@ -16,11 +16,11 @@ use Rattle.listing.proofs.Sizes.{length-line, name-short}
 
 -- ---- a line
 
-line-shown : (t : List ℕ) (e : ℕ) → lineShown t e ≡ take 9 (lineShown t e) ++ (nameOf (rec t e) ++ 13 ∷ 10 ∷ [])
+line-shown : (t : List ℕ) (e : ℕ) → lineShown t e ≡ take 9 (lineShown t e) ++ (nameOf boxed (rec t e) ++ 13 ∷ 10 ∷ [])
 unfolding lineShown line
 line-shown t e = refl
 
-length-shown : (t : List ℕ) (e : ℕ) → length (lineShown t e) ≡ 11 + length (nameOf (rec t e))
+length-shown : (t : List ℕ) (e : ℕ) → length (lineShown t e) ≡ 11 + length (nameOf boxed (rec t e))
 unfolding lineShown
 length-shown t e = rw (length-set, length-line)
 
@@ -28,21 +28,21 @@ length-front : (t : List ℕ) (e : ℕ) → length (take 9 (lineShown t e)) ≡ 
 unfolding lineShown line
 length-front t e = refl
 
-pub record Wrote (t l : List ℕ) (e at : ℕ) (s o : List ℕ) : Type 0 where
+pub record Wrote (t l : List ℕ) (e at k : ℕ) (o : List ℕ) : Type 0 where
   pub bytes : o ≡ sets l at (lineShown t e)
-  pub after : at + 9 + length s + 2 ≡ at + length (lineShown t e)
-  pub short : at + 9 + length s + 2 ≤ at + 21
+  pub after : at + 9 + k + 2 ≡ at + length (lineShown t e)
+  pub short : at + 9 + k + 2 ≤ at + 21
 
--- a line's three parts, each written after the one before it
-pub wrote : (t l m n o : List ℕ) (e at : ℕ) (f s : List ℕ) → f ≡ take 9 (lineShown t e) → s ≡ nameOf (rec t e) → m ≡ sets l at f
-    → n ≡ sets m (at + 9) s → o ≡ sets n (at + 9 + length s) (13 ∷ 10 ∷ []) → Wrote t l e at s o
-wrote t l m n o e at f s p q a b c =
+-- a line's three parts, each written after the one before it; the name has k bytes
+pub wrote : (t l m n o : List ℕ) (e at k : ℕ) (f : List ℕ) → f ≡ take 9 (lineShown t e) → k ≡ length (nameOf boxed (rec t e)) → m ≡ sets l at f
+    → n ≡ sets m (at + 9) (nameOf boxed (rec t e)) → o ≡ sets n (at + 9 + k) (13 ∷ 10 ∷ []) → Wrote t l e at k o
+wrote t l m n o e at k f p q a b c =
     record {
       bytes =
           rw (c, b, a, q, p)
           (sym
-          (ap (sets l at) (line-shown t e) ∙ sets-append (take 9 (lineShown t e)) (nameOf (rec t e) ++ 13 ∷ 10 ∷ []) l at
-          ∙ rw length-front (sets-append (nameOf (rec t e)) (13 ∷ 10 ∷ []) (sets l at (take 9 (lineShown t e))) (at + 9))));
+          (ap (sets l at) (line-shown t e) ∙ sets-append (take 9 (lineShown t e)) (nameOf boxed (rec t e) ++ 13 ∷ 10 ∷ []) l at
+          ∙ rw length-front (sets-append (nameOf boxed (rec t e)) (13 ∷ 10 ∷ []) (sets l at (take 9 (lineShown t e))) (at + 9))));
       after = rw (q, length-shown t e) (omega arith);
       short = rw q (omega (arith, name-short (rec t e)));
     }

@@ -9,6 +9,7 @@ use native.Mathlib.Omega.{arith}
 use lib.ListN.{length, take}
 use lib.Seq.{take-all}
 use borrow.Author.Tests.{le-leb, lt-leb}
+use Rattle.paper.specs.Layout.{boxed}
 use Rattle.paper.specs.Answer.{plain, mending, mendable}
 use Rattle.paper.specs.Check as place
 use Rattle.paper.specs.Check.{verdict}
@@ -31,30 +32,30 @@ use Rattle.mending.proofs.Marks.{stores-by-marks, without-gone}
 
 -- what `mend` promises of its answer and of the table after it
 abbrev pub Mends : List ℕ → ℕ → Mended → List ℕ → Type 0
-Mends t k r u = (r ≡ mendShown (mending t k .answer)) × (u ≡ mending t k .table)
+Mends t k r u = (r ≡ mendShown (mending boxed t k .answer)) × (u ≡ mending boxed t k .table)
 
 pub mends-unsized : (t : List ℕ) (k : ℕ) → sized t ≡ false → Mends t k (record { number = 1; stores = 0 }) t
 unfolding mending mendable verdict
 mends-unsized t k e = (rw e, rw e)
 
 module _ (t gone : List ℕ) (k n : ℕ) (s : sized t ≡ true) (g : GoneBelow t gone (rooms t)) (e : n ≡ judgedShape (without gone t)) where
-  number-mended : n ≡ cond (sound (mended t)) 0 2
+  number-mended : n ≡ cond (sound boxed (mended t)) 0 2
   unfolding judgedShape
   number-mended =
       let z : sized (cleared t) ≡ true = unfold cleared in rw length-run s in
       e ∙ rw (without-gone t gone (sized-whole t s .0) g, z, sound-mended t s)
 
-  sound-after : n ≡ 0 → sound (mended t) ≡ true
-  sound-after q = go (truth (sound (mended t)))
+  sound-after : n ≡ 0 → sound boxed (mended t) ≡ true
+  sound-after q = go (truth (sound boxed (mended t)))
     where
-      go : (sound (mended t) ≡ true) ⊎ (sound (mended t) ≡ false) → sound (mended t) ≡ true
+      go : (sound boxed (mended t) ≡ true) ⊎ (sound boxed (mended t) ≡ false) → sound boxed (mended t) ≡ true
       go (inl y) = y
       go (inr y) = let z : n ≡ 2 = number-mended ∙ rw y in let x : ⊥ = omega arith in absurd x
 
   pub mends-refused : n ≢ 0 → Mends t k (record { number = 2; stores = 0 }) t
   unfolding mending mendable verdict
   mends-refused q =
-      let y : sound (mended t) ≡ false = false-by (sound (mended t)) (λ y. q (number-mended ∙ rw y)) in
+      let y : sound boxed (mended t) ≡ false = false-by (sound boxed (mended t)) (λ y. q (number-mended ∙ rw y)) in
       (rw (s, y), rw (s, y))
 
   module _ (q : n ≡ 0) (u : List ℕ) (m : ℕ) (c : Allowed t u k m (allStores gone t)) where
@@ -80,19 +81,21 @@ module _ (t gone : List ℕ) (k n : ℕ) (s : sized t ≡ true) (g : GoneBelow t
         (rw (s, sound-after q, y, f), table-mended ∙ rw (s, sound-after q, y, take-all k (mendStores t) b))
 
 -- "Its answer has place, names and bytes 0, displaced no, and the stores made", and there is no reply
-pub mend-answer : (t : List ℕ) (k : ℕ) → mending t k .answer ≡ plain (mending t k .answer .number) (place.whole 0) 0 (mending t k .answer .stores)
+pub mend-answer : (t : List ℕ) (k : ℕ)
+    → mending boxed t k .answer ≡ plain (mending boxed t k .answer .number) (place.whole 0) 0 (mending boxed t k .answer .stores)
 mend-answer t k = go (mend-came t k)
   where
-    go : MendCame t k (mending t k) → mending t k .answer ≡ plain (mending t k .answer .number) (place.whole 0) 0 (mending t k .answer .stores)
+    go : MendCame t k (mending boxed t k)
+        → mending boxed t k .answer ≡ plain (mending boxed t k .answer .number) (place.whole 0) 0 (mending boxed t k .answer .stores)
     go (unsized a e) = rw e
     go (unsound a b e) = rw e
     go (whole a b l e) = rw e
     go (cutOff a b l e) = rw e
 
-pub mend-reply : (t : List ℕ) (k : ℕ) → [] ≡ mending t k .reply
+pub mend-reply : (t : List ℕ) (k : ℕ) → [] ≡ mending boxed t k .reply
 mend-reply t k = go (mend-came t k)
   where
-    go : MendCame t k (mending t k) → [] ≡ mending t k .reply
+    go : MendCame t k (mending boxed t k) → [] ≡ mending boxed t k .reply
     go (unsized a e) = rw e
     go (unsound a b e) = rw e
     go (whole a b l e) = rw e

@@ -5,6 +5,7 @@ use mathlib.Core.List.{List}
 use mathlib.Core.Path.{_≡_, refl, sym, _∙_}
 use Prim.Native.Nat.{ℕ}
 use lib.ListN.{length}
+use Rattle.paper.specs.Layout.{boxed}
 use Rattle.paper.specs.Count.{recounts}
 use Rattle.paper.specs.Mend.{cleared, mended}
 use Rattle.paper.specs.Sound.{shaped, sound}
@@ -29,19 +30,19 @@ module _ (t : List ℕ) (s : sized t ≡ true) where
   sized-cleared : sized (cleared t) ≡ true
   sized-cleared = unfold cleared in rw length-run s
 
-  shaped-after : shaped after ≡ shaped (cleared t)
+  shaped-after : shaped boxed after ≡ shaped boxed (cleared t)
   unfolding after
   shaped-after =
-      same-truth (shaped after) (shaped (cleared t))
+      same-truth (shaped boxed after) (shaped boxed (cleared t))
       (λ e. clauses-shaped (cleared t)
       (alike-clauses 65535 after (cleared t) (shaped-clauses after (rw length-after sized-cleared) e) (sym length-after)
       (λ i l. alike-sym (rec (cleared t) i) (rec after i) (recounts-each (cleared t) i (rw (rooms-run (cleared t) (recounts (cleared t))) at l)))) .1)
       (λ e. clauses-shaped after
       (alike-clauses 65535 (cleared t) after (shaped-clauses (cleared t) sized-cleared e) length-after (recounts-each (cleared t))) .1)
 
-  pub sound-mended : sound (mended t) ≡ shaped (cleared t)
+  pub sound-mended : sound boxed (mended t) ≡ shaped boxed (cleared t)
   unfolding sound after
-  sound-mended = rw (mended-true t, mended-is t) (go (shaped after) ∙ shaped-after)
+  sound-mended = rw (mended-true t, mended-is t) (go (shaped boxed after) ∙ shaped-after)
     where
       go : (b : Bool) → (b && true) ≡ b
       go true = refl

@@ -4,6 +4,7 @@ use mathlib.Core.List.{List, [], _∷_, _++_}
 use Prim.Native.Nat.{ℕ, _+_, _-_}
 use lib.Dec.{leb, ltb}
 use lib.ListN.{length, take, drop}
+use Rattle.paper.specs.Layout.{Layout}
 use Rattle.paper.specs.Table.{sized}
 use Rattle.paper.specs.Line.{Word}
 use Rattle.paper.specs.Check.{Place, whole, Refusal, check, Verdict, passed, refused, verdict}
@@ -92,46 +93,46 @@ deleting one t u reply k n made (w ∷ ws) =
     oneName t reply k n made (λ t₁ k₁ n₁ made₁. deleting one t₁ u reply k₁ n₁ made₁ ws) (ran k (one t u (n + 1) w))
 
 -- what a request does on a sound table
-unfoldable pub granted : List ℕ → List ℕ → List ℕ → ℕ → ℕ → Request → Outcome
-granted t text reply u k (crd name level code) = single t reply k (ran k (crdPlan t u name level code))
-granted t text reply u k (wrs lifetime level code name) =
-    single t reply k (ran k (wrsPlan t u text lifetime level code name))
-granted t text reply u k (rds from name first count) =
-    single t reply k (ran k (rdsPlan t (listOf u from) reply (begun from name) first count))
-granted t text reply u k (cpy from old new lifetime level code) =
-    single t reply k (ran k (cpyPlan t (listOf u from) u (begun from old) new lifetime level code))
-granted t text reply u k (dup from old to new code) =
-    single t reply k (ran k (dupPlan t (listOf u from) (listOf u to) to (begun from old) (begun to new) code))
-granted t text reply u k (chn old link) = single t reply k (ran k (chnPlan t u old link))
-granted t text reply u k (del names) = deleting delPlan t u reply k 0 0 names
-granted t text reply u k (dst names) = deleting dstPlan t u reply k 0 0 names
-granted t text reply u k (dpr name code) = single t reply k (ran k (dprPlan t u name code))
-granted t text reply u k (lst from name) = single t reply k (ran k (lstPlan t (listOf u from) reply (begun from name)))
-granted t text reply u k lstBase = single t reply k (ran k (lstBasePlan t u reply))
-granted t text reply u k (lstTree from name depth) =
-    single t reply k (ran k (lstTreePlan t (listOf u from) reply (begun from name) depth))
-granted t text reply u k (lstBaseTree depth) = single t reply k (ran k (lstBaseTreePlan t u reply depth))
-granted t text reply u k (rewrite name) = single t reply k (ran k (rewritePlan t u text name))
+unfoldable pub granted : Layout → List ℕ → List ℕ → List ℕ → ℕ → ℕ → Request → Outcome
+granted L t text reply u k (crd name level code) = single t reply k (ran k (crdPlan L t u name level code))
+granted L t text reply u k (wrs lifetime level code name) =
+    single t reply k (ran k (wrsPlan L t u text lifetime level code name))
+granted L t text reply u k (rds from name first count) =
+    single t reply k (ran k (rdsPlan L t (listOf u from) reply (begun from name) first count))
+granted L t text reply u k (cpy from old new lifetime level code) =
+    single t reply k (ran k (cpyPlan L t (listOf u from) u (begun from old) new lifetime level code))
+granted L t text reply u k (dup from old to new code) =
+    single t reply k (ran k (dupPlan L t (listOf u from) (listOf u to) to (begun from old) (begun to new) code))
+granted L t text reply u k (chn old link) = single t reply k (ran k (chnPlan L t u old link))
+granted L t text reply u k (del names) = deleting (delPlan L) t u reply k 0 0 names
+granted L t text reply u k (dst names) = deleting (dstPlan L) t u reply k 0 0 names
+granted L t text reply u k (dpr name code) = single t reply k (ran k (dprPlan L t u name code))
+granted L t text reply u k (lst from name) = single t reply k (ran k (lstPlan L t (listOf u from) reply (begun from name)))
+granted L t text reply u k lstBase = single t reply k (ran k (lstBasePlan L t u reply))
+granted L t text reply u k (lstTree from name depth) =
+    single t reply k (ran k (lstTreePlan L t (listOf u from) reply (begun from name) depth))
+granted L t text reply u k (lstBaseTree depth) = single t reply k (ran k (lstBaseTreePlan L t u reply depth))
+granted L t text reply u k (rewrite name) = single t reply k (ran k (rewritePlan L t u text name))
 
 -- numbers 1, 2 and 3: "table length no multiple of 32, or above 65,536", "table not sound", "user above 999,999"
-unfoldable pub entrance : List ℕ → ℕ → Verdict
-entrance t u = verdict (check (not (sized t)) 1 (whole 0) ∷ check (not (sound t)) 2 (whole 0) ∷ check (ltb 999999 u) 3 (whole 0) ∷ [])
+unfoldable pub entrance : Layout → List ℕ → ℕ → Verdict
+entrance L t u = verdict (check (not (sized t)) 1 (whole 0) ∷ check (not (sound L t)) 2 (whole 0) ∷ check (ltb 999999 u) 3 (whole 0) ∷ [])
 
-abbrev pub acted : List ℕ → List ℕ → List ℕ → ℕ → ℕ → Read → Outcome
-acted t text reply u k (unread f) = refusing t reply f
-acted t text reply u k (request r) = granted t text reply u k r
+abbrev pub acted : Layout → List ℕ → List ℕ → List ℕ → ℕ → ℕ → Read → Outcome
+acted L t text reply u k (unread f) = refusing t reply f
+acted L t text reply u k (request r) = granted L t text reply u k r
 
-abbrev pub admitted : List ℕ → List ℕ → List ℕ → List ℕ → ℕ → ℕ → Verdict → Outcome
-admitted t line text reply u k (refused f) = refusing t reply f
-admitted t line text reply u k passed = acted t text reply u k (asked line text)
+abbrev pub admitted : Layout → List ℕ → List ℕ → List ℕ → List ℕ → ℕ → ℕ → Verdict → Outcome
+admitted L t line text reply u k (refused f) = refusing t reply f
+admitted L t line text reply u k passed = acted L t text reply u k (asked line text)
 
--- the promise of `request`
-unfoldable pub requested : (table line text reply : List ℕ) (user stop : ℕ) → Outcome
-requested t line text reply u k = admitted t line text reply u k (entrance t u)
+-- the promise of `request`, at the layout `boxed`
+unfoldable pub requested : Layout → (table line text reply : List ℕ) (user stop : ℕ) → Outcome
+requested L t line text reply u k = admitted L t line text reply u k (entrance L t u)
 
 -- "If the result wouldn't be sound, answer 2 and leave the table as found."
-unfoldable pub mendable : List ℕ → Verdict
-mendable t = verdict (check (not (sized t)) 1 (whole 0) ∷ check (not (sound (mended t))) 2 (whole 0) ∷ [])
+unfoldable pub mendable : Layout → List ℕ → Verdict
+mendable L t = verdict (check (not (sized t)) 1 (whole 0) ∷ check (not (sound L (mended t))) 2 (whole 0) ∷ [])
 
 -- "Mending takes a stop number too": its answer and the table after
 abbrev pub mendRun : List ℕ → ℕ → List Store → Verdict → Outcome
@@ -141,6 +142,6 @@ mendRun t k ss passed =
     (record { answer = plain 0 (whole 0) 0 (length ss); table = run t ss; reply = [] })
     (record { answer = plain 22 (whole 0) 0 k; table = run t (take k ss); reply = [] })
 
--- the promise of `mend`; it has no reply buffer
-unfoldable pub mending : (table : List ℕ) (stop : ℕ) → Outcome
-mending t k = mendRun t k (mendStores t) (mendable t)
+-- the promise of `mend`, at the layout `boxed`; it has no reply buffer
+unfoldable pub mending : Layout → (table : List ℕ) (stop : ℕ) → Outcome
+mending L t k = mendRun t k (mendStores t) (mendable L t)

@@ -1,10 +1,11 @@
 -- "At the edges": the cases marked P, one list. `proofs/Cases.antt` has the one claim over it; a new case is a new line.
 use mathlib.Core.Bool.{Bool, true, false, _&&_, not}
 use mathlib.Core.List.{List, [], _∷_, _++_}
-use Prim.Native.Nat.{ℕ, zero, suc, _-_}
+use Prim.Native.Nat.{ℕ, zero, suc, _+_, _-_, _*_, _/_, _%_}
 use lib.Dec.{eqb}
 use lib.ListN.{length, replicate, take, drop}
 use Rattle.paper.specs.Record.{blank}
+use Rattle.paper.specs.Layout.{boxed}
 use Rattle.paper.specs.Name.{same, dotR}
 use Rattle.paper.specs.Declaration.{Declared, right, wrong, declared}
 use Rattle.paper.specs.Check.{atLink}
@@ -48,8 +49,8 @@ holds (takes bytes records) = eqb (blocks bytes) records
 holds (declares word true) = isRight (declared (word ∷ []))
 holds (declares word false) = not (isRight (declared (word ∷ [])))
 holds (asks table line text reply user stop a after replied) =
-    comesTo a after replied (requested table line text reply user stop)
-holds (mends table stop a after) = comesTo a after [] (mending table stop)
+    comesTo a after replied (requested boxed table line text reply user stop)
+holds (mends table stop a after) = comesTo a after [] (mending boxed table stop)
 
 unfoldable pub holdAll : List Case → Bool
 holdAll [] = true
@@ -87,12 +88,20 @@ box named holds = 1 ∷ 0 ∷ 0 ∷ 0 ∷ 1 ∷ replicate 7 0 ++ named ∷ 0 ∷
 abbrev pub headingR : List ℕ
 headingR = box 1 0
 
--- "record 1 is 2,0,255,255,0,0,1,0,0,2,46,82 and zeros"; and a base file of user 1, of one letter, that names this heading
+-- document 02: "Document 01's record 1 is worked out again": `.R` is the codes 14 and 50, and 14 * 64 + 50 is 178 + 3 * 256
 abbrev pub entryR : List ℕ
-entryR = 2 ∷ 0 ∷ 255 ∷ 255 ∷ 0 ∷ 0 ∷ 1 ∷ 0 ∷ 0 ∷ 2 ∷ 46 ∷ 82 ∷ replicate 20 0
+entryR = 2 ∷ 0 ∷ 255 ∷ 255 ∷ 0 ∷ 0 ∷ 1 ∷ replicate 9 0 ++ 178 ∷ 3 ∷ replicate 14 0
 
+-- bytes 9-31 of a name of one letter; and of a point and a letter, 14 * 64 + letter - 32 in all
+abbrev pub oneLetter : ℕ → List ℕ
+oneLetter letter = replicate 7 0 ++ (letter - 32) % 4 * 64 ∷ (letter - 32) / 4 ∷ replicate 14 0
+
+abbrev pub pointLetter : ℕ → List ℕ
+pointLetter letter = replicate 7 0 ++ (letter + 96) ∷ 3 ∷ replicate 14 0
+
+-- a base file of user 1, of one letter, that names this heading
 abbrev pub ours : (letter heading : ℕ) → List ℕ
-ours letter heading = 2 ∷ 0 ∷ 255 ∷ 255 ∷ heading ∷ 0 ∷ 1 ∷ 0 ∷ 0 ∷ 2 ∷ 46 ∷ letter ∷ replicate 20 0
+ours letter heading = 2 ∷ 0 ∷ 255 ∷ 255 ∷ heading ∷ 0 ∷ 1 ∷ 0 ∷ 0 ∷ pointLetter letter
 
 -- `DUP ` old, a blank and new; `.000777`; `:A`
 abbrev pub dup : List ℕ → List ℕ → List ℕ
@@ -106,7 +115,7 @@ link = 58 ∷ 65 ∷ []
 
 -- a base file of user 777, of one letter, that names this heading
 abbrev pub nights : (letter heading : ℕ) → List ℕ
-nights letter heading = 2 ∷ 0 ∷ 255 ∷ 255 ∷ heading ∷ 0 ∷ 9 ∷ 3 ∷ 0 ∷ 2 ∷ 46 ∷ letter ∷ replicate 20 0
+nights letter heading = 2 ∷ 0 ∷ 255 ∷ 255 ∷ heading ∷ 0 ∷ 9 ∷ 3 ∷ 0 ∷ pointLetter letter
 
 -- the directory `.R` of user 1, and `.G` of user 777; the entry A there, of the file that `.R` names, and the table with it
 abbrev pub shelf : List ℕ
@@ -116,7 +125,7 @@ abbrev pub given : (base entry : List ℕ) → List ℕ
 given base entry = box 2 0 ++ base ++ box 1 1 ++ nights 71 2 ++ entry
 
 abbrev pub entryA : List ℕ
-entryA = 2 ∷ 0 ∷ 2 ∷ 0 ∷ 0 ∷ 0 ∷ 0 ∷ 0 ∷ 0 ∷ 1 ∷ 65 ∷ replicate 21 0
+entryA = 2 ∷ 0 ∷ 2 ∷ replicate 13 0 ++ 64 ∷ 8 ∷ replicate 14 0
 
 -- an entry with this code
 abbrev pub coded : ℕ → List ℕ → List ℕ
@@ -145,7 +154,7 @@ entryG = ours 71 2
 
 -- `.R:A` in user 1's `.R`, a simple file without text
 abbrev pub inside : List ℕ
-inside = box 1 1 ++ entryR ++ sheet 0 ++ 2 ∷ 0 ∷ 0 ∷ 0 ∷ 2 ∷ 0 ∷ 0 ∷ 0 ∷ 0 ∷ 1 ∷ 65 ∷ replicate 21 0
+inside = box 1 1 ++ entryR ++ sheet 0 ++ 2 ∷ 0 ∷ 0 ∷ 0 ∷ 2 ∷ replicate 11 0 ++ 64 ∷ 8 ∷ replicate 14 0
 
 -- so many links `:A`
 unfoldable pub linksA : ℕ → List ℕ
@@ -170,7 +179,7 @@ abbrev pub lstStar : List ℕ → (digit : ℕ) → List ℕ
 lstStar name digit = 76 ∷ 83 ∷ 84 ∷ 42 ∷ 32 ∷ name ++ 32 ∷ digit ∷ []
 
 abbrev pub within : (d letter h c : ℕ) → List ℕ
-within d letter h c = 2 ∷ c ∷ d ∷ 0 ∷ h ∷ 0 ∷ 0 ∷ 0 ∷ 0 ∷ 1 ∷ letter ∷ replicate 21 0
+within d letter h c = 2 ∷ c ∷ d ∷ 0 ∷ h ∷ 0 ∷ 0 ∷ 0 ∷ 0 ∷ oneLetter letter
 
 -- `.R` of user 1 holds the directory D, of this code, and the simple file E; D holds the simple file F, of code 1
 abbrev pub branchesOf : (first second third : List ℕ) (code : ℕ) → List ℕ
@@ -250,6 +259,24 @@ dotRA = dotR ++ link
 -- `.R` of user 1, its entry of this code, holds A, a simple file without text and of this code
 abbrev pub holdingA : (entry heading : ℕ) → List ℕ
 holdingA entry heading = box 1 1 ++ coded entry entryR ++ limits heading 1 0 0 ++ within 0 65 2 0
+
+-- an entry with this byte at a place; `.R` of user 1 holds one entry, of a simple file, and these are bytes 15-17 of its name
+abbrev pub but : (place byte : ℕ) → List ℕ → List ℕ
+but place byte entry = take place entry ++ byte ∷ drop (suc place) entry
+
+abbrev pub bearing : (third second first : ℕ) → List ℕ
+bearing third second first = box 1 1 ++ entryR ++ sheet 0 ++ but 15 third (but 16 second (but 17 first (within 0 65 2 0)))
+
+-- .. and its name is ten times `_`; the line of a name
+abbrev pub longest : List ℕ
+longest = box 1 1 ++ entryR ++ sheet 0 ++ take 10 (within 0 65 2 0) ++ replicate 7 255 ++ 15 ∷ replicate 14 0
+
+abbrev pub lineOf : List ℕ → List ℕ
+lineOf name = 70 ∷ 77 ∷ 46 ∷ 85 ∷ 48 ∷ 32 ∷ 32 ∷ 32 ∷ 32 ∷ name ++ 13 ∷ 10 ∷ []
+
+-- the file by three names in `.R`: B, AA and A
+abbrev pub three : List ℕ
+three = box 1 3 ++ entryR ++ sheetOf 0 3 ++ within 0 66 2 0 ++ but 16 97 (within 0 65 2 0) ++ within 0 65 2 0
 
 -- a table that is refused
 abbrev pub unsound : List ℕ → Case
@@ -490,4 +517,26 @@ cases =
     ∷ mends (drop 32 lettered) 9 (answer 0 0 0 0 0 0 2) pair
     ∷ mends (ours 82 3 ++ drop 32 (take 64 lettered) ++ sheet 0) 9 (answer 0 0 0 0 0 0 3) (pair ++ blank)
     ∷ mends (ours 82 3 ++ drop 32 (take 64 lettered) ++ sheet 0) 1 (answer 22 0 0 0 0 0 1) (blank ++ drop 32 (take 64 lettered) ++ sheet 0)
+    -- document 02, six-bit names: "one 60-bit number", all of it; "first character highest": `DUP .R:A .R:__________` and its line
+    ∷ asks (inside ++ blank) (dup dotRA (dotR ++ 58 ∷ replicate 10 95)) [] [] 1 9 (answer 0 0 0 1 0 0 3)
+    (box 1 2 ++ entryR ++ sheetOf 0 2 ++ within 0 65 2 0 ++ drop 96 longest) []
+    ∷ asks longest (76 ∷ 83 ∷ 84 ∷ 32 ∷ dotR) [] (replicate 21 7) 1 9 (answer 0 0 0 1 0 21 0) longest (lineOf (replicate 10 95))
+    -- "Number order is then listing order."
+    ∷ asks three (76 ∷ 83 ∷ 84 ∷ 32 ∷ dotR) [] (replicate 37 7) 1 9 (answer 0 0 0 1 0 37 0) three
+    (lineOf (65 ∷ []) ++ lineOf (65 ∷ 65 ∷ []) ++ lineOf (66 ∷ []))
+    -- .. and not a bit more; "byte 9 and 18-19 become zero", as those after them are
+    ∷ unsound (headingR ++ but 17 19 entryR)
+    ∷ unsound (headingR ++ but 9 1 entryR)
+    ∷ unsound (headingR ++ but 18 1 entryR)
+    ∷ unsound (headingR ++ but 19 1 entryR)
+    ∷ unsound (headingR ++ but 31 1 entryR)
+    -- "blank padding 0": `A`, and the blank in `A A`, the first of ` A`, `A:`, `A@`, no name at all
+    ∷ asks (bearing 0 64 8) delRA [] [] 1 9 (answer 0 0 0 1 0 0 4) (headingR ++ entryR ++ pair) []
+    ∷ unsound (bearing 132 64 8)
+    ∷ unsound (bearing 0 33 0)
+    ∷ unsound (bearing 0 90 8)
+    ∷ unsound (bearing 0 96 8)
+    ∷ unsound (bearing 0 0 0)
+    -- a table of document 01, a name length in byte 9 and the name after it
+    ∷ unsound (headingR ++ take 9 entryR ++ 2 ∷ 46 ∷ 82 ∷ replicate 20 0)
     ∷ []

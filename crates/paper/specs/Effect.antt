@@ -5,7 +5,8 @@ use Prim.Native.Nat.{ℕ, _+_}
 use lib.Dec.{eqb, ltb}
 use lib.ListN.{length, take, drop, set}
 use Rattle.paper.specs.Scan.{Found, at, nowhere, eachBelow}
-use Rattle.paper.specs.Record.{level, headingCode, lifetime, marked, entryCode, headingNamed, directory, simple, names, blank, headingRecord, rewritten, nameField, entryRecord, textRecord}
+use Rattle.paper.specs.Record.{level, headingCode, lifetime, marked, entryCode, headingNamed, directory, simple, names, blank, headingRecord, rewritten, textRecord}
+use Rattle.paper.specs.Layout.{Layout, nameField, entryRecord}
 use Rattle.paper.specs.Table.{rooms, rec, lay, frees, room, textRoom}
 use Rattle.paper.specs.Name.{dotG, dotT, chain}
 use Rattle.paper.specs.Declaration.{Part, orElse}
@@ -63,11 +64,11 @@ begun (takeOf n) w = instead dotT w
 begun (giveTo n) w = instead dotG w
 
 -- to the directory of this argument, and to the file it names
-abbrev pub toHolder : List ℕ → ℕ → ℕ → Word → (State → Planned) → Planned
-toHolder t u argument w f = onward argument (toDirectory t 1 (start u) (chainOf w)) f
+abbrev pub toHolder : Layout → List ℕ → ℕ → ℕ → Word → (State → Planned) → Planned
+toHolder L t u argument w f = onward argument (toDirectory L t 1 (start u) (chainOf w)) f
 
-abbrev pub toEnd : List ℕ → ℕ → ℕ → Word → (State → State → Planned) → Planned
-toEnd t u argument w g = inward argument (ended t (start u) (chainOf w)) g
+abbrev pub toEnd : Layout → List ℕ → ℕ → ℕ → Word → (State → State → Planned) → Planned
+toEnd L t u argument w g = inward argument (ended L t (start u) (chainOf w)) g
 
 -- the text of heading h cleared "by position"
 abbrev pub bared : List ℕ → ℕ → List Store
@@ -98,8 +99,8 @@ pub record Making : Type 0 where
   pub entry : List ℕ
 
 -- "An entry already bearing the new name"
-abbrev pub borne : List ℕ → Making → Found
-borne t m = find t (m .directory .holder) (m .name)
+abbrev pub borne : Layout → List ℕ → Making → Found
+borne L t m = find L t (m .directory .holder) (m .name)
 
 abbrev pub isFound : Found → Bool
 isFound (at e) = true
@@ -134,8 +135,8 @@ abbrev pub taken : Place → Found → Check
 taken place found = check (isFound found) 16 place
 
 -- 17: "directory or base list full, nothing displaced"
-abbrev pub fullUp : List ℕ → Making → Check
-fullUp t m = check (not (isFound (borne t m)) && full t (m .directory .holder)) 17 (m .place)
+abbrev pub fullUp : Layout → List ℕ → Making → Check
+fullUp L t m = check (not (isFound (borne L t m)) && full t (m .directory .holder)) 17 (m .place)
 
 -- heading h is "a directory with entries"
 abbrev pub withEntries : List ℕ → ℕ → Bool
@@ -153,8 +154,8 @@ abbrev pub stillPeopled : Place → Bool → Check
 stillPeopled place losing = check losing 18 place
 
 -- 19: "fewer free records than the request needs"
-abbrev pub noRoom : List ℕ → Making → Check
-noRoom t m = check (ltb (length (frees t)) (needed m (borne t m))) 19 (whole 0)
+abbrev pub noRoom : Layout → List ℕ → Making → Check
+noRoom L t m = check (ltb (length (frees t)) (needed m (borne L t m))) 19 (whole 0)
 
 -- 20: "reply buffer too short"
 abbrev pub tooShort : List ℕ → List ℕ → Check
@@ -176,26 +177,26 @@ abbrev pub tooLow : Place → Part → List ℕ → Check
 tooLow place lev source = check (ltb (orElse lev (level source)) (level source)) 25 place
 
 -- "A give never displaces."
-abbrev pub linkTaken : List ℕ → Begin → Making → List Check
-linkTaken t own m = []
-linkTaken t (takeOf n) m = []
-linkTaken t (giveTo n) m = taken (m .place) (borne t m) ∷ []
+abbrev pub linkTaken : Layout → List ℕ → Begin → Making → List Check
+linkTaken L t own m = []
+linkTaken L t (takeOf n) m = []
+linkTaken L t (giveTo n) m = taken (m .place) (borne L t m) ∷ []
 
 -- a new entry's plan, with the checks of the old name, 13, 15 and those after 19, where there is one, or a give's 16
-unfoldable pub making : List ℕ → Making → List Check → List Check → List Check → Planned
-making t m thirteen fifteen late =
+unfoldable pub making : Layout → List ℕ → Making → List Check → List Check → List Check → Planned
+making L t m thirteen fifteen late =
     plan (record {
       checks =
           thirteen ++ writeInhibited (m .place) (m .directory) ∷ fifteen
-          ++ fullUp t m ∷ stillPeopled (m .place) (displacing t (borne t m) (m .entry)) ∷ noRoom t m ∷ late;
-      stores = placing t m (borne t m);
-      displaced = isFound (borne t m);
+          ++ fullUp L t m ∷ stillPeopled (m .place) (displacing t (borne L t m) (m .entry)) ∷ noRoom L t m ∷ late;
+      stores = placing t m (borne L t m);
+      displaced = isFound (borne L t m);
       reply = [];
     })
 
 -- an entry of the directory d
-abbrev pub entryIn : State → ℕ → ℕ → List ℕ → List ℕ
-entryIn d code heading name = entryRecord code (d .holder .heading) heading (d .holder .user) name
+abbrev pub entryIn : Layout → State → ℕ → ℕ → List ℕ → List ℕ
+entryIn L d code heading name = entryRecord L code (d .holder .heading) heading (d .holder .user) name
 
 -- "heading, text by position" of a new file, on the lowest free records
 unfoldable pub newFile : List ℕ → List ℕ → List ℕ → List Store
@@ -204,28 +205,28 @@ newFile t heading text =
     ∷ eachBelow (λ p. puts (room t (p + 1)) (textRecord (room t 0) p (block text p))) (blocks (length text))
 
 -- a new file under the last name of w: "In each the code goes into both heading and entry."
-abbrev pub filing : List ℕ → ℕ → Word → State → ℕ → List ℕ → List ℕ → Making
-filing t argument w d code heading text =
+abbrev pub filing : Layout → List ℕ → ℕ → Word → State → ℕ → List ℕ → List ℕ → Making
+filing L t argument w d code heading text =
     record {
       place = endOf argument w;
       directory = d;
       name = lastName (chainOf w);
       first = newFile t heading text;
-      entry = entryIn d code (room t 0) (lastName (chainOf w));
+      entry = entryIn L d code (room t 0) (lastName (chainOf w));
     }
 
 -- "CRD: heading, entry."
-unfoldable pub crdPlan : List ℕ → ℕ → Word → Part → Part → Planned
-crdPlan t u name level code =
-    toHolder t u 1 name
-    (λ d. making t (filing t 1 name d (orElse code 0) (headingRecord 0 (orElse level 0) (orElse code 0) 1 0) []) [] [] [])
+unfoldable pub crdPlan : Layout → List ℕ → ℕ → Word → Part → Part → Planned
+crdPlan L t u name level code =
+    toHolder L t u 1 name
+    (λ d. making L t (filing L t 1 name d (orElse code 0) (headingRecord 0 (orElse level 0) (orElse code 0) 1 0) []) [] [] [])
 
 -- "WRS, CPY: heading, text by position, entry."
-unfoldable pub wrsPlan : List ℕ → ℕ → List ℕ → ℕ → Part → Part → Word → Planned
-wrsPlan t u text lifetime level code name =
-    toHolder t u 2 name
+unfoldable pub wrsPlan : Layout → List ℕ → ℕ → List ℕ → ℕ → Part → Part → Word → Planned
+wrsPlan L t u text lifetime level code name =
+    toHolder L t u 2 name
     (λ d.
-    making t (filing t 2 name d (orElse code 0) (headingRecord 1 (orElse level 0) (orElse code 0) lifetime (length text)) text) [] [] [])
+    making L t (filing L t 2 name d (orElse code 0) (headingRecord 1 (orElse level 0) (orElse code 0) lifetime (length text)) text) [] [] [])
 
 -- a copy's heading: "CPY may have M or L, else takes the source's. Level: given, else U (CPY: the source's). Code: given, else 0."
 abbrev pub copyHeading : List ℕ → Part → Part → Part → ℕ → List ℕ
@@ -233,50 +234,50 @@ copyHeading source life lev code length =
     headingRecord 1 (orElse lev (level source)) (orElse code 0) (orElse life (lifetime source)) length
 
 -- CPY of user u, its old name from the base list of user v
-unfoldable pub cpyPlan : List ℕ → ℕ → ℕ → Word → Word → Part → Part → Part → Planned
-cpyPlan t v u old new life lev code =
-    toEnd t v 1 old
-    (λ _ f. toHolder t u 2 new
+unfoldable pub cpyPlan : Layout → List ℕ → ℕ → ℕ → Word → Word → Part → Part → Part → Planned
+cpyPlan L t v u old new life lev code =
+    toEnd L t v 1 old
+    (λ _ f. toHolder L t u 2 new
     (λ d.
     let text = fileText t (file t f) in
-    making t (filing t 2 new d (orElse code 0) (copyHeading (rec t (file t f)) life lev code (length text)) text)
+    making L t (filing L t 2 new d (orElse code 0) (copyHeading (rec t (file t f)) life lev code (length text)) text)
     (readInhibited (endOf 1 old) f ∷ []) (notSimple (endOf 1 old) t f ∷ [])
     (isMarked (endOf 1 old) t f ∷ tooLow (whole 3) lev (rec t (file t f)) ∷ [])))
 
 -- the entry of DUP, in d, of the file that f came to
-abbrev pub linking : List ℕ → State → State → Word → Part → Making
-linking t f d new code =
+abbrev pub linking : Layout → List ℕ → State → State → Word → Part → Making
+linking L t f d new code =
     record {
       place = endOf 2 new;
       directory = d;
       name = lastName (chainOf new);
       first = [];
-      entry = entryIn d (joined (entryCode (rec t (f .entry))) (orElse code 0)) (file t f) (lastName (chainOf new));
+      entry = entryIn L d (joined (entryCode (rec t (f .entry))) (orElse code 0)) (file t f) (lastName (chainOf new));
     }
 
 -- "DUP: entry, its code the old entry's joined with the declared one." The old name from the base list of user v, the new of user u
-unfoldable pub dupPlan : List ℕ → ℕ → ℕ → Begin → Word → Word → Part → Planned
-dupPlan t v u to old new code =
-    toEnd t v 1 old
-    (λ _ f. toHolder t u 2 new
-    (λ d. making t (linking t f d new code) [] (linkTaken t to (linking t f d new code)) []))
+unfoldable pub dupPlan : Layout → List ℕ → ℕ → ℕ → Begin → Word → Word → Part → Planned
+dupPlan L t v u to old new code =
+    toEnd L t v 1 old
+    (λ _ f. toHolder L t u 2 new
+    (λ d. making L t (linking L t f d new code) [] (linkTaken L t to (linking L t f d new code)) []))
 
 -- a plan that displaces nothing and writes nothing
 abbrev pub storing : List Check → List Store → Planned
 storing checks stores = plan (record { checks = checks; stores = stores; displaced = false; reply = [] })
 
 -- an entry with its new name
-unfoldable pub renamed : List ℕ → List ℕ → List ℕ
-renamed r name = take 9 r ++ nameField name
+unfoldable pub renamed : Layout → List ℕ → List ℕ → List ℕ
+renamed L r name = take 9 r ++ nameField L name
 
 -- "CHN: the entry with its new name."
-abbrev pub chnAt : List ℕ → Place → List ℕ → State → State → Planned
-chnAt t place name d f =
-    storing (writeInhibited place d ∷ taken (whole 2) (find t (d .holder) name) ∷ [])
-    (puts (f .entry) (renamed (rec t (f .entry)) name) ∷ [])
+abbrev pub chnAt : Layout → List ℕ → Place → List ℕ → State → State → Planned
+chnAt L t place name d f =
+    storing (writeInhibited place d ∷ taken (whole 2) (find L t (d .holder) name) ∷ [])
+    (puts (f .entry) (renamed L (rec t (f .entry)) name) ∷ [])
 
-unfoldable pub chnPlan : List ℕ → ℕ → Word → Word → Planned
-chnPlan t u old link = toEnd t u 1 old (chnAt t (endOf 1 old) (lastName (link .names)))
+unfoldable pub chnPlan : Layout → List ℕ → ℕ → Word → Word → Planned
+chnPlan L t u old link = toEnd L t u 1 old (chnAt L t (endOf 1 old) (lastName (link .names)))
 
 -- a heading with its new code
 unfoldable pub recoded : List ℕ → ℕ → List ℕ
@@ -288,8 +289,8 @@ dprAt t place code f =
     storing (writeInhibited place f ∷ lacking (whole 2) code (headingCode (rec t (file t f))) ∷ [])
     (puts (file t f) (recoded (rec t (file t f)) code) ∷ [])
 
-unfoldable pub dprPlan : List ℕ → ℕ → Word → ℕ → Planned
-dprPlan t u name code = toEnd t u 1 name (λ _ f. dprAt t (endOf 1 name) code f)
+unfoldable pub dprPlan : Layout → List ℕ → ℕ → Word → ℕ → Planned
+dprPlan L t u name code = toEnd L t u 1 name (λ _ f. dprAt t (endOf 1 name) code f)
 
 -- "DEL: for each name in turn, the entry cleared." One name, the argument of this number
 abbrev pub delAt : List ℕ → Place → State → State → Planned
@@ -297,8 +298,8 @@ delAt t place d f =
     storing (writeInhibited place d ∷ stillPeopled place (losing t (f .entry) blank) ∷ [])
     (withCounts t (clear (f .entry) ∷ []) ++ settled t (f .entry) blank)
 
-unfoldable pub delPlan : List ℕ → ℕ → ℕ → Word → Planned
-delPlan t u argument name = toEnd t u argument name (delAt t (endOf argument name))
+unfoldable pub delPlan : Layout → List ℕ → ℕ → ℕ → Word → Planned
+delPlan L t u argument name = toEnd L t u argument name (delAt t (endOf argument name))
 
 -- document 02, `DST`: "heading cleared, text by position, then every entry naming it, by record number"
 unfoldable pub destroying : List ℕ → ℕ → List Store
@@ -310,8 +311,8 @@ abbrev pub dstAt : List ℕ → Place → State → Planned
 dstAt t place f =
     storing (writeInhibited place f ∷ stillPeopled place (withEntries t (file t f)) ∷ []) (withCounts t (destroying t (file t f)))
 
-unfoldable pub dstPlan : List ℕ → ℕ → ℕ → Word → Planned
-dstPlan t u argument name = toEnd t u argument name (λ _ f. dstAt t (endOf argument name) f)
+unfoldable pub dstPlan : Layout → List ℕ → ℕ → ℕ → Word → Planned
+dstPlan L t u argument name = toEnd L t u argument name (λ _ f. dstAt t (endOf argument name) f)
 
 -- a plan that stores nothing and writes to the reply buffer, with the checks before 20 and those after it
 abbrev pub showing : List Check → List ℕ → List ℕ → List Check → Planned
@@ -331,33 +332,33 @@ abbrev pub beyondEnd : Place → Part → List ℕ → Check
 beyondEnd place first text = check (ltb (length text) (orElse first 0)) 28 place
 
 -- "RDS writes the text to the front of the reply buffer": the part of it that was asked for
-unfoldable pub rdsPlan : List ℕ → ℕ → List ℕ → Word → Part → Part → Planned
-rdsPlan t u reply name first count =
-    toEnd t u 1 name
+unfoldable pub rdsPlan : Layout → List ℕ → ℕ → List ℕ → Word → Part → Part → Planned
+rdsPlan L t u reply name first count =
+    toEnd L t u 1 name
     (λ _ f.
     let text = fileText t (file t f) in
     showing (readInhibited (endOf 1 name) f ∷ notSimple (endOf 1 name) t f ∷ []) (part text first count) reply
     (isMarked (endOf 1 name) t f ∷ beyondEnd (whole 2) first text ∷ []))
 
 -- "LST writes one line an entry"
-unfoldable pub lstPlan : List ℕ → ℕ → List ℕ → Word → Planned
-lstPlan t u reply name =
-    toEnd t u 1 name
-    (λ _ f. writing (readInhibited (endOf 1 name) f ∷ noDirectory (endOf 1 name) t f ∷ []) (directoryLines t (file t f)) reply)
+unfoldable pub lstPlan : Layout → List ℕ → ℕ → List ℕ → Word → Planned
+lstPlan L t u reply name =
+    toEnd L t u 1 name
+    (λ _ f. writing (readInhibited (endOf 1 name) f ∷ noDirectory (endOf 1 name) t f ∷ []) (directoryLines L t (file t f)) reply)
 
 -- "LST of a lone point"
-unfoldable pub lstBasePlan : List ℕ → ℕ → List ℕ → Planned
-lstBasePlan t u reply = writing [] (baseLines t u) reply
+unfoldable pub lstBasePlan : Layout → List ℕ → ℕ → List ℕ → Planned
+lstBasePlan L t u reply = writing [] (baseLines L t u) reply
 
 -- "`LST*` name digit lists a directory and, under each entry that is a readable directory, its entries"
-unfoldable pub lstTreePlan : List ℕ → ℕ → List ℕ → Word → ℕ → Planned
-lstTreePlan t u reply name depth =
-    toEnd t u 1 name
-    (λ _ f. writing (readInhibited (endOf 1 name) f ∷ noDirectory (endOf 1 name) t f ∷ []) (directoryTree t depth 0 (file t f)) reply)
+unfoldable pub lstTreePlan : Layout → List ℕ → ℕ → List ℕ → Word → ℕ → Planned
+lstTreePlan L t u reply name depth =
+    toEnd L t u 1 name
+    (λ _ f. writing (readInhibited (endOf 1 name) f ∷ noDirectory (endOf 1 name) t f ∷ []) (directoryTree L t depth 0 (file t f)) reply)
 
 -- ".. a lone point .. included"
-unfoldable pub lstBaseTreePlan : List ℕ → ℕ → List ℕ → ℕ → Planned
-lstBaseTreePlan t u reply depth = writing [] (baseTree t depth u) reply
+unfoldable pub lstBaseTreePlan : Layout → List ℕ → ℕ → List ℕ → ℕ → Planned
+lstBaseTreePlan L t u reply depth = writing [] (baseTree L t depth u) reply
 
 -- document 02, `WRS*`: "the heading marked (byte 5 is 1) with length 0, old text cleared by position"
 unfoldable pub emptying : List ℕ → ℕ → List Store
@@ -384,5 +385,5 @@ abbrev pub rewriteAt : List ℕ → List ℕ → Place → State → Planned
 rewriteAt t text place f =
     storing (writeInhibited place f ∷ notSimple place t f ∷ noRoomFor t (file t f) text ∷ isLong place t f ∷ []) (rewriting t (file t f) text)
 
-unfoldable pub rewritePlan : List ℕ → ℕ → List ℕ → Word → Planned
-rewritePlan t u text name = toEnd t u 2 name (λ _ f. rewriteAt t text (endOf 2 name) f)
+unfoldable pub rewritePlan : Layout → List ℕ → ℕ → List ℕ → Word → Planned
+rewritePlan L t u text name = toEnd L t u 2 name (λ _ f. rewriteAt t text (endOf 2 name) f)

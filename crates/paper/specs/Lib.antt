@@ -1,6 +1,7 @@
 pub mod Number
 pub mod Scan
 pub mod Record
+pub mod Layout
 pub mod Table
 pub mod Name
 pub mod Declaration
@@ -19,4 +20,5 @@ pub mod Listing
 pub mod Effect
 pub mod Mend
 pub mod Answer
+pub mod Convert
 pub mod Case

@@ -4,7 +4,8 @@ use mathlib.Core.List.{List}
 use Prim.Native.Nat.{ℕ, _+_, _-_}
 use lib.Dec.{eqb, leb, ltb}
 use Rattle.paper.specs.Scan.{allBelow, anyBelow, countBelow}
-use Rattle.paper.specs.Record.{byte, isKind, headingType, level, headingCode, lifetime, textLength, mark, directory, simple, entryCode, holderOf, headingNamed, userOf, nameLength, nameOf, bytesHeld, headingOf, position, textAt, zeros}
+use Rattle.paper.specs.Record.{byte, isKind, headingType, level, headingCode, lifetime, textLength, mark, directory, simple, entryCode, holderOf, headingNamed, userOf, bytesHeld, headingOf, position, textAt, zeros}
+use Rattle.paper.specs.Layout.{Layout, nameOf}
 use Rattle.paper.specs.Table.{rooms, rec}
 use Rattle.paper.specs.Name.{linkName, legalBase}
 use Rattle.paper.specs.Entry.{holder, bears, crowd, limit, named}
@@ -33,17 +34,17 @@ headingAsAbove i r =
     leb (headingType r) 1 && leb (level r) 3 && leb (headingCode r) 7 && leb 1 (lifetime r) && leb (lifetime r) 2
     && markRight r && zeros 6 4 r && implies (eqb (headingType r) 1) (zeros 14 2 r) && zeros 16 16 r
 
-abbrev pub entryAsAbove : ℕ → List ℕ → Bool
-entryAsAbove i r = leb (entryCode r) 7 && leb (nameLength r) 10 && zeros 20 12 r
+abbrev pub entryAsAbove : Layout → ℕ → List ℕ → Bool
+entryAsAbove L i r = leb (entryCode r) 7 && L .asAbove r
 
 abbrev pub textAsAbove : ℕ → List ℕ → Bool
 textAsAbove i r =
     leb 1 (bytesHeld r) && leb (bytesHeld r) 24 && zeros 6 2 r && zeros (8 + bytesHeld r) (24 - bytesHeld r) r
 
-unfoldable pub asAbove : List ℕ → Bool
-asAbove t =
+unfoldable pub asAbove : Layout → List ℕ → Bool
+asAbove L t =
     allBelow (λ i. leb (byte (rec t i) 0) 3) (rooms t)
-    && every 0 freeAsAbove t && every 1 headingAsAbove t && every 2 entryAsAbove t && every 3 textAsAbove t
+    && every 0 freeAsAbove t && every 1 headingAsAbove t && every 2 (entryAsAbove L) t && every 3 textAsAbove t
 
 -- the entry is a base file's
 abbrev pub isBase : List ℕ → Bool
@@ -71,18 +72,18 @@ unfoldable pub usersRight : List ℕ → Bool
 usersRight t = every 2 userRight t
 
 -- "as are name bytes past the length"
-abbrev pub namePadded : ℕ → List ℕ → Bool
-namePadded i r = zeros (10 + nameLength r) (10 - nameLength r) r
+abbrev pub namePadded : Layout → ℕ → List ℕ → Bool
+namePadded L i r = L .padded r
 
-unfoldable pub namesPadded : List ℕ → Bool
-namesPadded t = every 2 namePadded t
+unfoldable pub namesPadded : Layout → List ℕ → Bool
+namesPadded L t = every 2 (namePadded L) t
 
 -- "no directory, and no one user's base list, has a name twice": no entry before it bears the same name there
-abbrev pub notTwice : List ℕ → ℕ → List ℕ → Bool
-notTwice t i r = not (anyBelow (λ j. bears (holder r) (nameOf r) (rec t j)) i)
+abbrev pub notTwice : Layout → List ℕ → ℕ → List ℕ → Bool
+notTwice L t i r = not (anyBelow (λ j. bears L (holder r) (nameOf L r) (rec t j)) i)
 
-unfoldable pub noneTwice : List ℕ → Bool
-noneTwice t = every 2 (notTwice t) t
+unfoldable pub noneTwice : Layout → List ℕ → Bool
+noneTwice L t = every 2 (notTwice L t) t
 
 -- "every heading is named by an entry"
 abbrev pub isNamed : List ℕ → ℕ → List ℕ → Bool
@@ -129,21 +130,21 @@ unfoldable pub noOtherText : List ℕ → Bool
 noOtherText t = every 3 (textInPlace t) t
 
 -- "names are legal"
-abbrev pub nameLegal : ℕ → List ℕ → Bool
-nameLegal i r = linkName (nameOf r) && implies (isBase r) (legalBase (nameOf r))
+abbrev pub nameLegal : Layout → ℕ → List ℕ → Bool
+nameLegal L i r = linkName (nameOf L r) && implies (isBase r) (legalBase (nameOf L r))
 
-unfoldable pub namesLegal : List ℕ → Bool
-namesLegal t = every 2 nameLegal t
+unfoldable pub namesLegal : Layout → List ℕ → Bool
+namesLegal L t = every 2 (nameLegal L) t
 
 -- document 02: "Soundness says that both are true."
 unfoldable pub countsTrue : List ℕ → Bool
 countsTrue t = every 1 (countsRight t) t
 
 -- all of it but the counts
-unfoldable pub shaped : List ℕ → Bool
-shaped t =
-    asAbove t && holdersThere t && headingsThere t && usersRight t && namesPadded t && noneTwice t && allNamed t
-    && noneCrowded t && directoriesPlain t && textsWhole t && noOtherText t && namesLegal t
+unfoldable pub shaped : Layout → List ℕ → Bool
+shaped L t =
+    asAbove L t && holdersThere t && headingsThere t && usersRight t && namesPadded L t && noneTwice L t && allNamed t
+    && noneCrowded t && directoriesPlain t && textsWhole t && noOtherText t && namesLegal L t
 
-unfoldable pub sound : List ℕ → Bool
-sound t = shaped t && countsTrue t
+unfoldable pub sound : Layout → List ℕ → Bool
+sound L t = shaped L t && countsTrue t

@@ -5,6 +5,7 @@ use Prim.Native.Nat.{ℕ, suc, _-_}
 use lib.ListN.{length, getD}
 use Rattle.paper.specs.Scan.{Found, at, nowhere}
 use Rattle.paper.specs.Record.{headingCode, entryCode, headingNamed, directory}
+use Rattle.paper.specs.Layout.{Layout}
 use Rattle.paper.specs.Table.{rec}
 use Rattle.paper.specs.Code.{joined, noRead}
 use Rattle.paper.specs.Entry.{Holder, baseList, inDirectory, find}
@@ -37,8 +38,8 @@ abbrev pub looked : List ℕ → State → Found → Step
 looked t s (at e) = on (record { holder = s .holder; entry = e; code = applies t e })
 looked t s nowhere = off 11
 
-unfoldable pub look : List ℕ → State → List ℕ → Step
-look t s n = looked t s (find t (s .holder) n)
+unfoldable pub look : Layout → List ℕ → State → List ℕ → Step
+look L t s n = looked t s (find L t (s .holder) n)
 
 -- 12 and 13: "A name before the last must be a directory not read-inhibited."
 unfoldable pub enter : List ℕ → State → Step
@@ -51,8 +52,8 @@ then (on s) f = f s
 then (off number) f = off number
 
 -- a link before the last: "at each link 11, 12, 13"
-unfoldable pub follow : List ℕ → State → List ℕ → Step
-follow t s n = then (look t s n) (enter t)
+unfoldable pub follow : Layout → List ℕ → State → List ℕ → Step
+follow L t s n = then (look L t s n) (enter t)
 
 -- the end of a walk, or its number with the link that it stopped at
 pub data Walked : Type 0 where
@@ -64,18 +65,18 @@ linked k (on s) f = f s
 linked k (off number) f = stopped number k
 
 -- "a new name only to its directory": from link k on, every name but the last is followed
-unfoldable pub toDirectory : List ℕ → ℕ → State → List (List ℕ) → Walked
-toDirectory t k s [] = reached s
-toDirectory t k s (n ∷ []) = reached s
-toDirectory t k s (n ∷ m ∷ ns) = linked k (follow t s n) (λ d. toDirectory t (suc k) d (m ∷ ns))
+unfoldable pub toDirectory : Layout → List ℕ → ℕ → State → List (List ℕ) → Walked
+toDirectory L t k s [] = reached s
+toDirectory L t k s (n ∷ []) = reached s
+toDirectory L t k s (n ∷ m ∷ ns) = linked k (follow L t s n) (λ d. toDirectory L t (suc k) d (m ∷ ns))
 
 -- the last name of a chain
 unfoldable pub lastName : List (List ℕ) → List ℕ
 lastName ns = getD ns (length ns - 1) []
 
 -- the last name is looked up in the directory d
-abbrev pub toLast : List ℕ → State → List (List ℕ) → Walked
-toLast t d ns = linked (length ns) (look t d (lastName ns)) reached
+abbrev pub toLast : Layout → List ℕ → State → List (List ℕ) → Walked
+toLast L t d ns = linked (length ns) (look L t d (lastName ns)) reached
 
 -- the end of a walk: the directory and the file of a name, or its number with the link that it stopped at
 pub data End : Type 0 where
@@ -86,10 +87,10 @@ abbrev pub lastFrom : State → Walked → End
 lastFrom d (reached f) = arrived d f
 lastFrom d (stopped number link) = astray number link
 
-abbrev pub endFrom : List ℕ → List (List ℕ) → Walked → End
-endFrom t ns (reached d) = lastFrom d (toLast t d ns)
-endFrom t ns (stopped number link) = astray number link
+abbrev pub endFrom : Layout → List ℕ → List (List ℕ) → Walked → End
+endFrom L t ns (reached d) = lastFrom d (toLast L t d ns)
+endFrom L t ns (stopped number link) = astray number link
 
 -- "at each link 11, 12, 13": every name but the last to its directory, and there the last
-unfoldable pub ended : List ℕ → State → List (List ℕ) → End
-ended t s ns = endFrom t ns (toDirectory t 1 s ns)
+unfoldable pub ended : Layout → List ℕ → State → List (List ℕ) → End
+ended L t s ns = endFrom L t ns (toDirectory L t 1 s ns)

@@ -10,7 +10,8 @@ use lib.Dec.{eqb}
 use lib.ListN.{length}
 use borrow.Author.Tests.{eqb-true, eq-eqb, ne-eqb, leb-true}
 use Rattle.paper.specs.Scan.{at}
-use Rattle.paper.specs.Record.{byte, directory, holderOf, headingNamed, userOf, names, entryRecord, blank}
+use Rattle.paper.specs.Record.{byte, directory, holderOf, headingNamed, userOf, names, blank}
+use Rattle.paper.specs.Layout.{entryRecord, boxed}
 use Rattle.paper.specs.Table.{rooms, rec, lay, frees, room}
 use Rattle.paper.specs.Entry.{Holder, holder, inDirectory, stands, find}
 use Rattle.paper.specs.Sound.{isBase, countsTrue}
@@ -147,7 +148,7 @@ module _ (t : List ℕ) (c : Right t) (e : ℕ) (l : e < rooms t) (k : byte (rec
 
 module _ (t : List ℕ) (c : Right t) (code : ℕ) (hd : Holder) (k : ℕ) (n : List ℕ) (short : length n ≤ 10) (small : k < 65536) where
   abbrev r : List ℕ
-  r = entryRecord code (hd .heading) k (hd .user) n
+  r = entryRecord boxed code (hd .heading) k (hd .user) n
 
   kind : byte r 0 ≡ 2
   kind = entry-record-kind code (hd .heading) k (hd .user) n
@@ -159,7 +160,7 @@ module _ (t : List ℕ) (c : Right t) (code : ℕ) (hd : Holder) (k : ℕ) (n : 
   names-entry i = names-of r kind i ∙ ap (λ (x : ℕ). eqb i x) heading
 
   -- over an entry that bears its name: it stands where that stood
-  module _ (e : ℕ) (q : find t hd n ≡ at e) where
+  module _ (e : ℕ) (q : find boxed t hd n ≡ at e) where
     there : (e < rooms t) × Stands hd (rec t e)
     there = found-stands t hd n e q
 
@@ -178,7 +179,7 @@ module _ (t : List ℕ) (c : Right t) (code : ℕ) (hd : Holder) (k : ℕ) (n : 
         let old : byte (rec f e) 0 ≡ 2 = rw same (there .1 .kind) in
         record {
           within = rw (grown-rooms t f g) (there .0);
-          size = length-entry code (hd .heading) k (hd .user) n short;
+          size = length-entry code (hd .heading) k (hd .user) n;
           few = rw (grown-rooms t f g) (c .clauses .few);
           old = omega arith;
           new = omega (arith, kind);
@@ -201,7 +202,7 @@ module _ (t : List ℕ) (c : Right t) (code : ℕ) (hd : Holder) (k : ℕ) (n : 
     stays : (i : ℕ) → byte (rec t i) 0 ≡ 1 → rec f i ≡ rec t i
     stays i q = grown-stays t f (b .grown) i (c .clauses .whole) (λ (z : byte (rec t i) 0 ≡ 0). omega arith)
 
-    module _ (e : ℕ) (q : find t hd n ≡ at e) where
+    module _ (e : ℕ) (q : find boxed t hd n ≡ at e) where
       same : rec f e ≡ rec t e
       same = grown-stays t f (b .grown) e (c .clauses .whole) (omega (arith, there e q .1 .kind))
 
@@ -268,7 +269,7 @@ module _ (t : List ℕ) (c : Right t) (code : ℕ) (hd : Holder) (k : ℕ) (n : 
       free-enters =
           record {
             within = rw rooms-run (room-below t (length first) l);
-            size = length-entry code (hd .heading) k (hd .user) n short;
+            size = length-entry code (hd .heading) k (hd .user) n;
             few = few-f;
             old = omega (arith, free);
             new = omega (arith, kind);

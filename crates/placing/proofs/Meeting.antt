@@ -11,7 +11,8 @@ use lib.Dec.{eqb, leb, ltb}
 use lib.ListN.{length}
 use borrow.Author.Tests.{eq-eqb, ne-eqb, lt-ltb}
 use Rattle.paper.specs.Scan as F
-use Rattle.paper.specs.Record.{byte, directory, holderOf, headingNamed, entryRecord, blank}
+use Rattle.paper.specs.Record.{byte, directory, holderOf, headingNamed, blank}
+use Rattle.paper.specs.Layout.{entryRecord, boxed}
 use Rattle.paper.specs.Table.{sized, rooms, rec, lay, frees, room}
 use Rattle.paper.specs.Entry.{Holder, inDirectory, find, full, peopled}
 use Rattle.paper.specs.Block.{blocksOf}
@@ -86,7 +87,7 @@ run-entry : (t : List ℕ) (first : List Store) (e : ℕ) (r : List ℕ) → run
 unfolding run
 run-entry t first e r = run-append t first (puts e r ∷ [])
 
-module _ (t : List ℕ) (fit : sized t ≡ true) (right : sound t ≡ true) where
+module _ (t : List ℕ) (fit : sized t ≡ true) (right : sound boxed t ≡ true) where
   c : Right t
   c = sound-right t fit right
 
@@ -115,7 +116,7 @@ module _ (t : List ℕ) (fit : sized t ≡ true) (right : sound t ≡ true) wher
       go (inr d) = rw d
 
   -- the file of an entry that is found has at most 1,000 text records
-  found-few : (d : Holder) (n : List ℕ) (e : ℕ) → find t d n ≡ F.at e → blocksOf t (headingNamed (rec t e)) ≤ 1000
+  found-few : (d : Holder) (n : List ℕ) (e : ℕ) → find boxed t d n ≡ F.at e → blocksOf t (headingNamed (rec t e)) ≤ 1000
   found-few d n e q =
       let w = found-stands t d n e q in
       let h = headingNamed (rec t e) in
@@ -135,9 +136,9 @@ module _ (t : List ℕ) (fit : sized t ≡ true) (right : sound t ≡ true) wher
 
   module _ (code : ℕ) (hd : Holder) (k : ℕ) (n : List ℕ) (short : length n ≤ 10) (small : k < 65536) where
     abbrev r : List ℕ
-    r = entryRecord code (hd .heading) k (hd .user) n
+    r = entryRecord boxed code (hd .heading) k (hd .user) n
 
-    lost-met : (e : ℕ) → find t hd n ≡ F.at e → lost t e r ≡ lostBy t (headingNamed (rec t e)) k
+    lost-met : (e : ℕ) → find boxed t hd n ≡ F.at e → lost t e r ≡ lostBy t (headingNamed (rec t e)) k
     lost-met e q =
         let w = found-stands t hd n e q in
         let h : ℕ = headingNamed (rec t e) in
@@ -146,7 +147,7 @@ module _ (t : List ℕ) (fit : sized t ≡ true) (right : sound t ≡ true) wher
         ∙ ap (λ (b : Bool). not b && lastBy t h) (names-entry t c code hd k n short small h ∙ eqb-turn h k)
 
     -- 18
-    pub displaced-loses : (f : F.Found) (free : ℕ) → find t hd n ≡ f → displacing t f r ≡ losingBy t (met t (foundShown f) hd k free)
+    pub displaced-loses : (f : F.Found) (free : ℕ) → find boxed t hd n ≡ f → displacing t f r ≡ losingBy t (met t (foundShown f) hd k free)
     unfolding losing
     displaced-loses (F.at e) free q =
         ap (λ (b : Bool). b && (directory (rec t (headingNamed (rec t e))) && peopled t (headingNamed (rec t e)))) (lost-met e q)
@@ -154,7 +155,7 @@ module _ (t : List ℕ) (fit : sized t ≡ true) (right : sound t ≡ true) wher
     displaced-loses F.nowhere free q = refl
 
     -- the stores, with what is met: where nothing is displaced there is a free record left for the entry
-    pub placed-settled : (m : Making) → m .entry ≡ r → Before t (m .first) k → Held t hd → (f : F.Found) → find t hd n ≡ f
+    pub placed-settled : (m : Making) → m .entry ≡ r → Before t (m .first) k → Held t hd → (f : F.Found) → find boxed t hd n ≡ f
         → (f ≡ F.nowhere → length (m .first) < length (frees t))
         → placing t m f ≡ (let x = met t (foundShown f) hd k (room t (length (m .first))) in
         m .first ++ entryStores (run t (m .first)) x (m .entry) (textRooms t (x .heading .0) (x .count .0)))
@@ -176,7 +177,7 @@ module _ (t : List ℕ) (fit : sized t ≡ true) (right : sound t ≡ true) wher
         (append-assoc first (puts e r ∷ []) _)
 
     -- few text records are cleared
-    pub met-few : (f : F.Found) (free : ℕ) → find t hd n ≡ f → met t (foundShown f) hd k free .count .0 ≤ 1000
+    pub met-few : (f : F.Found) (free : ℕ) → find boxed t hd n ≡ f → met t (foundShown f) hd k free .count .0 ≤ 1000
     met-few (F.at e) free q = found-few hd n e q
     met-few F.nowhere free q = omega arith
 

@@ -8,10 +8,13 @@ use native.Mathlib.Nat.{sub-zero, zero-sub, suc-sub-suc}
 use lib.ListN.{length, take, drop, replicate, length-append, length-replicate, length-take, replicate-append-replicate, drop-of-length-le}
 use lib.Seq.{sets, sets-eq, take-append-seam, drop-append-add, take-all}
 use Rattle.paper.specs.Number.{bytesOf}
-use Rattle.paper.specs.Record.{padded, nameField, textRecord}
+use Rattle.paper.specs.Record.{padded, textRecord}
+use Rattle.paper.specs.Layout.{nameField, sixField, packed, boxed}
 use Rattle.paper.specs.Table.{rooms, rec}
 use Rattle.laws.proofs.Fields.{length-padded, length-name}
 use Rattle.laws.proofs.Lay.{length-rec}
+use Rattle.laws.proofs.Numbers.{length-bytes}
+use Rattle.records.proofs.Packed.{packed-take}
 use Rattle.paper.specs.Block.{block}
 
 drop-zeros : (k n : ℕ) → drop k (replicate {A = ℕ} n 0) ≡ replicate (n - k) 0
@@ -59,15 +62,16 @@ length-whole t i = length-padded 32 (rec t i) (length-cut 32 (drop (i * 32) t))
 pub whole-there : (t : List ℕ) (i : ℕ) → i < rooms t → padded 32 (rec t i) ≡ rec t i
 whole-there t i h = rw (length-rec t i h) (append-nil (rec t i))
 
-pub name-over : (name kept : List ℕ) → kept ≡ take 10 name
-    → sets (length kept ∷ replicate 22 0) 1 kept ≡ nameField (take 10 name)
-unfolding nameField
-name-over name kept e = over-zeros (length kept ∷ []) kept 10 12 (length-kept 10 name kept e) ∙ rw e
+pub name-over : (name : List ℕ) → sets (replicate 23 0) 1 (bytesOf 8 (packed name)) ≡ nameField boxed (take 10 name)
+unfolding sixField
+name-over name =
+    over-zeros (0 ∷ []) (bytesOf 8 (packed name)) 8 14 (omega (arith, length-bytes 8 (packed name)))
+    ∙ rw (length-bytes 8 (packed name), append-nil (bytesOf 8 (packed name)), packed-take name)
 
 -- a name put at the end of 32 bytes
 pub name-end : (r name : List ℕ) → length r ≡ 32
-    → sets r 9 (nameField (take 10 name)) ≡ take 9 r ++ nameField (take 10 name)
-name-end r name e = to-end r (nameField (take 10 name)) 9 (rw (length-name (take 10 name) (length-cut 10 name), e))
+    → sets r 9 (nameField boxed (take 10 name)) ≡ take 9 r ++ nameField boxed (take 10 name)
+name-end r name e = to-end r (nameField boxed (take 10 name)) 9 (rw (length-name (take 10 name), e))
 
 pub text-over : (h p : ℕ) (bytes kept : List ℕ) → kept ≡ take 24 bytes
     → sets (3 ∷ length kept ∷ h % 256 ∷ h / 256 % 256 ∷ p % 256 ∷ p / 256 % 256 ∷ 0 ∷ 0 ∷ replicate 24 0) 8 kept

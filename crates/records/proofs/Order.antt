@@ -1,17 +1,16 @@
--- Two names are compared from a place on: where both have a byte there it decides, or what follows does; where one has none its
--- end decides. So what is left from each place on says what the whole says, as long as the bytes before it are alike.
-use mathlib.Core.Bool.{true, false, _&&_, _||_}
+-- Two names are compared from a place on: where both have a byte there it decides, or what follows does.
+-- So what is left from each place on says what the whole says, as long as the bytes before it are alike.
+use mathlib.Core.Bool.{true, false, _&&_}
 use mathlib.Core.List.{List, [], _∷_}
 use mathlib.Core.Path.{_≡_, refl, ap}
 use Prim.Native.Nat.{ℕ, suc, _+_, _≤_, _<_}
-use native.Mathlib.Omega.{arith}
 use native.Mathlib.Numerals.{add-one}
-use lib.Dec.{eqb, ltb}
+use lib.Dec.{eqb}
 use lib.ListN.{getD, length, drop, drop-of-length-le}
 use lib.Seq.{drop-cons}
-use borrow.Author.Tests.{eq-eqb, ne-eqb, lt-ltb, le-ltb}
+use borrow.Author.Tests.{eq-eqb, ne-eqb}
 use Rattle.laws.proofs.Tests.{and-no-right}
-use Rattle.paper.specs.Name.{same, before}
+use Rattle.paper.specs.Name.{same}
 
 pub same-length : (a b : List ℕ) → (length a ≡ length b → ⊥) → same a b ≡ false
 unfolding same
@@ -25,14 +24,6 @@ pub same-end : (a b : List ℕ) (i : ℕ) → length a ≤ i → length b ≤ i 
 unfolding same
 same-end a b i h k = rw (drop-of-length-le a {i = i} h, drop-of-length-le b {i = i} k)
 
-pub before-end : (a b : List ℕ) (i : ℕ) → length b ≤ i → before (drop i a) (drop i b) ≡ false
-unfolding before
-before-end a b i k = rw (drop-of-length-le b {i = i} k) (go (drop i a))
-  where
-    go : (s : List ℕ) → before s [] ≡ false
-    go [] = refl
-    go (x ∷ s) = refl
-
 module _ (a b : List ℕ) (i : ℕ) (l : i < length a) (m : i < length b) where
   same-at : same (drop i a) (drop i b) ≡ (eqb (getD a i 0) (getD b i 0) && same (drop (i + 1) a) (drop (i + 1) b))
   unfolding same
@@ -43,24 +34,3 @@ module _ (a b : List ℕ) (i : ℕ) (l : i < length a) (m : i < length b) where
 
   pub same-off : (getD a i 0 ≡ getD b i 0 → ⊥) → same (drop i a) (drop i b) ≡ false
   same-off e = rw (same-at, ne-eqb _ _ e)
-
-  before-at : before (drop i a) (drop i b)
-      ≡ (ltb (getD a i 0) (getD b i 0) || eqb (getD a i 0) (getD b i 0) && before (drop (i + 1) a) (drop (i + 1) b))
-  unfolding before
-  before-at = rw (drop-cons a i 0 l, drop-cons b i 0 m, add-one)
-
-  pub before-here : getD a i 0 < getD b i 0 → before (drop i a) (drop i b) ≡ true
-  before-here h = rw (before-at, lt-ltb _ _ h)
-
-  pub after-here : getD b i 0 < getD a i 0 → before (drop i a) (drop i b) ≡ false
-  after-here h =
-      let differ : getD a i 0 ≡ getD b i 0 → ⊥ = λ e. omega arith in
-      rw (before-at, le-ltb (getD a i 0) (getD b i 0) (omega arith), ne-eqb (getD a i 0) (getD b i 0) differ)
-
-  pub before-on : getD b i 0 ≤ getD a i 0 → getD a i 0 ≤ getD b i 0
-      → before (drop i a) (drop i b) ≡ before (drop (i + 1) a) (drop (i + 1) b)
-  before-on h k = rw (before-at, le-ltb (getD a i 0) (getD b i 0) h, eq-eqb (getD a i 0) (getD b i 0) (omega arith))
-
-pub before-short : (a b : List ℕ) (i : ℕ) → length a ≤ i → i < length b → before (drop i a) (drop i b) ≡ true
-unfolding before
-before-short a b i h m = rw (drop-of-length-le a {i = i} h, drop-cons b i 0 m)

@@ -1,6 +1,7 @@
 // A record of a lent table as a stretch of it, and the numbers in a stretch of bytes.
 ghost use mathlib.Core.Path.{_≡_};
 ghost use lib.ListN.{take, drop};
+ghost use Rattle.paper.specs.Number.{numberAt};
 ghost use Rattle.paper.specs.Record.{byte, two, three};
 ghost use Rattle.paper.specs.Table.{sized, rooms, rec};
 
@@ -109,6 +110,30 @@ pub fn three_of(table: &[u8], room: Room, place: usize) -> u32
     let low = byte_of(table, room, place) as u32;
     let rest = two_of(table, room, place + 1) as u32;
     low + rest * 256
+}
+
+// The four-byte number at a place of a record, low byte first.
+fn four_of(table: &[u8], room: Room, place: usize) -> u32
+    ensures { λ r. ⌜ r ≡ numberAt 4 (rec (now (table .entry)) (room .0)) place ⌝ }
+{
+    if Room::SIZE <= place {
+        return 0;
+    }
+    let low = two_of(table, room, place) as u32;
+    let high = two_of(table, room, place + 2) as u32;
+    low + high * 65536
+}
+
+// The eight-byte number at a place of a record, low byte first.
+pub fn eight_of(table: &[u8], room: Room, place: usize) -> u64
+    ensures { λ r. ⌜ r ≡ numberAt 8 (rec (now (table .entry)) (room .0)) place ⌝ }
+{
+    if Room::SIZE <= place {
+        return 0;
+    }
+    let low = four_of(table, room, place) as u64;
+    let high = four_of(table, room, place + 4) as u64;
+    low + high * 4294967296
 }
 
 // The kind of a record: 0 free, 1 heading, 2 entry, 3 text.

@@ -5,5 +5,6 @@ pub mod code;
 pub mod entry;
 pub mod heading;
 pub mod name;
+pub mod packing;
 pub mod store;
 pub mod text;

@@ -1,6 +1,6 @@
-// Names: the same, and in order.
+// Names that are the same.
 ghost use mathlib.Core.Path.{_≡_};
-ghost use Rattle.paper.specs.Name.{same, before};
+ghost use Rattle.paper.specs.Name.{same};
 
 // Whether two names are the same.
 pub fn are_same(a: &[u8], b: &[u8]) -> bool
@@ -18,24 +18,4 @@ pub fn are_same(a: &[u8], b: &[u8]) -> bool
         i += 1;
     }
     true
-}
-
-// Whether one name stands before another: in byte order, a name before its longer continuations.
-pub fn is_before(a: &[u8], b: &[u8]) -> bool
-    ensures { λ r. ⌜ r ≡ before (now (a .entry)) (now (b .entry)) ⌝ }
-{
-    let mut i: usize = 0;
-    while i < b.len() {
-        if a.len() <= i {
-            return true;
-        }
-        if a[i] < b[i] {
-            return true;
-        }
-        if b[i] < a[i] {
-            return false;
-        }
-        i += 1;
-    }
-    false
 }

@@ -5,11 +5,14 @@ use records::entry::Entry;
 use records::entry::Holder;
 use records::entry::bears;
 use records::entry::stands;
+use records::packing::is_unpacked;
+use records::packing::pack;
 ghost use mathlib.Core.Path.{_≡_};
 ghost use Prim.Native.Nat.{_<_};
 ghost use lib.Dec.{ltb};
 ghost use lib.ListN.{length};
 ghost use Rattle.paper.specs.Record.{isKind};
+ghost use Rattle.paper.specs.Layout.{unpacked, boxed};
 ghost use Rattle.paper.specs.Table.{rooms, rec, frees};
 ghost use Rattle.paper.specs.Entry.{stands, bears, find, crowd, full};
 ghost use Rattle.records.specs.Shown.{holderShown};
@@ -40,12 +43,12 @@ fn stands_here(table: &[u8], i: usize, d: Holder) -> bool
     false
 }
 
-fn bears_here(table: &[u8], i: usize, d: Holder, name: &[u8]) -> bool
+fn bears_here(table: &[u8], i: usize, d: Holder, number: u64) -> bool
     requires { ⌜ i < rooms (now table) ⌝ }
-    ensures { λ r. ⌜ r ≡ bears (holderShown d) (now (name .entry)) (rec (now (table .entry)) i) ⌝ }
+    ensures { λ r. ⌜ r ≡ bears boxed (holderShown d) (unpacked number) (rec (now (table .entry)) i) ⌝ }
 {
     if is_kind(table, i, Entry::KIND) {
-        return bears(table, Room(i), d, name);
+        return bears(table, Room(i), d, number);
     }
     false
 }
@@ -73,17 +76,29 @@ pub fn is_full(table: &[u8], d: Holder) -> bool
     d.limit().0 <= crowd(table, d).0
 }
 
-// The entry that bears a name in d.
-pub fn find(table: &[u8], d: Holder, name: &[u8]) -> Found
-    ensures { λ r. ⌜ r ≡ foundShown (find (now (table .entry)) (holderShown d) (now (name .entry))) ⌝ }
+// The entry that bears the name of a number in d.
+fn find_number(table: &[u8], d: Holder, number: u64) -> Found
+    ensures { λ r. ⌜ r ≡ foundShown (find boxed (now (table .entry)) (holderShown d) (unpacked number)) ⌝ }
 {
     let n = rooms(table).0;
     let mut i: usize = 0;
     while i < n {
-        if bears_here(table, i, d, name) {
+        if bears_here(table, i, d, number) {
             return Found::At(Room(i));
         }
         i += 1;
+    }
+    Found::Nowhere
+}
+
+// The entry that bears a name in d: the name is packed once, and numbers are compared. No entry bears a name that does not come back
+// from its number.
+pub fn find(table: &[u8], d: Holder, name: &[u8]) -> Found
+    ensures { λ r. ⌜ r ≡ foundShown (find boxed (now (table .entry)) (holderShown d) (now (name .entry))) ⌝ }
+{
+    let number = pack(name);
+    if is_unpacked(name, number) {
+        return find_number(table, d, number);
     }
     Found::Nowhere
 }

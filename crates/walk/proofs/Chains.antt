@@ -7,6 +7,7 @@ use Prim.Native.Nat.{ℕ, suc, _+_, _-_, _<_}
 use native.Mathlib.Numerals.{add-one}
 use native.Mathlib.Omega.{arith}
 use lib.ListN.{length, drop}
+use Rattle.paper.specs.Layout.{boxed}
 use Rattle.paper.specs.Name.{pointed, dotW, chain}
 use Rattle.paper.specs.Walk.{on, off, follow, linked, reached, toDirectory, lastName}
 use Rattle.paper.specs.Walk as W
@@ -35,32 +36,34 @@ next-on line p q e =
 
 module _ (t : List ℕ) (k : ℕ) (s : State) (line : List ℕ) (p : ℕ) where
   -- a word of one name is not walked
-  pub walk-one : joined line p ≡ false → Reached s ≡ walkedShown (toDirectory t k (meant s) (namesFrom line p))
+  pub walk-one : joined line p ≡ false → Reached s ≡ walkedShown (toDirectory boxed t k (meant s) (namesFrom line p))
   unfolding toDirectory
   walk-one j = rw (names-one line p j)
 
   -- a name n before the names of a word is followed
   module _ (n : List ℕ) where
-    walk-link : toDirectory t k (meant s) (n ∷ namesFrom line p) ≡ linked k (follow t (meant s) n) (λ d. toDirectory t (suc k) d (namesFrom line p))
+    walk-link : toDirectory boxed t k (meant s) (n ∷ namesFrom line p)
+        ≡ linked k (follow boxed t (meant s) n) (λ d. toDirectory boxed t (suc k) d (namesFrom line p))
     unfolding toDirectory
     walk-link = rw (names-step line p)
 
     -- .. and stops the walk, or leads on
-    module _ (w : Walked) (e : w ≡ walkedShown (linked k (follow t (meant s) n) reached)) where
-      pub walk-off : (number link : ℕ) → w ≡ Stopped number link → w ≡ walkedShown (toDirectory t k (meant s) (n ∷ namesFrom line p))
-      walk-off number link f = e ∙ rw walk-link (go (follow t (meant s) n) (sym e ∙ f))
+    module _ (w : Walked) (e : w ≡ walkedShown (linked k (follow boxed t (meant s) n) reached)) where
+      pub walk-off : (number link : ℕ) → w ≡ Stopped number link → w ≡ walkedShown (toDirectory boxed t k (meant s) (n ∷ namesFrom line p))
+      walk-off number link f = e ∙ rw walk-link (go (follow boxed t (meant s) n) (sym e ∙ f))
         where
           go : (g : W.Step) → walkedShown (linked k g reached) ≡ Stopped number link
-              → walkedShown (linked k g reached) ≡ walkedShown (linked k g (λ d. toDirectory t (suc k) d (namesFrom line p)))
+              → walkedShown (linked k g reached) ≡ walkedShown (linked k g (λ d. toDirectory boxed t (suc k) d (namesFrom line p)))
           go (on d) f = let z : _≡_ {A = ℕ} 0 1 = cc in absurd (omega arith)
           go (off number) f = refl
 
-      pub walk-on : (d : State) → w ≡ Reached d → toDirectory t (k + 1) (meant d) (namesFrom line p) ≡ toDirectory t k (meant s) (n ∷ namesFrom line p)
-      walk-on d f = rw (add-one k, walk-link) (go (follow t (meant s) n) (sym e ∙ f))
+      pub walk-on : (d : State) → w ≡ Reached d
+          → toDirectory boxed t (k + 1) (meant d) (namesFrom line p) ≡ toDirectory boxed t k (meant s) (n ∷ namesFrom line p)
+      walk-on d f = rw (add-one k, walk-link) (go (follow boxed t (meant s) n) (sym e ∙ f))
         where
           go : (g : W.Step) → walkedShown (linked k g reached) ≡ Reached d
-              → toDirectory t (suc k) (meant d) (namesFrom line p) ≡ linked k g (λ d. toDirectory t (suc k) d (namesFrom line p))
-          go (on x) f = let z : shown x ≡ d = cc in ap (λ (y : State). toDirectory t (suc k) (meant y) (namesFrom line p)) (sym z)
+              → toDirectory boxed t (suc k) (meant d) (namesFrom line p) ≡ linked k g (λ d. toDirectory boxed t (suc k) d (namesFrom line p))
+          go (on x) f = let z : shown x ≡ d = cc in ap (λ (y : State). toDirectory boxed t (suc k) (meant y) (namesFrom line p)) (sym z)
           go (off number) f = let z : _≡_ {A = ℕ} 0 1 = cc in absurd (omega arith)
 
 -- the names after the first of a word: none, or those of the next
@@ -75,7 +78,7 @@ pub rest-length : (line : List ℕ) (p : ℕ) (n : List ℕ) → length (n ∷ d
 rest-length line p n = rw (names-step line p)
 
 pub walk-alone : (t : List ℕ) (s : State) (line : List ℕ) (p : ℕ) (n : List ℕ) → joined line p ≡ false
-    → Reached s ≡ walkedShown (toDirectory t 1 (meant s) (n ∷ drop 1 (namesFrom line p)))
+    → Reached s ≡ walkedShown (toDirectory boxed t 1 (meant s) (n ∷ drop 1 (namesFrom line p)))
 unfolding toDirectory
 walk-alone t s line p n j = rw (rest-one line p j)
 

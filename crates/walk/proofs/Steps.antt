@@ -8,6 +8,7 @@ use native.Mathlib.Omega.{arith}
 use Rattle.paper.specs.Code.{noRead}
 use Rattle.paper.specs.Entry.{find}
 use Rattle.paper.specs.Record.{directory}
+use Rattle.paper.specs.Layout.{boxed}
 use Rattle.paper.specs.Scan as scan
 use Rattle.paper.specs.Table.{rec}
 use Rattle.paper.specs.Walk.{on, off, file, applies, looked, look, enter, then, follow}
@@ -28,18 +29,18 @@ step-meant (off number) = refl
 
 module _ (t : List ℕ) (s : State) where
   -- the entry found, or none
-  pub look-none : (n : List ℕ) → foundShown (find t (holderShown (s .holder)) n) ≡ Nowhere → Off 11 ≡ stepShown (look t (meant s) n)
+  pub look-none : (n : List ℕ) → foundShown (find boxed t (holderShown (s .holder)) n) ≡ Nowhere → Off 11 ≡ stepShown (look boxed t (meant s) n)
   unfolding look
-  look-none n e = go (find t (holderShown (s .holder)) n) e
+  look-none n e = go (find boxed t (holderShown (s .holder)) n) e
     where
       go : (f : scan.Found) → foundShown f ≡ Nowhere → Off 11 ≡ stepShown (looked t (meant s) f)
       go (scan.at i) f = let z : _≡_ {A = ℕ} 0 1 = cc in absurd (omega arith)
       go scan.nowhere f = refl
 
-  pub look-found : (n : List ℕ) (e : Room) (code : Code) → foundShown (find t (holderShown (s .holder)) n) ≡ At e → code .0 ≡ applies t (e .0)
-      → On (record { holder = s .holder; entry = e; code = code }) ≡ stepShown (look t (meant s) n)
+  pub look-found : (n : List ℕ) (e : Room) (code : Code) → foundShown (find boxed t (holderShown (s .holder)) n) ≡ At e → code .0 ≡ applies t (e .0)
+      → On (record { holder = s .holder; entry = e; code = code }) ≡ stepShown (look boxed t (meant s) n)
   unfolding look
-  look-found n e code f a = go (find t (holderShown (s .holder)) n) f
+  look-found n e code f a = go (find boxed t (holderShown (s .holder)) n) f
     where
       go : (g : scan.Found) → foundShown g ≡ At e → On (record { holder = s .holder; entry = e; code = code }) ≡ stepShown (looked t (meant s) g)
       go (scan.at i) f = let z : i ≡ e .0 = ap (λ (y : Room). y .0) (room f) in rw (z, ← a)
@@ -65,17 +66,18 @@ module _ (t : List ℕ) (s : State) where
 
   -- a link before the last: the first step refused, or taken
   module _ (n : List ℕ) where
-    pub follow-off : (number : ℕ) → stepShown (look t (meant s) n) ≡ Off number → stepShown (look t (meant s) n) ≡ stepShown (follow t (meant s) n)
+    pub follow-off : (number : ℕ) → stepShown (look boxed t (meant s) n) ≡ Off number
+        → stepShown (look boxed t (meant s) n) ≡ stepShown (follow boxed t (meant s) n)
     unfolding follow
-    follow-off number e = go (look t (meant s) n) e
+    follow-off number e = go (look boxed t (meant s) n) e
       where
         go : (g : W.Step) → stepShown g ≡ Off number → stepShown g ≡ stepShown (then g (enter t))
         go (on d) f = let z : _≡_ {A = ℕ} 0 1 = cc in absurd (omega arith)
         go (off k) f = refl
 
-    pub follow-on : (d : State) → stepShown (look t (meant s) n) ≡ On d → stepShown (enter t (meant d)) ≡ stepShown (follow t (meant s) n)
+    pub follow-on : (d : State) → stepShown (look boxed t (meant s) n) ≡ On d → stepShown (enter t (meant d)) ≡ stepShown (follow boxed t (meant s) n)
     unfolding follow
-    follow-on d e = go (look t (meant s) n) e
+    follow-on d e = go (look boxed t (meant s) n) e
       where
         go : (g : W.Step) → stepShown g ≡ On d → stepShown (enter t (meant d)) ≡ stepShown (then g (enter t))
         go (on x) f = let z : shown x ≡ d = cc in ap (λ (y : State). stepShown (enter t (meant y))) (sym z)

@@ -12,6 +12,7 @@ ghost use mathlib.Core.List.{_∷_};
 ghost use mathlib.Core.Path.{_≡_};
 ghost use Prim.Native.Nat.{_≤_};
 ghost use lib.ListN.{length, drop};
+ghost use Rattle.paper.specs.Layout.{boxed};
 ghost use Rattle.paper.specs.Name.{chain};
 ghost use Rattle.paper.specs.Walk.{follow, linked, reached, toDirectory, lastName, toLast};
 ghost use Rattle.words.specs.Place.{cut, namesFrom};
@@ -35,7 +36,7 @@ fn at_link(step: Step, link: usize) -> Walked
 
 // The name at p is followed.
 fn follow_name(table: &[u8], line: &[u8], p: usize, state: State, link: usize) -> Walked
-    ensures { λ r. ⌜ r ≡ walkedShown (linked link (follow (now (table .entry)) (meant state) (cut (now (line .entry)) p)) reached) ⌝ }
+    ensures { λ r. ⌜ r ≡ walkedShown (linked link (follow boxed (now (table .entry)) (meant state) (cut (now (line .entry)) p)) reached) ⌝ }
 {
     at_link(state.follow(table, name(line, p)), link)
 }
@@ -43,7 +44,7 @@ fn follow_name(table: &[u8], line: &[u8], p: usize, state: State, link: usize) -
 // Every name of the word at p but the last is followed, the first as this link.
 fn follow_names(table: &[u8], line: &[u8], p: usize, start: State, link: usize) -> Walked
     requires { ⌜ link ≤ 2 ⌝ }
-    ensures { λ r. ⌜ r ≡ walkedShown (toDirectory (now (table .entry)) link (meant start) (namesFrom (now (line .entry)) p)) ⌝ }
+    ensures { λ r. ⌜ r ≡ walkedShown (toDirectory boxed (now (table .entry)) link (meant start) (namesFrom (now (line .entry)) p)) ⌝ }
 {
     let mut state = start;
     let mut k = link;
@@ -64,7 +65,7 @@ fn follow_names(table: &[u8], line: &[u8], p: usize, start: State, link: usize) 
 
 // A base name that stands before the names of the word at p is followed, then they are.
 fn follow_base(table: &[u8], line: &[u8], p: usize, start: State, base: &[u8]) -> Walked
-    ensures { λ r. ⌜ r ≡ walkedShown (toDirectory (now (table .entry)) 1 (meant start) (now (base .entry) ∷ namesFrom (now (line .entry)) p)) ⌝ }
+    ensures { λ r. ⌜ r ≡ walkedShown (toDirectory boxed (now (table .entry)) 1 (meant start) (now (base .entry) ∷ namesFrom (now (line .entry)) p)) ⌝ }
 {
     let walked = at_link(start.follow(table, base), 1);
     let Walked::Reached(state) = walked else {
@@ -75,7 +76,7 @@ fn follow_base(table: &[u8], line: &[u8], p: usize, start: State, base: &[u8]) -
 
 // The chain at p in a user's own base list, `.W` supplied where it has no base name.
 fn own_directory(table: &[u8], line: &[u8], p: usize, start: State) -> Walked
-    ensures { λ r. ⌜ r ≡ walkedShown (toDirectory (now (table .entry)) 1 (meant start) (chain (namesFrom (now (line .entry)) p))) ⌝ }
+    ensures { λ r. ⌜ r ≡ walkedShown (toDirectory boxed (now (table .entry)) 1 (meant start) (chain (namesFrom (now (line .entry)) p))) ⌝ }
 {
     if is_pointed(name(line, p)) {
         return follow_names(table, line, p, start, 1);
@@ -85,7 +86,7 @@ fn own_directory(table: &[u8], line: &[u8], p: usize, start: State) -> Walked
 
 // A base name in place of the first name of the word at p.
 fn instead_directory(table: &[u8], line: &[u8], p: usize, start: State, base: &[u8]) -> Walked
-    ensures { λ r. ⌜ r ≡ walkedShown (toDirectory (now (table .entry)) 1 (meant start) (now (base .entry) ∷ drop 1 (namesFrom (now (line .entry)) p))) ⌝ }
+    ensures { λ r. ⌜ r ≡ walkedShown (toDirectory boxed (now (table .entry)) 1 (meant start) (now (base .entry) ∷ drop 1 (namesFrom (now (line .entry)) p))) ⌝ }
 {
     let Next::At(q) = next_name(line, p) else {
         return Walked::Reached(start);
@@ -95,7 +96,7 @@ fn instead_directory(table: &[u8], line: &[u8], p: usize, start: State, base: &[
 
 // "a new name only to its directory": every name but the last of the chain at p, which begins as this.
 pub fn to_directory(table: &[u8], line: &[u8], p: usize, begin: Begin, user: u32) -> Walked
-    ensures { λ r. ⌜ r ≡ walkedShown (toDirectory (now (table .entry)) 1 (begins user begin) (chainAt (now (line .entry)) p begin)) ⌝ }
+    ensures { λ r. ⌜ r ≡ walkedShown (toDirectory boxed (now (table .entry)) 1 (begins user begin) (chainAt (now (line .entry)) p begin)) ⌝ }
 {
     match begin {
         Begin::Own => own_directory(table, line, p, State::start(user)),
@@ -130,7 +131,7 @@ pub fn last_link(line: &[u8], p: usize, begin: Begin) -> usize
 
 // From the directory d to the last name, where a base name stands in place of the first name of the word at p.
 fn instead_last(table: &[u8], line: &[u8], p: usize, d: State, base: &[u8]) -> Walked
-    ensures { λ r. ⌜ r ≡ walkedShown (toLast (now (table .entry)) (meant d) (now (base .entry) ∷ drop 1 (namesFrom (now (line .entry)) p))) ⌝ }
+    ensures { λ r. ⌜ r ≡ walkedShown (toLast boxed (now (table .entry)) (meant d) (now (base .entry) ∷ drop 1 (namesFrom (now (line .entry)) p))) ⌝ }
 {
     let Next::At(_) = next_name(line, p) else {
         return at_link(d.look(table, base), 1);
@@ -140,7 +141,7 @@ fn instead_last(table: &[u8], line: &[u8], p: usize, d: State, base: &[u8]) -> W
 
 // From the directory d to the last name of the chain at p, which begins as this.
 pub fn to_last(table: &[u8], line: &[u8], p: usize, begin: Begin, d: State) -> Walked
-    ensures { λ r. ⌜ r ≡ walkedShown (toLast (now (table .entry)) (meant d) (chainAt (now (line .entry)) p begin)) ⌝ }
+    ensures { λ r. ⌜ r ≡ walkedShown (toLast boxed (now (table .entry)) (meant d) (chainAt (now (line .entry)) p begin)) ⌝ }
 {
     match begin {
         Begin::Own => at_link(d.look(table, last_name(line, p)), count_links(line, p)),

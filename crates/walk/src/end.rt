@@ -5,6 +5,7 @@ use crate::chain::to_last;
 use crate::state::State;
 use words::begin::Begin;
 ghost use mathlib.Core.Path.{_≡_};
+ghost use Rattle.paper.specs.Layout.{boxed};
 ghost use Rattle.paper.specs.Walk.{toDirectory, ended};
 ghost use Rattle.walk.specs.Shown.{begins, chainAt};
 ghost use Rattle.walk.specs.Ends.{endShown, bothShown};
@@ -17,7 +18,7 @@ pub enum End {
 
 // "an old name to its file"
 pub fn to_end(table: &[u8], line: &[u8], p: usize, begin: Begin, user: u32) -> End
-    ensures { λ r. ⌜ r ≡ endShown (ended (now (table .entry)) (begins user begin) (chainAt (now (line .entry)) p begin)) ⌝ }
+    ensures { λ r. ⌜ r ≡ endShown (ended boxed (now (table .entry)) (begins user begin) (chainAt (now (line .entry)) p begin)) ⌝ }
 {
     let first = to_directory(table, line, p, begin, user);
     match first {
@@ -48,8 +49,8 @@ pub fn to_both(
     new: usize,
     user: u32,
 ) -> Both
-    ensures { λ r. ⌜ r ≡ bothShown (ended (now (table .entry)) (begins user from) (chainAt (now (line .entry)) old from))
-        (toDirectory (now (table .entry)) 1 (begins user to) (chainAt (now (line .entry)) new to)) ⌝ }
+    ensures { λ r. ⌜ r ≡ bothShown (ended boxed (now (table .entry)) (begins user from) (chainAt (now (line .entry)) old from))
+        (toDirectory boxed (now (table .entry)) 1 (begins user to) (chainAt (now (line .entry)) new to)) ⌝ }
 {
     let end = to_end(table, line, old, from, user);
     match end {

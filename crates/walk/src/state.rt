@@ -9,6 +9,7 @@ use records::heading::is_directory;
 use scans::Found;
 use scans::find;
 ghost use mathlib.Core.Path.{_≡_};
+ghost use Rattle.paper.specs.Layout.{boxed};
 ghost use Rattle.paper.specs.Walk.{start, applies, look, enter, follow};
 ghost use Rattle.walk.specs.Shown.{meant, shown, stepShown};
 
@@ -53,7 +54,7 @@ impl State {
 
     // The entry that bears the name here.
     pub fn look(self, table: &[u8], name: &[u8]) -> Step
-        ensures { λ r. ⌜ r ≡ stepShown (look (now (table .entry)) (meant self) (now (name .entry))) ⌝ }
+        ensures { λ r. ⌜ r ≡ stepShown (look boxed (now (table .entry)) (meant self) (now (name .entry))) ⌝ }
     {
         let holder = self.holder;
         let found = find(table, holder, name);
@@ -94,7 +95,7 @@ impl State {
 
     // A link before the last.
     pub fn follow(self, table: &[u8], name: &[u8]) -> Step
-        ensures { λ r. ⌜ r ≡ stepShown (follow (now (table .entry)) (meant self) (now (name .entry))) ⌝ }
+        ensures { λ r. ⌜ r ≡ stepShown (follow boxed (now (table .entry)) (meant self) (now (name .entry))) ⌝ }
     {
         let step = self.look(table, name);
         let Step::On(state) = step else {

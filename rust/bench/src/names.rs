@@ -1,5 +1,8 @@
 //! Names of different lengths: a walk of nine links in a full directory whose names begin like the one that is sought and are
-//! longer, beside the same walk where they have its length, so that their bytes must be compared; and the bytes compared.
+//! longer, beside the same walk where they have its length. A name is one number, so that both compare as many numbers; and the bytes that
+//! were compared while names stood byte by byte.
+
+use filebox::{from_six, Number};
 
 use crate::operations::times;
 use crate::tables::grown;
@@ -54,7 +57,7 @@ fn bytes_first(a: &[u8], b: &[u8]) -> (bool, usize) {
     (a.len() == b.len(), shorter)
 }
 
-/// As `records::name::are_same` does: of names of different lengths no byte.
+/// As the library did before names were numbers: of names of different lengths no byte.
 fn lengths_first(a: &[u8], b: &[u8]) -> (bool, usize) {
     if a.len() != b.len() {
         return (false, 0);
@@ -62,12 +65,13 @@ fn lengths_first(a: &[u8], b: &[u8]) -> (bool, usize) {
     bytes_first(a, b)
 }
 
-/// The names of the entries of record 0, by record number.
-fn entries(table: &[u8]) -> Vec<&[u8]> {
+/// The names of the entries of record 0, by record number, read in the old layout.
+fn entries(table: &[u8]) -> Vec<Vec<u8>> {
+    let mut old = table.to_vec();
+    assert_eq!(from_six(&mut old), Number::Done);
     let inside = |record: &&[u8]| record[0] == 2 && record[2..4] == [0, 0];
-    let name = |record: &[u8]| 10..10 + usize::from(record[9]);
-    let records = table.chunks(32).filter(inside);
-    records.map(|record| &record[name(record)]).collect()
+    let name = |record: &[u8]| record[10..10 + usize::from(record[9])].to_vec();
+    old.chunks(32).filter(inside).map(name).collect()
 }
 
 /// The bytes that a walk compares: at each link, entry by entry up to the one that bears its name.
@@ -90,7 +94,7 @@ fn compared(table: &[u8], request: &str, compare: Compare) -> usize {
 /// The bytes compared, and the times and their ratio; is it within the bar?
 pub fn bench(turns: usize) -> bool {
     let (other, one) = (of_other_lengths(128), of_one_length(128));
-    println!("\nNine links in a directory of {ENTRIES} names. Bytes compared, lengths first, and bytes first: of names of other lengths");
+    println!("\nNine links in a directory of {ENTRIES} names, each a number. Bytes compared in the old layout, lengths first, and bytes first: of names of other lengths");
     println!(
         "{}, {}; of names of one length {}, {}.",
         compared(&other, OTHER_LENGTHS, lengths_first),
@@ -112,7 +116,7 @@ pub fn bench(turns: usize) -> bool {
 mod tests {
     use super::*;
     use crate::tables::USER;
-    use filebox::{Number, Table};
+    use filebox::Table;
 
     /// Every name of up to four letters out of two.
     fn short_names() -> Vec<Vec<u8>> {

@@ -1,5 +1,7 @@
 //! Sound tables without a free record, in several shapes.
 
+use random::names::laid;
+
 const RECORD: usize = 32;
 const IN_DIRECTORY: usize = 112;
 const LONGEST: usize = 1000;
@@ -53,13 +55,8 @@ impl Table {
     fn entry(&mut self, holder: usize, named: usize, user: u32, name: &str) -> usize {
         let (d, h) = (holder as u16, named as u16);
         let mut r = vec![2, 0, d as u8, (d >> 8) as u8, h as u8, (h >> 8) as u8];
-        r.extend_from_slice(&[
-            user as u8,
-            (user >> 8) as u8,
-            (user >> 16) as u8,
-            name.len() as u8,
-        ]);
-        r.extend_from_slice(name.as_bytes());
+        r.extend_from_slice(&user.to_le_bytes()[..3]);
+        r.extend_from_slice(&laid(name));
         self.push(&r)
     }
 
@@ -204,9 +201,9 @@ fn in_bucket_0(records: usize, bucket: fn(usize, &str) -> u64) -> Vec<u8> {
     })
 }
 
-/// The bucket of an entry without a user, as the judge computes it: from its directory and from its name with the length before it.
+/// The bucket of an entry without a user, as the judge computes it: from its directory and from its bytes 9-19.
 fn bucket(directory: usize, name: &str) -> u64 {
-    let bytes = padded(name);
+    let bytes = laid(name);
     let four = |j: usize| {
         let four = [bytes[j], bytes[j + 1], bytes[j + 2], bytes[j + 3]];
         u64::from(u32::from_le_bytes(four))
@@ -231,7 +228,7 @@ fn bucket_before(directory: usize, name: &str) -> u64 {
     sum / 16777216 % 2048
 }
 
-/// A name with its length before it, and zeros after.
+/// A name as it lay before it was a number: its length before it, and zeros after.
 fn padded(name: &str) -> [u8; 11] {
     let mut bytes = [0u8; 11];
     bytes[0] = name.len() as u8;

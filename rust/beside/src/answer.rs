@@ -1,10 +1,11 @@
 //! The two calls, `request` and `mend`, and their answer.
 
 use crate::effects::{outcome, Asked, Outcome};
+use crate::layout::Layout;
 use crate::mend::{make, stores};
 use crate::records::RECORD_BYTES;
 use crate::request::{read, refusal, Place, Refusal};
-use crate::sound::{is_sound, sound, HIGHEST_USER};
+use crate::sound::{is_sound, sound_in, HIGHEST_USER};
 use crate::table::{length_fits, Table};
 
 /// The reply numbers: 0 to 22 of document 01, and 23 to 25, 27 and 28 of document 02.
@@ -74,14 +75,29 @@ pub fn request(
     user: u32,
     stop: u32,
 ) -> Answer {
-    match judge(table, line, text, reply.len(), user) {
+    request_in(Layout::Six, table, line, text, reply, user, stop)
+}
+
+/// The same on a table whose names lie so: "every request answers as on the old table".
+#[must_use = "the answer may be a refusal"]
+pub fn request_in(
+    layout: Layout,
+    table: &mut [u8],
+    line: &[u8],
+    text: &[u8],
+    reply: &mut [u8],
+    user: u32,
+    stop: u32,
+) -> Answer {
+    match judge(layout, table, line, text, reply.len(), user) {
         Err(refusal) => Answer::refused(refusal),
-        Ok(outcome) => carry_out(&outcome, table, reply, stop),
+        Ok(outcome) => carry_out(layout, &outcome, table, reply, stop),
     }
 }
 
 /// Numbers 1 to 10 and 27; then what the request comes to.
 fn judge(
+    layout: Layout,
     bytes: &[u8],
     line: &[u8],
     text: &[u8],
@@ -91,7 +107,7 @@ fn judge(
     if !length_fits(bytes) {
         return Err(refusal(1, Place::NONE));
     }
-    let table = Table::read(bytes)
+    let table = Table::read(layout, bytes)
         .filter(is_sound)
         .ok_or(refusal(2, Place::NONE))?;
     if user > HIGHEST_USER {
@@ -114,12 +130,18 @@ fn first(needed: usize, stop: u32) -> usize {
 
 /// "Exactly the first k stores are made. If more were needed, the answer is 22, in a DEL even where a later name
 /// would be refused", and so in a DST.
-fn carry_out(outcome: &Outcome, table: &mut [u8], reply: &mut [u8], stop: u32) -> Answer {
+fn carry_out(
+    layout: Layout,
+    outcome: &Outcome,
+    table: &mut [u8],
+    reply: &mut [u8],
+    stop: u32,
+) -> Answer {
     let needed = outcome.stores.len();
     let made = first(needed, stop);
     for store in &outcome.stores[..made] {
         let at = store.number * RECORD_BYTES;
-        table[at..at + RECORD_BYTES].copy_from_slice(&store.record.write());
+        table[at..at + RECORD_BYTES].copy_from_slice(&store.record.write(layout));
     }
     let done = |stores: &&usize| **stores <= made;
     let counted = |refusal| Answer {
@@ -144,13 +166,19 @@ fn carry_out(outcome: &Outcome, table: &mut [u8], reply: &mut [u8], stop: u32) -
 /// Mend a table, with a stop number. "If the result wouldn't be sound, answer 2 and leave the table as found."
 #[must_use = "the answer may be a refusal"]
 pub fn mend(table: &mut [u8], stop: u32) -> Answer {
+    mend_in(Layout::Six, table, stop)
+}
+
+/// The same of a table whose names lie so. Mending looks at no name; whether the result is sound does.
+#[must_use = "the answer may be a refusal"]
+pub fn mend_in(layout: Layout, table: &mut [u8], stop: u32) -> Answer {
     if !length_fits(table) {
         return Answer::refused(refusal(1, Place::NONE));
     }
     let stores = stores(table);
     let mut result = table.to_vec();
     make(&mut result, &stores);
-    if !sound(&result) {
+    if !sound_in(layout, &result) {
         return Answer::refused(refusal(2, Place::NONE));
     }
     let made = first(stores.len(), stop);

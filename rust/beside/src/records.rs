@@ -1,4 +1,6 @@
-//! "Records": the four kinds of record, read from 32 bytes and written as 32 bytes.
+//! "Records": the four kinds of record, read from 32 bytes and written as 32 bytes, an entry's name by the table's layout.
+
+use crate::layout::{Layout, NAME, NAME_BYTES};
 
 /// "The table is records of 32 bytes".
 pub const RECORD_BYTES: usize = 32;
@@ -8,7 +10,7 @@ pub const MOST_RECORDS: usize = 2_048;
 pub const BASE_FILE: u16 = 65_535;
 /// "the bytes" of a text record are bytes 8-31.
 pub const BLOCK: usize = 24;
-/// Name bytes 10-19.
+/// "1 to 10 characters".
 pub const LONGEST_NAME: usize = 10;
 
 /// "1 type (0 directory, 1 simple)".
@@ -92,24 +94,24 @@ pub fn two_bytes(low: u8, high: u8) -> u16 {
 
 impl Record {
     /// What 32 bytes say; nothing when they are not as one of the four kinds has it.
-    pub fn read(bytes: &[u8; RECORD_BYTES]) -> Option<Record> {
+    pub fn read(layout: Layout, bytes: &[u8; RECORD_BYTES]) -> Option<Record> {
         let record = match bytes[0] {
             0 => Record::Free,
             1 => Record::Heading(Heading::read(bytes)?),
-            2 => Record::Entry(Entry::read(bytes)?),
+            2 => Record::Entry(Entry::read(layout, bytes)?),
             3 => Record::Text(Text::read(bytes)?),
             _ => return None,
         };
         // "Bytes not named are zero": a record has one way to be written.
-        (record.write() == *bytes).then_some(record)
+        (record.write(layout) == *bytes).then_some(record)
     }
 
     /// The 32 bytes of this record.
-    pub fn write(&self) -> [u8; RECORD_BYTES] {
+    pub fn write(&self, layout: Layout) -> [u8; RECORD_BYTES] {
         match self {
             Record::Free => [0; RECORD_BYTES],
             Record::Heading(heading) => heading.write(),
-            Record::Entry(entry) => entry.write(),
+            Record::Entry(entry) => entry.write(layout),
             Record::Text(text) => text.write(),
         }
     }
@@ -183,26 +185,24 @@ impl Heading {
 }
 
 impl Entry {
-    fn read(bytes: &[u8; RECORD_BYTES]) -> Option<Entry> {
-        let length = usize::from(bytes[9]);
+    fn read(layout: Layout, bytes: &[u8; RECORD_BYTES]) -> Option<Entry> {
         Some(Entry {
             code: code(bytes[1])?,
             directory: two_bytes(bytes[2], bytes[3]),
             heading: two_bytes(bytes[4], bytes[5]),
             user: u32::from_le_bytes([bytes[6], bytes[7], bytes[8], 0]),
-            name: bytes[10..10 + LONGEST_NAME].get(..length)?.to_vec(),
+            name: layout.name(bytes[NAME..].first_chunk()?)?,
         })
     }
 
-    fn write(&self) -> [u8; RECORD_BYTES] {
+    fn write(&self, layout: Layout) -> [u8; RECORD_BYTES] {
         let mut bytes = [0; RECORD_BYTES];
         bytes[0] = 2;
         bytes[1] = self.code;
         bytes[2..4].copy_from_slice(&self.directory.to_le_bytes());
         bytes[4..6].copy_from_slice(&self.heading.to_le_bytes());
         bytes[6..9].copy_from_slice(&self.user.to_le_bytes()[..3]);
-        bytes[9] = self.name.len() as u8;
-        bytes[10..10 + self.name.len()].copy_from_slice(&self.name);
+        bytes[NAME..NAME + NAME_BYTES].copy_from_slice(&layout.field(&self.name));
         bytes
     }
 }

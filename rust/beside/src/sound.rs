@@ -3,6 +3,7 @@
 use std::collections::{HashMap, HashSet};
 
 use crate::entries::{MOST_BASE_FILES, MOST_ENTRIES};
+use crate::layout::Layout;
 use crate::names::{is_base_name, is_link_name};
 use crate::records::{Lifetime, Type, BASE_FILE, BLOCK};
 use crate::request::LONGEST_TEXT;
@@ -13,8 +14,13 @@ pub const HIGHEST_USER: u32 = 999_999;
 
 /// Is the table sound? A length that number 1 refuses is not.
 pub fn sound(bytes: &[u8]) -> bool {
+    sound_in(Layout::Six, bytes)
+}
+
+/// The same of a table whose names lie so.
+pub fn sound_in(layout: Layout, bytes: &[u8]) -> bool {
     // "every record is as above"
-    Table::read(bytes).is_some_and(|table| is_sound(&table))
+    Table::read(layout, bytes).is_some_and(|table| is_sound(&table))
 }
 
 /// All that goes beyond a single record.

@@ -1,5 +1,6 @@
 //! The whole table, and the questions that are asked of it.
 
+use crate::layout::Layout;
 use crate::records::{
     Entry, Heading, Record, Text, Type, BASE_FILE, BLOCK, MOST_RECORDS, RECORD_BYTES,
 };
@@ -45,11 +46,11 @@ pub fn list_of(entry: &Entry) -> List {
 
 impl Table {
     /// The records of the lent bytes; nothing when the length does not fit or a record is of no kind.
-    pub fn read(bytes: &[u8]) -> Option<Table> {
+    pub fn read(layout: Layout, bytes: &[u8]) -> Option<Table> {
         if !length_fits(bytes) {
             return None;
         }
-        let record = |part: &[u8]| Record::read(part.try_into().ok()?);
+        let record = |part: &[u8]| Record::read(layout, part.try_into().ok()?);
         let records = bytes.chunks(RECORD_BYTES).map(record);
         Some(Table {
             records: records.collect::<Option<Vec<Record>>>()?,

@@ -65,8 +65,7 @@ fn old(dice: &mut Dice, bench: &Bench) -> String {
             break;
         }
         let entry = there[dice.below(there.len())];
-        let name = &entry[10..10 + usize::from(entry[9])];
-        names.push(String::from_utf8_lossy(name).into_owned());
+        names.push(name_of(entry));
         directory = two(entry, 4);
         if record(&bench.table, directory)[1] == 1 {
             break;
@@ -209,7 +208,7 @@ fn file_of(bench: &Bench, chain: &str) -> usize {
     let mut heading = 65_535;
     for name in format!("{supplied}{chain}").split(':') {
         let there = entries(&bench.table, heading, bench.user);
-        let bears = |entry: &&&[u8]| &entry[10..10 + usize::from(entry[9])] == name.as_bytes();
+        let bears = |entry: &&&[u8]| name_of(entry) == name;
         heading = two(there.iter().find(bears).expect("it is there"), 4);
     }
     heading

@@ -1,4 +1,7 @@
-//! A case: one call, made by the proved library and by the second program, and compared byte for byte.
+//! A case: one call, made by the proved library and by the second program, and compared byte for byte; a request and mending also with the
+//! second program on the old table.
+
+use beside::Layout;
 
 use crate::counted::{self, Counted};
 use crate::destroyed::{self, Destroyed};
@@ -7,6 +10,7 @@ use crate::links::{self, Links};
 use crate::met::Met;
 use crate::parted::Parted;
 use crate::rewritten::{self, Rewritten};
+use crate::sixed::{self, Sixed};
 use crate::treed::{self, Treed};
 
 /// The byte that fills a reply buffer before the call.
@@ -22,11 +26,13 @@ pub struct Asked {
     pub user: u32,
 }
 
-/// One call: a request, or mending where nothing is asked.
+/// One call: a request; where nothing is asked a conversion, or mending.
 #[derive(Debug, Clone)]
 pub struct Case {
     pub table: Vec<u8>,
     pub asked: Option<Asked>,
+    /// The layout that the table is converted from.
+    pub from: Option<Layout>,
     pub stop: u32,
 }
 
@@ -62,6 +68,7 @@ impl Case {
         Case {
             table: table.to_vec(),
             asked: Some(asked),
+            from: None,
             stop: filebox::NO_STOP,
         }
     }
@@ -71,7 +78,16 @@ impl Case {
         Case {
             table: table.to_vec(),
             asked: None,
+            from: None,
             stop,
+        }
+    }
+
+    /// A conversion from this layout to the other one.
+    pub fn convert(table: &[u8], from: Layout) -> Case {
+        Case {
+            from: Some(from),
+            ..Case::mend(table, filebox::NO_STOP)
         }
     }
 
@@ -99,11 +115,16 @@ impl Case {
     /// By the proved library.
     fn proved(&self) -> Outcome {
         self.outcome(|table, reply| {
-            let answer = match &self.asked {
-                None => filebox::mend(table, self.stop),
-                Some(Asked {
-                    line, text, user, ..
-                }) => filebox::request(table, line, text, reply, *user, self.stop),
+            let answer = match (&self.asked, self.from) {
+                (None, None) => filebox::mend(table, self.stop),
+                (None, Some(Layout::Old)) => return alone(filebox::to_six(table).code()),
+                (None, Some(Layout::Six)) => return alone(filebox::from_six(table).code()),
+                (
+                    Some(Asked {
+                        line, text, user, ..
+                    }),
+                    _,
+                ) => filebox::request(table, line, text, reply, *user, self.stop),
             };
             answer.numbers()
         })
@@ -111,16 +132,43 @@ impl Case {
 
     /// By the second program.
     pub fn beside(&self) -> Outcome {
+        match self.from {
+            None => self.beside_in(Layout::Six),
+            Some(Layout::Old) => self.outcome(|table, _| alone(beside::to_six(table))),
+            Some(Layout::Six) => self.outcome(|table, _| alone(beside::from_six(table))),
+        }
+    }
+
+    /// A request or mending by the second program, on a table whose names lie so.
+    fn beside_in(&self, layout: Layout) -> Outcome {
         self.outcome(|table, reply| {
             let answer = match &self.asked {
-                None => beside::mend(table, self.stop),
+                None => beside::mend_in(layout, table, self.stop),
                 Some(Asked {
                     line, text, user, ..
-                }) => beside::request(table, line, text, reply, *user, self.stop),
+                }) => beside::request_in(layout, table, line, text, reply, *user, self.stop),
             };
             answer.numbers()
         })
     }
+
+    /// A request or mending by the second program on the old table, with the table converted after it, record by record; nothing where there
+    /// is no old table, since an entry's name is not as it may lie.
+    pub fn on_the_old_table(&self) -> Option<Outcome> {
+        let old = beside::converted(Layout::Six, &self.table).filter(|_| self.from.is_none())?;
+        let case = Case {
+            table: old,
+            ..self.clone()
+        };
+        let outcome = case.beside_in(Layout::Old);
+        let table = beside::converted(Layout::Old, &outcome.table).unwrap_or_default();
+        Some(Outcome { table, ..outcome })
+    }
+}
+
+/// A conversion's number as an answer.
+fn alone(number: u32) -> [u64; 7] {
+    [number.into(), 0, 0, 0, 0, 0, 0]
 }
 
 /// A case that is not as it should be: what is wrong, and both outcomes.
@@ -150,6 +198,8 @@ pub struct Comparison {
     pub counted: Counted,
     /// What a DST and entries that name no heading met.
     pub destroyed: Destroyed,
+    /// What six-bit names and conversions met.
+    pub sixed: Sixed,
     /// The requests of the stories.
     pub requests: u64,
     /// The calls made by both: these requests again and again, and mending.
@@ -159,9 +209,10 @@ pub struct Comparison {
 }
 
 impl Comparison {
-    /// Make the call with both; the outcome that they agree on.
+    /// Make the call with both, and on the old table; the outcome that they agree on.
     pub fn compare(&mut self, case: &Case) -> Result<Outcome, Box<Difference>> {
-        let (proved, beside) = (case.proved(), case.beside());
+        let (proved, mut beside) = (case.proved(), case.beside());
+        let old = case.on_the_old_table();
         self.calls += 1;
         let wrong = if proved.answer != beside.answer {
             "the answers differ"
@@ -169,7 +220,17 @@ impl Comparison {
             "the tables differ"
         } else if proved.reply != beside.reply {
             "the replies differ"
+        } else if let Some(old) = old.as_ref().filter(|old| **old != proved) {
+            beside = old.clone();
+            "on the old table it is otherwise"
         } else {
+            self.sixed.count(case, &proved, old.is_some());
+            if case.from.is_some() {
+                return match sixed::broken(case, &proved) {
+                    None => Ok(proved),
+                    Some(wrong) => Err(must_not_be(case, wrong, &proved)),
+                };
+            }
             self.met.count(case, proved.number());
             self.links.count(proved.answer);
             self.handed.count(case, proved.answer);
@@ -185,6 +246,7 @@ impl Comparison {
                 rewritten::broken,
                 counted::broken,
                 destroyed::broken,
+                sixed::broken,
             ];
             return match broken.iter().find_map(|broken| broken(case, &proved)) {
                 None => Ok(proved),

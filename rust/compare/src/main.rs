@@ -3,7 +3,8 @@
 //! table is cut at its stop numbers and mended, every sheet read whole is read in pieces, every tree a level less, and every table is
 //! mended. At the first difference it prints a case to paste into a test and ends with status 1; also when a reply number was met
 //! fewer than a hundred times, with a link of a chain or without, where it has the one or the other, or a branch of RDS's parts, of
-//! LST*, of WRS*, of the counts in headings, of DST or of entries that name no heading.
+//! LST*, of WRS*, of the counts in headings, of DST, of entries that name no heading, of six-bit names or of their conversion. Every
+//! request and every mend is also made by the second program on the old table, and must answer alike.
 //!
 //! `compare jobs [COUNT [SEED]]`: the same with the lamp, COUNT jobs, each cut at its stop numbers and mended; ends with
 //! status 1 also when a light was met fewer than a hundred times.
@@ -29,6 +30,7 @@ mod records;
 mod rewritten;
 mod sheets;
 mod shown;
+mod sixed;
 mod story;
 mod tables;
 mod treed;
@@ -98,18 +100,20 @@ fn requests(count: u64, seed: u64) -> ExitCode {
     let (met, links) = (&comparison.met, &comparison.links);
     let (parted, treed) = (&comparison.parted, &comparison.treed);
     let (rewritten, counted) = (&comparison.rewritten, &comparison.counted);
-    let destroyed = &comparison.destroyed;
+    let (destroyed, sixed) = (&comparison.destroyed, &comparison.sixed);
     let linked = links.missed(&links::IN_REQUESTS);
-    let branches = [
+    let too_few = [
         parted.missed(),
         treed.missed(),
         rewritten.missed(),
         counted.missed(),
         destroyed.missed(),
+        sixed.missed(),
     ]
     .concat();
-    let missed = [met.missed(), linked, branches].concat();
-    let shown = format!("{met}{links}\n{parted}\n{treed}\n{rewritten}\n{counted}\n{destroyed}");
+    let missed = [met.missed(), linked, too_few].concat();
+    let branches = format!("{parted}\n{treed}\n{rewritten}\n{counted}\n{destroyed}\n{sixed}");
+    let shown = format!("{met}{links}\n{branches}");
     verdict(ended, shown, &missed)
 }
 

@@ -1,6 +1,7 @@
 //! A table by its records: what the branches are told by.
 
 use beside::Chain;
+use random::names::name;
 
 pub const BASE_FILE: u16 = 65_535;
 pub const WRITE: u8 = 1;
@@ -50,7 +51,7 @@ pub struct Walked<'a> {
 
 pub fn walked<'a>(table: &'a [u8], user: u32, chain: &Chain) -> Option<Walked<'a>> {
     let mut at: Option<Walked> = None;
-    for name in chain.names() {
+    for link in chain.names() {
         let (directory, above) = at.map_or((BASE_FILE, 0), |at| {
             (at.file, at.entry[1] | heading(table, at.file)[3])
         });
@@ -58,7 +59,7 @@ pub fn walked<'a>(table: &'a [u8], user: u32, chain: &Chain) -> Option<Walked<'a
         let user = &user.to_le_bytes()[..3];
         let there = |r: &&[u8]| r[0] == 2 && two(r, 2) == directory && &r[6..9] == user;
         let mut entries = table.chunks_exact(32).filter(there);
-        let entry = entries.find(|r| &r[10..10 + usize::from(r[9]).min(10)] == name)?;
+        let entry = entries.find(|r| name(r).as_bytes() == link)?;
         at = Some(Walked {
             directory,
             entry,

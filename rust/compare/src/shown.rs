@@ -2,6 +2,8 @@
 
 use std::fmt;
 
+use beside::Layout;
+
 use crate::case::{Case, Difference, Outcome, UNTOUCHED};
 
 fn hex(bytes: &[u8]) -> String {
@@ -46,9 +48,11 @@ fn case(f: &mut fmt::Formatter, case: &Case) -> fmt::Result {
 
 /// The call and its answer.
 fn outcome(f: &mut fmt::Formatter, program: &str, case: &Case, outcome: &Outcome) -> fmt::Result {
-    let call = match case.asked {
-        None => "mend(&mut table, stop)",
-        Some(_) => "request(&mut table, line, text, &mut reply, user, stop)",
+    let call = match (&case.asked, case.from) {
+        (None, None) => "mend(&mut table, stop)",
+        (None, Some(Layout::Old)) => "to_six(&mut table)",
+        (None, Some(Layout::Six)) => "from_six(&mut table)",
+        (Some(_), _) => "request(&mut table, line, text, &mut reply, user, stop)",
     };
     writeln!(f, "    // {program}::{call}: {:?}", outcome.answer)
 }

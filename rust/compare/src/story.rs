@@ -1,5 +1,7 @@
 //! A story: one table, the requests of several users on it, and what befalls it on the way.
 
+use beside::Layout;
+use random::names::{misname, misname_before};
 use random::{counts, destroys, requests, rewrites, shelves, trees, Random};
 
 use crate::case::{must_not_be, Asked, Case, Comparison, Difference};
@@ -57,6 +59,9 @@ impl<'a> Story<'a> {
                 self.table = shuffled(self.random, &self.table);
             }
             let asked = self.asked();
+            if self.random.once_in(8) {
+                self.with_a_wrong_name(asked.clone())?;
+            }
             match self.random.once_in(5) {
                 true => self.on_a_spoiled_table(asked)?,
                 false => self.on_the_sound_table(asked)?,
@@ -122,7 +127,50 @@ impl<'a> Story<'a> {
         ] {
             self.comparison.compare(&mend)?;
         }
+        self.converted(&table)
+    }
+
+    /// The same on a copy in which a name is made wrong, now and then on the old table, with its names right or one wrong.
+    fn with_a_wrong_name(&mut self, asked: Asked) -> Told {
+        let mut table = self.table.clone();
+        match beside::converted(Layout::Six, &table).filter(|_| self.random.once_in(2)) {
+            None => misname(self.random, &mut table),
+            Some(old) => {
+                table = old;
+                if !self.random.once_in(4) {
+                    misname_before(self.random, &mut table);
+                }
+            }
+        }
+        for case in [
+            Case::request(&table, asked),
+            Case::mend(&table, filebox::NO_STOP),
+        ] {
+            self.comparison.compare(&case)?;
+        }
+        self.converted(&table)
+    }
+
+    /// The table converted to six-bit names, and from them.
+    fn converted(&mut self, table: &[u8]) -> Told {
+        for from in [Layout::Old, Layout::Six] {
+            self.comparison.compare(&Case::convert(table, from))?;
+        }
         Ok(())
+    }
+
+    /// The sound table converted to the old layout and back, and once more.
+    fn there_and_back(&mut self) -> Told {
+        let there = Case::convert(&self.table, Layout::Six);
+        let old = self.comparison.compare(&there)?;
+        let back = Case::convert(&old.table, Layout::Old);
+        let six = self.comparison.compare(&back)?;
+        self.converted(&old.table)?;
+        self.converted(&six.table)?;
+        match (old.number(), six.number(), six.table == self.table) {
+            (0, 0, true) => Ok(()),
+            _ => Err(must_not_be(&there, "not the same, there and back", &six)),
+        }
     }
 
     /// The request, with no stop number and with all; the table after it is the story's, or, of a rewrite, now and then the one that a cut
@@ -144,7 +192,10 @@ impl<'a> Story<'a> {
         }
         let cut = marked_and_empty(&case, &uncut).filter(|_| self.random.once_in(3));
         self.table = cut.unwrap_or(uncut.table);
-        Ok(())
+        match self.random.once_in(8) {
+            true => self.there_and_back(),
+            false => Ok(()),
+        }
     }
 
     /// A reply buffer of just the bytes that are written, and one byte less.

@@ -4,6 +4,7 @@ use std::collections::BTreeSet;
 use std::fmt;
 
 use beside::{Listed, Request};
+use random::names::name;
 
 use crate::case::{Asked, Case, Outcome};
 use crate::records::{two, BASE_FILE};
@@ -54,9 +55,9 @@ impl<'a> Walked<'a> {
     /// The directory at the end of these names.
     fn end<'n>(&self, user: u32, names: impl Iterator<Item = &'n [u8]>) -> Option<u16> {
         let (mut directory, mut user) = (BASE_FILE, user);
-        for name in names {
+        for link in names {
             let entries = self.entries(directory, user);
-            let bears = |entry: &&&[u8]| &entry[10..10 + usize::from(entry[9])] == name;
+            let bears = |entry: &&&[u8]| name(entry).as_bytes() == link;
             directory = two(entries.iter().find(bears)?, 4);
             user = 0;
         }
@@ -66,7 +67,7 @@ impl<'a> Walked<'a> {
     /// The lines of a directory, by this way, down to so many levels.
     fn directory(&mut self, directory: u16, user: u32, way: &mut Vec<u16>, depth: u8) {
         for entry in self.entries(directory, user) {
-            let at_the_top = directory == BASE_FILE && &entry[9..12] == b"\x02.W";
+            let at_the_top = directory == BASE_FILE && name(entry) == ".W";
             if !at_the_top {
                 self.lines += 1;
                 self.under(entry, way, depth);

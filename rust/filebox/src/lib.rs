@@ -2,7 +2,8 @@
 //! the proved static library.
 //!
 //! [`request`], [`mend`] and [`light`] are three of the library's calls as they are: slices and numbers in, an [`Answer`] or a
-//! [`Light`] out; [`disk::phase`] is the fourth, for a host that keeps a table in a file. [`Table`] holds the bytes of a table, owned or lent, and has a method for each thing that a fixture asks.
+//! [`Light`] out; [`disk::phase`] is the fourth, for a host that keeps a table in a file, and [`to_six`] and [`from_six`] are for tables
+//! from before names had six bits a character. [`Table`] holds the bytes of a table, owned or lent, and has a method for each thing that a fixture asks.
 //! Every call ends and answers, for every table, line, text, user and stop number. A box keeps nothing between calls but
 //! the table's bytes.
 //!
@@ -73,6 +74,8 @@
 //!
 //! Destroy a sheet, and every path to it goes. See [`Table::destroy`].
 //!
+//! A table from before names had six bits a character is not sound; convert it once. See [`Table::to_six`].
+//!
 //! A refusal says the number and why, the argument, and which link of its chain, the supplied `.W` counted; it leaves the table
 //! as it was:
 //!
@@ -117,6 +120,6 @@ mod table;
 
 pub use answer::{Answer, Refused};
 pub use lamp::{Light, NoRecord, NotGreen, Phase, Red, Sheet, Unfit};
-pub use library::{light, mend, request};
+pub use library::{from_six, light, mend, request, to_six};
 pub use number::{NoSuchNumber, Number};
 pub use table::{Table, LONGEST_TEXT, MOST_RECORDS, NO_STOP, RECORD_BYTES};

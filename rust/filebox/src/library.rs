@@ -1,4 +1,4 @@
-//! The four functions of the static library, and the only unsafe code.
+//! The six functions of the static library, and the only unsafe code.
 //!
 //! The declarations are those of the library's C interface: a lent slice is a pointer and a length, the answer comes by
 //! value. Nothing but reading checks them against the library.
@@ -6,6 +6,7 @@
 
 use crate::answer::{Answer, SevenNumbers};
 use crate::lamp::Light;
+use crate::number::Number;
 
 extern "C" {
     fn filebox_request(
@@ -42,6 +43,8 @@ extern "C" {
         after_len: usize,
         record: usize,
     ) -> u8;
+    fn filebox_to_six(table: *mut u8, table_len: usize) -> u32;
+    fn filebox_from_six(table: *mut u8, table_len: usize) -> u32;
 }
 
 /// Do the request of a line for a user: the table is changed, the text is read, the reply buffer is written. Exactly the
@@ -54,7 +57,7 @@ extern "C" {
 /// let answer = request(&mut table, b"CRD .R", b"", &mut [], 1, NO_STOP);
 /// assert_eq!((answer.number, answer.names, answer.stores), (Number::Done, 1, 3));
 /// assert_eq!(&table[..16], &[1, 0, 0, 0, 1, 0, 0, 0, 0, 0, 0, 0, 1, 0, 0, 0]);
-/// assert_eq!(&table[32..44], &[2, 0, 255, 255, 0, 0, 1, 0, 0, 2, b'.', b'R']);
+/// assert_eq!(&table[32..50], &[2, 0, 255, 255, 0, 0, 1, 0, 0, 0, 0, 0, 0, 0, 0, 0, 178, 3]);
 /// ```
 #[must_use = "the answer may be a refusal"]
 pub fn request(
@@ -86,7 +89,7 @@ pub fn request(
 }
 
 /// Mend a table: clear the entries that name no heading, then the headings that no entry names, then the text of no simple file or of a marked one, and correct
-/// the counts in the headings that are left. Exactly the first `stop` stores are made; a mend that was cut is run again. A table of document 01, without counts, is brought up to
+/// the counts in the headings that are left. Exactly the first `stop` stores are made; a mend that was cut is run again. A table without counts is brought up to
 /// date by one mend.
 ///
 /// ```
@@ -154,6 +157,46 @@ pub fn light(
             stop,
         )
     }
+}
+
+/// Convert a table of the old layout, whose entries have a length in byte 9 and the name's characters from byte 10 on, to six-bit names,
+/// the one layout that requests and mending know. [`Number::Done`], and every entry is converted in its place; or
+/// [`Number::TableLength`] or [`Number::TableNotSound`] in the old layout, and the table is as lent. Nothing is promised of a conversion
+/// that the power cuts: convert a copy.
+///
+/// ```
+/// use filebox::{from_six, to_six, Number, Table};
+///
+/// let mut table = Table::free(2);
+/// table.ask(1, "CRD .R").unwrap();
+/// let six = table.clone();
+/// assert_eq!(from_six(table.as_mut()), Number::Done);
+/// assert_eq!(&table.as_ref()[32..44], &[2, 0, 255, 255, 0, 0, 1, 0, 0, 2, b'.', b'R']);
+/// // a table of the old layout is not sound
+/// assert_eq!(table.list(1, ".R").unwrap_err().to_string(), "2: table not sound");
+/// assert_eq!(to_six(table.as_mut()), Number::Done);
+/// assert_eq!(table, six);
+/// // it is no longer one of the old layout
+/// assert_eq!(to_six(table.as_mut()), Number::TableNotSound);
+/// assert_eq!(table, six);
+/// ```
+#[must_use = "the table may be refused"]
+pub fn to_six(table: &mut [u8]) -> Number {
+    // Sound: as above; the one slice is lent `mut`.
+    told(unsafe { filebox_to_six(table.as_mut_ptr(), table.len()) })
+}
+
+/// Convert a table of six-bit names back to the old layout, for whoever still reads that. As [`to_six`], and nothing is lost by going
+/// there and back.
+#[must_use = "the table may be refused"]
+pub fn from_six(table: &mut [u8]) -> Number {
+    // Sound: as above; the one slice is lent `mut`.
+    told(unsafe { filebox_from_six(table.as_mut_ptr(), table.len()) })
+}
+
+/// The number of a conversion. The proved library answers with 0, 1 or 2. Another library would panic here.
+fn told(number: u32) -> Number {
+    Number::try_from(number).expect("the library answers with a number of the documents")
 }
 
 /// The number of a record's phase: 0 same, 1 first, 2 entry, 3 last.

@@ -1,7 +1,7 @@
 //! A table of records, owned or lent, and what a fixture asks of it.
 
 use crate::answer::{Answer, Refused};
-use crate::library::{mend, request};
+use crate::library::{from_six, mend, request, to_six};
 use crate::number::Number;
 
 /// "The table is records of 32 bytes".
@@ -272,12 +272,52 @@ impl<B: AsMut<[u8]>> Table<B> {
         mend(self.as_mut(), NO_STOP).granted()
     }
 
+    /// A table of the old layout, a byte for each character of a name, converted to six-bit names; every request of the old one answers
+    /// on it as before. A table that is not sound in the old layout, one of six-bit names that has entries among them, is refused and stays. A
+    /// power cut may leave half of it converted, so convert a copy:
+    ///
+    /// ```
+    /// use filebox::{Refused, Table};
+    ///
+    /// fn main() -> Result<(), Refused> {
+    ///     let mut filed = Table::free(16);
+    ///     filed.ask(1, "CRD .R")?;
+    ///     filed.file(1, "M", ".R:LIMITS", b"5.0 V")?;
+    ///     let mut old = filed.clone();
+    ///     old.from_six()?;
+    ///
+    ///     let mut table = old.clone();
+    ///     table.to_six()?;
+    ///     assert_eq!(table.sheet(1, ".R:LIMITS")?, b"5.0 V");
+    ///     assert_eq!(table, filed);
+    ///     assert_eq!(table.to_six().unwrap_err().to_string(), "2: table not sound");
+    ///     Ok(())
+    /// }
+    /// ```
+    pub fn to_six(&mut self) -> Result<(), Refused> {
+        converted(to_six(self.as_mut()))
+    }
+
+    /// A table of six-bit names converted to the old layout. No request takes it then, until it is converted back; nothing is lost by that.
+    #[allow(clippy::wrong_self_convention)]
+    pub fn from_six(&mut self) -> Result<(), Refused> {
+        converted(from_six(self.as_mut()))
+    }
+
     /// The reply bytes of a request that gives no more than so many.
     fn reply(&mut self, user: u32, line: &str, most: usize) -> Result<Vec<u8>, Refused> {
         let mut reply = vec![0; most];
         let answer = self.request(user, line, b"", &mut reply).granted()?;
         reply.truncate(answer.bytes);
         Ok(reply)
+    }
+}
+
+/// What a conversion says: done, or refused with the table as it was.
+fn converted(number: Number) -> Result<(), Refused> {
+    match number {
+        Number::Done => Ok(()),
+        refused => Err(Refused::unasked(refused, 0)),
     }
 }
 

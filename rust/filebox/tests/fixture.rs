@@ -1,7 +1,8 @@
 //! What a fixture's programmer relies on: the edges of the crate, not of document 01.
 
 use filebox::{
-    mend, request, Number, Refused, Table, LONGEST_TEXT, MOST_RECORDS, NO_STOP, RECORD_BYTES,
+    from_six, mend, request, to_six, Number, Refused, Table, LONGEST_TEXT, MOST_RECORDS, NO_STOP,
+    RECORD_BYTES,
 };
 
 #[test]
@@ -27,6 +28,41 @@ fn a_table_too_long_is_refused_and_kept() {
         Number::TableLength
     );
     assert_eq!(table, before);
+}
+
+#[test]
+fn a_lent_table_is_converted_there_and_back() -> Result<(), Refused> {
+    let mut memory = [0; 16 * RECORD_BYTES];
+    let mut table = Table::of(&mut memory[..]);
+    table.ask(1, "CRD .R")?;
+    table.file(1, "M", ".R:LONGNAME10", b"5.0 V")?;
+    let six = table.as_ref().to_vec();
+    table.from_six()?;
+    let refused = table.ask(1, "LST .").unwrap_err();
+    assert_eq!(refused.answer().number, Number::TableNotSound);
+    assert_eq!(table.mend().unwrap_err().to_string(), "2: table not sound");
+    let twice = table.from_six().unwrap_err();
+    assert_eq!(twice.answer().number, Number::TableNotSound);
+    table.to_six()?;
+    assert_eq!(table.as_ref(), six);
+    assert_eq!(table.sheet(1, ".R:LONGNAME10")?, b"5.0 V");
+    Ok(())
+}
+
+#[test]
+fn no_table_is_converted_and_it_stays() {
+    for bytes in [1, 31, 33, 65_537, 65_568] {
+        let mut table = vec![7; bytes];
+        assert_eq!(to_six(&mut table), Number::TableLength);
+        assert_eq!(from_six(&mut table), Number::TableLength);
+        assert_eq!(table, vec![7; bytes]);
+    }
+    let mut table = vec![7; 64];
+    assert_eq!(to_six(&mut table), Number::TableNotSound);
+    assert_eq!(from_six(&mut table), Number::TableNotSound);
+    assert_eq!(table, vec![7; 64]);
+    assert_eq!(to_six(&mut []), Number::Done);
+    assert_eq!(from_six(&mut []), Number::Done);
 }
 
 #[test]

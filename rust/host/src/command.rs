@@ -6,6 +6,7 @@ use std::process::ExitCode;
 
 use filebox::MOST_RECORDS;
 
+use crate::convert::convert;
 use crate::desk::say;
 use crate::serving::{serve, Served};
 use crate::show::show;
@@ -55,6 +56,7 @@ fn done(words: &[OsString]) -> Result<u8, String> {
             job(&path(1), user(who)?, chain, &files)
         }
         ["mend", _] => mend(&path(1)),
+        ["convert", _] => convert(&path(1)),
         ["show", _] => show(&path(1)),
         [] => Err(usage("no command")),
         [first, ..] => Err(usage(&format!("{first}: no such command, or not so"))),

@@ -3,7 +3,7 @@
 use std::fmt;
 use std::io;
 
-use filebox::{mend, Answer, Number, NO_STOP, RECORD_BYTES};
+use filebox::{mend, to_six, Answer, Number, NO_STOP, RECORD_BYTES};
 
 use crate::disk::Disk;
 use crate::phases;
@@ -14,10 +14,23 @@ use crate::steps::{Job, Lit, Request, Step};
 pub enum Wrong {
     /// No table has so many bytes.
     Length(usize),
+    /// It is a table from before names had six bits a character.
+    OldNames,
     /// Mending does not make it sound.
     NotSound,
     /// The disk does not do what is asked of it.
     Disk(io::Error),
+}
+
+impl Wrong {
+    /// Why mending refused this table, with this number.
+    pub fn refused(number: Number, table: &[u8]) -> Wrong {
+        match number {
+            Number::TableLength => Wrong::Length(table.len()),
+            _ if to_six(&mut table.to_vec()) == Number::Done => Wrong::OldNames,
+            _ => Wrong::NotSound,
+        }
+    }
 }
 
 impl From<io::Error> for Wrong {
@@ -34,6 +47,7 @@ impl fmt::Display for Wrong {
                 "is no table: a table has 0 to 2,048 records of 32 bytes, and this has {}{bytes} bytes",
                 if *bytes > crate::disk::MOST_BYTES { "at least " } else { "" }
             ),
+            Wrong::OldNames => f.write_str("is an old table, with a byte for each character of a name"),
             Wrong::NotSound => f.write_str("is no table: mending does not make it sound"),
             Wrong::Disk(error) => write!(f, "the disk failed: {error}"),
         }
@@ -117,10 +131,8 @@ fn settled(disk: &mut impl Disk) -> Result<(Vec<u8>, Answer), Wrong> {
     let found = disk.read()?;
     let mut mended = found.clone();
     let answer = mend(&mut mended, NO_STOP);
-    match answer.number {
-        Number::Done => (),
-        Number::TableLength => return Err(Wrong::Length(found.len())),
-        _ => return Err(Wrong::NotSound),
+    if answer.number != Number::Done {
+        return Err(Wrong::refused(answer.number, &found));
     }
     phases::write_all(disk, found.chunks(RECORD_BYTES).enumerate())?;
     phases::write_differing(disk, &found, &mended)?;

@@ -9,6 +9,7 @@
 //! The program is `filebox-host`; [`run`] is all of it.
 
 mod command;
+mod convert;
 pub mod desk;
 pub mod disk;
 pub mod fixtures;

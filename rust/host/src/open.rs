@@ -1,8 +1,8 @@
 //! A table's file: made or opened, and locked, so that one host has it at a time.
 
-use std::fs::{File, OpenOptions, TryLockError};
+use std::fs::{metadata, File, Metadata, OpenOptions, TryLockError};
 use std::io::{self, ErrorKind};
-use std::os::unix::fs::FileExt;
+use std::os::unix::fs::{FileExt, MetadataExt};
 use std::path::Path;
 
 use filebox::{Answer, RECORD_BYTES};
@@ -47,12 +47,19 @@ pub fn make_or_open(
 pub fn look(path: &Path) -> Result<Vec<u8>, String> {
     let file = opened(path, File::options().read(true))?;
     lock(path, file.try_lock_shared())?;
+    is_still_there(path, &file)?;
     read(&file).map_err(|error| cannot(path, "be read", &error))
 }
 
 /// What is wrong with this file, and what to do.
 pub fn wrong(path: &Path, wrong: &Wrong) -> String {
     let advice = match wrong {
+        Wrong::OldNames => {
+            let path = path.display();
+            return format!(
+                "{path}: {wrong}. It is as it was; `filebox-host convert {path}` brings it to six-bit names"
+            );
+        }
         Wrong::Length(_) => "Is it the right file? It is as it was",
         Wrong::NotSound => "Is it the right file? It is as it was; take the last good copy",
         Wrong::Disk(_) => "Look to the disk, then start again: the table is mended then",
@@ -65,10 +72,23 @@ fn kept(path: &Path, file: File) -> Result<(Kept<TableFile>, Answer), String> {
 }
 
 /// Open the file and take the lock on it.
-fn locked(path: &Path, options: &OpenOptions) -> Result<File, String> {
+pub fn locked(path: &Path, options: &OpenOptions) -> Result<File, String> {
     let file = opened(path, options)?;
     lock(path, file.try_lock())?;
+    is_still_there(path, &file)?;
     Ok(file)
+}
+
+/// Does the name still lead to this file? A conversion may have put another in its place before the lock was taken.
+fn is_still_there(path: &Path, file: &File) -> Result<(), String> {
+    let place = |metadata: io::Result<Metadata>| metadata.map(|data| (data.dev(), data.ino())).ok();
+    match place(metadata(path)) == place(file.metadata()) {
+        true => Ok(()),
+        false => Err(format!(
+            "{}: another file was put in its place just now. Try again",
+            path.display()
+        )),
+    }
 }
 
 fn opened(path: &Path, options: &OpenOptions) -> Result<File, String> {
@@ -81,7 +101,7 @@ fn opened(path: &Path, options: &OpenOptions) -> Result<File, String> {
     })
 }
 
-fn lock(path: &Path, tried: Result<(), TryLockError>) -> Result<(), String> {
+pub fn lock(path: &Path, tried: Result<(), TryLockError>) -> Result<(), String> {
     tried.map_err(|error| match error {
         TryLockError::WouldBlock => format!(
             "{}: another host has this table. Ask that one, or end it first",
@@ -109,13 +129,13 @@ fn make(path: &Path, file: &File, free: &[u8]) -> io::Result<()> {
 }
 
 /// Flush the folder in which the file has its name.
-fn flush_name(path: &Path) -> io::Result<()> {
+pub fn flush_name(path: &Path) -> io::Result<()> {
     let path = path.canonicalize()?;
     path.parent()
         .map_or(Ok(()), |folder| File::open(folder)?.sync_all())
 }
 
-fn cannot(path: &Path, what: &str, error: &io::Error) -> String {
+pub fn cannot(path: &Path, what: &str, error: &io::Error) -> String {
     let advice = match error.kind() {
         ErrorKind::PermissionDenied => ". May this user read and write it?",
         ErrorKind::StorageFull | ErrorKind::FileTooLarge | ErrorKind::QuotaExceeded => {

@@ -16,13 +16,9 @@ use crate::tools::print;
 pub fn show(path: &Path) -> Result<u8, String> {
     let table = look(path)?;
     let mut mended = table.clone();
-    let refused = match mend(&mut mended, NO_STOP).number {
-        Number::Done => None,
-        Number::TableLength => Some(Wrong::Length(table.len())),
-        _ => Some(Wrong::NotSound),
-    };
-    if let Some(refused) = refused {
-        return Err(wrong(path, &refused));
+    let number = mend(&mut mended, NO_STOP).number;
+    if number != Number::Done {
+        return Err(wrong(path, &Wrong::refused(number, &table)));
     }
     let records = table.len() / RECORD_BYTES;
     let head = format!("{}: {records} records\n\n", path.display());

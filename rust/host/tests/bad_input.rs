@@ -7,12 +7,13 @@ use std::process::Command;
 use common::{ended, held, run, table, Folder};
 
 /// Every command that opens a table, with this one.
-fn commands<'a>(path: &'a str, sheet: &'a str) -> [Vec<&'a str>; 5] {
+fn commands<'a>(path: &'a str, sheet: &'a str) -> [Vec<&'a str>; 6] {
     [
         vec!["serve", path],
         vec!["ask", path, "1", "CRD .R"],
         vec!["job", path, "1", ".R", sheet],
         vec!["mend", path],
+        vec!["convert", path],
         vec!["show", path],
     ]
 }
@@ -40,7 +41,8 @@ fn a_table_that_is_not_to_be_mended() {
     let sheet = folder.file("sheet", b"5.0 V");
     // an entry of a sheet, in a directory that is none
     let mut astray = [0; 64];
-    astray[..11].copy_from_slice(&[2, 0, 5, 0, 1, 0, 0, 0, 0, 1, b'A']);
+    astray[..5].copy_from_slice(&[2, 0, 5, 0, 1]);
+    astray[16..18].copy_from_slice(&[64, 8]);
     astray[32..37].copy_from_slice(&[1, 1, 0, 0, 1]);
     let text = vec![b'#'; 1_024];
     let mut half = table(8, &[("WRS M .R", &[b'x'; 48])]);
@@ -48,10 +50,60 @@ fn a_table_that_is_not_to_be_mended() {
     for bytes in [&astray[..], &text, &half] {
         let path = folder.file("not-sound", bytes);
         for words in commands(&path, &sheet) {
-            run(&words).fails(&[&path, "mending does not make it sound", "It is as it was"]);
+            let why = match words[0] {
+                "convert" => "sound neither as an old one nor with six-bit names",
+                _ => "mending does not make it sound",
+            };
+            run(&words).fails(&[&path, why, "It is as it was"]);
             assert_eq!(held(&path), bytes);
         }
     }
+}
+
+#[test]
+fn an_old_table_is_refused_and_the_advice_is_right() {
+    let folder = Folder::new();
+    let sheet = folder.file("sheet", b"5.0 V");
+    let six = table(16, &[("CRD .R", b""), ("WRS M .R:A", b"5.0 V")]);
+    let mut old = six.clone();
+    assert_eq!(filebox::from_six(&mut old), filebox::Number::Done);
+    let path = folder.file("old", &old);
+    for words in commands(&path, &sheet) {
+        if words[0] != "convert" {
+            let advice = format!("`filebox-host convert {path}` brings it to six-bit names");
+            run(&words).fails(&[&path, "is an old table", "It is as it was", &advice]);
+            assert_eq!(held(&path), old);
+        }
+    }
+    assert_eq!(run(&["convert", &path]).status, 0);
+    assert_eq!(held(&path), six);
+    assert_eq!(run(&["ask", &path, "1", "RDS .R:A"]).status, 0);
+}
+
+#[test]
+fn an_old_table_that_was_cut_is_not_converted() {
+    let folder = Folder::new();
+    let mut old = table(16, &[("CRD .R", b"")]);
+    assert_eq!(filebox::from_six(&mut old), filebox::Number::Done);
+    // the heading of a directory whose entry was not stored
+    old[64..69].copy_from_slice(&[1, 0, 0, 0, 1]);
+    let path = folder.file("old", &old);
+    run(&["convert", &path]).fails(&[&path, "mended by the host that wrote it"]);
+    assert_eq!(held(&path), old);
+}
+
+#[test]
+fn no_room_for_the_converted_table() {
+    let folder = Folder::new();
+    let mut old = table(2_048, &[("CRD .R", b"")]);
+    assert_eq!(filebox::from_six(&mut old), filebox::Number::Done);
+    let path = folder.file("old", &old);
+    let limited = "trap '' XFSZ; ulimit -f 8; exec \"$0\" convert \"$1\"";
+    let host = env!("CARGO_BIN_EXE_filebox-host");
+    let ran = ended(Command::new("bash").args(["-c", limited, host, &path]), b"");
+    ran.fails(&[&path, "cannot be replaced", "The disk is full"]);
+    assert_eq!(held(&path), old);
+    assert!(!std::path::Path::new(&format!("{path}.converting")).exists());
 }
 
 #[test]
@@ -72,12 +124,12 @@ fn a_file_that_cannot_be_written() {
     let folder = Folder::new();
     let sheet = folder.file("sheet", b"5.0 V");
     let directory = folder.at("");
-    for words in &commands(&directory, &sheet)[..4] {
+    for words in &commands(&directory, &sheet)[..5] {
         run(words).fails(&[&directory, "cannot be opened", "ordinary file"]);
     }
     // a program that runs is written by nobody, whoever asks
     let running = env!("CARGO_BIN_EXE_filebox-host");
-    for words in &commands(running, &sheet)[..4] {
+    for words in &commands(running, &sheet)[..5] {
         run(words).fails(&[running, "cannot be opened"]);
     }
 }
@@ -115,11 +167,13 @@ fn a_full_disk() {
 fn a_command_line_that_is_none() {
     let folder = Folder::new();
     let path = folder.at("line.table");
-    let bad: [&[&str]; 14] = [
+    let bad: [&[&str]; 16] = [
         &[],
         &["serve"],
         &["dance", &path],
         &["mend", &path, "now"],
+        &["convert"],
+        &["convert", &path, "back"],
         &["ask", &path, "1"],
         &["ask", &path, "1000000", "LST ."],
         &["ask", &path, "me", "LST ."],

@@ -1,8 +1,11 @@
-//! `ask`, `job`, `mend`, `show` and `--help`.
+//! `ask`, `job`, `mend`, `convert`, `show` and `--help`.
 
 mod common;
 
-use common::{held, run, table, Folder};
+use std::fs;
+use std::os::unix::fs::{symlink, MetadataExt, PermissionsExt};
+
+use common::{held, run, table, Folder, Serving};
 
 #[test]
 fn ask_does_one_request() {
@@ -285,6 +288,91 @@ fn a_table_without_counts_is_brought_up_to_date() {
     assert_eq!(held(&path), counted);
 }
 
+/// A table of six-bit names, and as it was before.
+fn six_and_old() -> (Vec<u8>, Vec<u8>) {
+    let requests: [(&str, &[u8]); 3] = [
+        ("CRD .R", b""),
+        ("WRS M .R:LONGNAME10", b"5.0 V"),
+        ("DUP .R .R:UP", b""),
+    ];
+    let six = table(16, &requests);
+    let mut old = six.clone();
+    assert_eq!(filebox::from_six(&mut old), filebox::Number::Done);
+    assert_ne!(old, six);
+    (six, old)
+}
+
+#[test]
+fn convert_brings_an_old_table_to_six_bit_names() {
+    let folder = Folder::new();
+    let (six, old) = six_and_old();
+    let path = folder.file("old", &old);
+    fs::set_permissions(&path, PermissionsExt::from_mode(0o640)).unwrap();
+    let before = fs::metadata(&path).unwrap();
+    let ran = run(&["convert", &path]);
+    let said = format!("{path}: 16 records, converted to six-bit names, entries: 3\n");
+    assert_eq!((ran.status, ran.out(), ran.err.as_str()), (0, said, ""));
+    assert_eq!(held(&path), six);
+    // another file, with the same permissions, and nothing beside it
+    let after = fs::metadata(&path).unwrap();
+    assert_ne!(after.ino(), before.ino());
+    assert_eq!(after.mode(), before.mode());
+    assert_eq!(fs::read_dir(folder.at("")).unwrap().count(), 1);
+    assert_eq!(
+        run(&["ask", &path, "1", "RDS .R:LONGNAME10"]).out(),
+        "0 0 0 1 0 5 0\n5.0 V"
+    );
+}
+
+#[test]
+fn convert_leaves_six_bit_names_as_they_are() {
+    let folder = Folder::new();
+    let (six, old) = six_and_old();
+    let path = folder.file("old", &old);
+    run(&["convert", &path]);
+    let before = fs::metadata(&path).unwrap();
+    let ran = run(&["convert", &path]);
+    let said = format!("{path}: 16 records, names are six-bit already\n");
+    assert_eq!((ran.status, ran.out()), (0, said));
+    assert_eq!(held(&path), six);
+    assert_eq!(fs::metadata(&path).unwrap().ino(), before.ino());
+    // cut, and not mended yet
+    let mut cut = six.clone();
+    let answer = filebox::request(&mut cut, b"WRS M .R:A", b"x", &mut [], 1, 1);
+    assert_eq!(answer.stores, 1);
+    let path = folder.file("cut", &cut);
+    assert!(run(&["convert", &path]).out().contains("six-bit already"));
+    assert_eq!(held(&path), cut);
+    // without entries there is nothing to convert
+    for bytes in [0, 64] {
+        let path = folder.file("free", &vec![0; bytes]);
+        assert!(run(&["convert", &path]).out().contains("no entries"));
+        assert_eq!(held(&path), vec![0; bytes]);
+    }
+}
+
+#[test]
+fn convert_goes_by_a_link_and_over_what_a_cut_left() {
+    let folder = Folder::new();
+    let (six, old) = six_and_old();
+    let path = folder.file("old", &old);
+    folder.file("old.converting", &old[..40]);
+    let link = folder.at("link");
+    symlink(&path, &link).unwrap();
+    assert_eq!(run(&["convert", &link]).status, 0);
+    assert_eq!((held(&path), held(&link)), (six.clone(), six));
+    assert!(fs::symlink_metadata(&link).unwrap().is_symlink());
+    assert_eq!(fs::read_dir(folder.at("")).unwrap().count(), 2);
+}
+
+#[test]
+fn convert_waits_for_no_other_host() {
+    let folder = Folder::new();
+    let path = folder.file("line.table", &six_and_old().0);
+    let _serving = Serving::start(&["serve", &path], 1);
+    run(&["convert", &path]).fails(&[&path, "another host has this table"]);
+}
+
 #[test]
 fn show_draws_trees_loops_and_a_map() {
     let folder = Folder::new();
@@ -356,6 +444,7 @@ fn help_says_every_command_and_its_examples_work() {
         "ask",
         "job",
         "mend",
+        "convert",
         "show",
         "--records",
         "--user",

@@ -1,5 +1,6 @@
 //! Chains of names that stand in a table, and chains that could be new there.
 
+use crate::names::name;
 use crate::Random;
 
 const BASE_FILE: usize = 65_535;
@@ -15,12 +16,6 @@ fn entries(table: &[u8], directory: usize, user: u32) -> Vec<&[u8]> {
     let user = &user.to_le_bytes()[..3];
     let stands_there = |r: &&[u8]| r[0] == 2 && two(r, 2) == directory && &r[6..9] == user;
     table.chunks_exact(32).filter(stands_there).collect()
-}
-
-/// The name of an entry.
-fn name(entry: &[u8]) -> String {
-    let length = usize::from(entry[9]).min(10);
-    String::from_utf8_lossy(&entry[10..10 + length]).into_owned()
 }
 
 /// Up to so many names down from a directory, or from the user's base list, by entries that are there.

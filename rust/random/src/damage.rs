@@ -1,6 +1,8 @@
-//! Damage to a table: a few bytes changed, records copied or cleared, headings marked or counted wrongly, free records littered.
+//! Damage to a table: a few bytes changed, records copied or cleared, headings marked or counted wrongly, entries named wrongly, free
+//! records littered.
 
 use crate::counts::miscount;
+use crate::names::misname;
 use crate::rewrites::mark;
 use crate::Random;
 
@@ -15,14 +17,14 @@ fn likely(random: &mut Random, table: &[u8]) -> u8 {
 }
 
 /// Change one of the first twenty bytes of a record, which hold all fields but a text's; or point a field at another
-/// record; or copy or clear a record; or mark every heading in some stretch of the table; or make a count wrong.
+/// record; or copy or clear a record; or mark every heading in some stretch of the table; or make a count or a name wrong.
 pub fn damage(random: &mut Random, table: &mut [u8]) {
     let records = table.len() / 32;
     if records == 0 {
         return;
     }
     let (other, to) = (random.below(records), random.below(records) * 32);
-    match random.below(11) {
+    match random.below(12) {
         0 => table.copy_within(other * 32..other * 32 + 32, to),
         1 => table[to..to + 32].fill(0),
         3 => {
@@ -30,6 +32,7 @@ pub fn damage(random: &mut Random, table: &mut [u8]) {
             stretch.for_each(|record| mark(random, record));
         }
         4 => miscount(random, table),
+        5 => misname(random, table),
         2 => {
             let field = to + random.pick(&[2, 4]);
             table[field..field + 2].copy_from_slice(&(other as u16).to_le_bytes());

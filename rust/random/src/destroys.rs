@@ -1,6 +1,7 @@
 //! Lines of DST, requests that lead to files of many entries, and entries that name no heading.
 
 use crate::chains::{link, long, new, old, sheet, twin};
+use crate::names::laid;
 use crate::Random;
 
 /// A name of a file that is there, mostly of a simple one.
@@ -100,7 +101,7 @@ fn lost(random: &mut Random, records: usize) -> [u8; 32] {
     entry[2..4].copy_from_slice(&directory.to_le_bytes());
     entry[4..6].copy_from_slice(&any(random).to_le_bytes());
     entry[6] = u8::from(directory == 65_535);
-    entry[9..13].copy_from_slice(random.pick(&[b"\x03.ZZ", b"\x01A\0\0"]));
+    entry[9..20].copy_from_slice(&laid(random.pick(&[".ZZ", "A"])));
     if random.once_in(8) {
         entry[random.below(26) + 6] = random.below(256) as u8;
     }

@@ -5,6 +5,7 @@ pub mod counts;
 pub mod damage;
 pub mod destroys;
 pub mod lines;
+pub mod names;
 pub mod parts;
 pub mod requests;
 pub mod rewrites;
@@ -56,8 +57,10 @@ mod tests {
     fn small() -> Vec<u8> {
         let mut table = vec![0; 160];
         table[0] = 1;
-        table[32..44].copy_from_slice(&[2, 0, 255, 255, 0, 0, 1, 0, 0, 2, b'.', b'R']);
-        table[64..75].copy_from_slice(&[2, 0, 0, 0, 3, 0, 0, 0, 0, 1, b'A']);
+        table[32..39].copy_from_slice(&[2, 0, 255, 255, 0, 0, 1]);
+        table[41..52].copy_from_slice(&names::laid(".R"));
+        table[64..70].copy_from_slice(&[2, 0, 0, 0, 3, 0]);
+        table[73..84].copy_from_slice(&names::laid("A"));
         table[96..101].copy_from_slice(&[1, 1, 0, 0, 1]);
         table
     }
@@ -82,8 +85,10 @@ mod tests {
         // a directory, which is user 7's `.T`, and an entry A in it that names it too
         let mut table = vec![0; 96];
         table[0] = 1;
-        table[32..44].copy_from_slice(&[2, 0, 255, 255, 0, 0, 7, 0, 0, 2, b'.', b'T']);
-        table[64..75].copy_from_slice(&[2, 0, 0, 0, 0, 0, 0, 0, 0, 1, b'A']);
+        table[32..39].copy_from_slice(&[2, 0, 255, 255, 0, 0, 7]);
+        table[41..52].copy_from_slice(&names::laid(".T"));
+        table[64] = 2;
+        table[73..84].copy_from_slice(&names::laid("A"));
         let mut random = Random::new(1);
         let chains: Vec<String> = (0..100)
             .map(|_| chains::taken(&mut random, &table, 7))
@@ -241,6 +246,38 @@ mod tests {
         assert!(met.iter().all(|times| *times > 50), "{met:?}");
         destroys::lose(&mut random, &mut []);
         destroys::lose(&mut random, &mut [3; 32]);
+    }
+
+    #[test]
+    fn names_are_read_as_they_were_laid() {
+        assert_eq!(names::laid(".R"), [0, 0, 0, 0, 0, 0, 0, 178, 3, 0, 0]);
+        for name in ["", "A", "!", "_", ".R", "LONGNAME10", "A B", "__________"] {
+            let mut entry = [2; 32];
+            entry[9..20].copy_from_slice(&names::laid(name));
+            assert_eq!(names::name(&entry), name);
+        }
+    }
+
+    #[test]
+    fn the_name_of_one_entry_is_made_wrong_and_nothing_else() {
+        let (mut random, before) = (Random::new(1), small());
+        for wrong in [names::misname, names::misname_before] {
+            let mut met = [0; 32];
+            for _ in 0..2_000 {
+                let mut table = before.clone();
+                wrong(&mut random, &mut table);
+                let other: Vec<usize> = (0..160).filter(|at| table[*at] != before[*at]).collect();
+                assert!(other.iter().all(|at| [1, 2].contains(&(at / 32))));
+                other.iter().for_each(|at| met[at % 32] += 1);
+            }
+            assert!(met[..9].iter().all(|times| *times == 0));
+            assert!(
+                [9, 10, 19, 20, 31].iter().all(|at| met[*at] > 10),
+                "{met:?}"
+            );
+            wrong(&mut random, &mut []);
+            wrong(&mut random, &mut [3; 32]);
+        }
     }
 
     #[test]

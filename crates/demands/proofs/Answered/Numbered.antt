@@ -8,6 +8,7 @@ use Prim.Native.Nat.{ℕ, _+_, _≤_}
 use native.Mathlib.Omega.{arith}
 use lib.ListN.{length}
 use borrow.Author.Tests.{ltb-false}
+use Rattle.paper.specs.Layout.{boxed}
 use Rattle.paper.specs.Declaration.{Part}
 use Rattle.paper.specs.Line.{Word}
 use Rattle.paper.specs.Check.{atLink, Refusal, refusalAt, Check, check}
@@ -47,18 +48,18 @@ module _ (names : ℕ → List (List ℕ)) (reply : List ℕ) where
     fair-walk n link h = fair-linked names n a link (walks-chain n (h .number)) (c .from) (rw (c .long) (h .most)) (rw (c .long) (h .none))
 
     fair-toEnd : (t : List ℕ) (u : ℕ) (f : State → State → Planned) → ((d s : State) → FairPlanned names reply (f d s))
-        → FairPlanned names reply (toEnd t u a w f)
+        → FairPlanned names reply (toEnd boxed t u a w f)
     fair-toEnd t u f g = end-within (FairPlanned names reply) a w fair-walk t u f (λ d s _ _. g d s)
 
     fair-toHolder : (t : List ℕ) (u : ℕ) (f : State → Planned) → ((d : State) → FairPlanned names reply (f d))
-        → FairPlanned names reply (toHolder t u a w f)
+        → FairPlanned names reply (toHolder boxed t u a w f)
     fair-toHolder t u f g = holder-within (FairPlanned names reply) a w fair-walk t u f (λ d _. g d)
 
 module _ (names : ℕ → List (List ℕ)) (t reply : List ℕ) (u : ℕ) where
   -- a new entry: 14, 17 and 18 at its place, 19 of the whole; 13 and 15 of the old name, and what is tried after 19
   fair-making : (m : Making) (thirteen fifteen late : List Check) → ((n : ℕ) → ofChain n ≡ true → Fair names (refusalAt n (m .place)))
       → Every (FairCheck names) thirteen → Every (FairCheck names) fifteen → Every (FairCheck names) late
-      → FairPlanned names reply (making t m thirteen fifteen late)
+      → FairPlanned names reply (making boxed t m thirteen fifteen late)
   unfolding making
   fair-making m thirteen fifteen late at a b c =
       record {
@@ -69,19 +70,19 @@ module _ (names : ℕ → List (List ℕ)) (t reply : List ℕ) (u : ℕ) where
         fits = λ h. omega arith;
       }
 
-  pub fair-crdPlan : (w : Word) (level code : Part) → Chained names 1 w → FairPlanned names reply (crdPlan t u w level code)
+  pub fair-crdPlan : (w : Word) (level code : Part) → Chained names 1 w → FairPlanned names reply (crdPlan boxed t u w level code)
   unfolding crdPlan
   fair-crdPlan w level code c =
       fair-toHolder names reply 1 w c t u _ (λ d. fair-making _ [] [] [] (λ n e. fair-end names n 1 w e c) tt tt tt)
 
   pub fair-wrsPlan : (text : List ℕ) (lifetime : ℕ) (level code : Part) (w : Word) → Chained names 2 w
-      → FairPlanned names reply (wrsPlan t u text lifetime level code w)
+      → FairPlanned names reply (wrsPlan boxed t u text lifetime level code w)
   unfolding wrsPlan
   fair-wrsPlan text lifetime level code w c =
       fair-toHolder names reply 2 w c t u _ (λ d. fair-making _ [] [] [] (λ n e. fair-end names n 2 w e c) tt tt tt)
 
   pub fair-cpyPlan : (v : ℕ) (old new : Word) (life lev code : Part) → Chained names 1 old → Chained names 2 new → names 3 ≡ []
-      → FairPlanned names reply (cpyPlan t v u old new life lev code)
+      → FairPlanned names reply (cpyPlan boxed t v u old new life lev code)
   unfolding cpyPlan
   fair-cpyPlan v old new life lev code c d z =
       fair-toEnd names reply 1 old c t v _ (λ _ f.
@@ -90,27 +91,27 @@ module _ (names : ℕ → List (List ℕ)) (t reply : List ℕ) (u : ℕ) where
       (fair-end names 23 1 old refl c, (fair-whole names 25 3 refl (omega arith) z, tt))))
 
   -- a give: 16 at its place
-  fair-taken : (to : Begin) (m : Making) → Fair names (refusalAt 16 (m .place)) → Every (FairCheck names) (linkTaken t to m)
+  fair-taken : (to : Begin) (m : Making) → Fair names (refusalAt 16 (m .place)) → Every (FairCheck names) (linkTaken boxed t to m)
   fair-taken own m h = tt
   fair-taken (takeOf n) m h = tt
   fair-taken (giveTo n) m h = (h, tt)
 
   pub fair-dupPlan : (v : ℕ) (to : Begin) (old new : Word) (code : Part) → Chained names 1 old → Chained names 2 new
-      → FairPlanned names reply (dupPlan t v u to old new code)
+      → FairPlanned names reply (dupPlan boxed t v u to old new code)
   unfolding dupPlan
   fair-dupPlan v to old new code c d =
       fair-toEnd names reply 1 old c t v _ (λ _ f.
       fair-toHolder names reply 2 new d t u _ (λ s.
-      fair-making _ [] _ [] (λ n e. fair-end names n 2 new e d) tt (fair-taken to (linking t f s new code) (fair-end names 16 2 new refl d)) tt))
+      fair-making _ [] _ [] (λ n e. fair-end names n 2 new e d) tt (fair-taken to (linking boxed t f s new code) (fair-end names 16 2 new refl d)) tt))
 
   -- a plan of two checks that writes nothing
-  pub fair-chnPlan : (old link : Word) → Chained names 1 old → names 2 ≡ [] → FairPlanned names reply (chnPlan t u old link)
+  pub fair-chnPlan : (old link : Word) → Chained names 1 old → names 2 ≡ [] → FairPlanned names reply (chnPlan boxed t u old link)
   unfolding chnPlan
   fair-chnPlan old link c z =
       fair-toEnd names reply 1 old c t u _ (λ _ _.
       record { checks = (fair-end names 14 1 old refl c, (fair-whole names 16 2 refl (omega arith) z, tt)); fits = λ h. omega arith })
 
-  pub fair-dprPlan : (w : Word) (code : ℕ) → Chained names 1 w → names 2 ≡ [] → FairPlanned names reply (dprPlan t u w code)
+  pub fair-dprPlan : (w : Word) (code : ℕ) → Chained names 1 w → names 2 ≡ [] → FairPlanned names reply (dprPlan boxed t u w code)
   unfolding dprPlan
   fair-dprPlan w code c z =
       fair-toEnd names reply 1 w c t u _ (λ _ _.
@@ -143,33 +144,33 @@ module _ (names : ℕ → List (List ℕ)) (t reply : List ℕ) (u : ℕ) where
       fair-showing (readInhibited (endOf 1 w) s ∷ fifteen ∷ []) late out (fair-end names 13 1 w refl c, (h, tt)) l
 
   -- .. and 23 and 28
-  pub fair-rdsPlan : (w : Word) (first count : Part) → Chained names 1 w → names 2 ≡ [] → FairPlanned names reply (rdsPlan t u reply w first count)
+  pub fair-rdsPlan : (w : Word) (first count : Part) → Chained names 1 w → names 2 ≡ [] → FairPlanned names reply (rdsPlan boxed t u reply w first count)
   unfolding rdsPlan
   fair-rdsPlan w first count c z =
       fair-toEnd names reply 1 w c t u _ (λ _ f.
       fair-reading w c f (notSimple (endOf 1 w) t f) _ _ (fair-end names 15 1 w refl c)
       (fair-end names 23 1 w refl c, (fair-whole names 28 2 refl (omega arith) z, tt)))
 
-  pub fair-lstPlan : (w : Word) → Chained names 1 w → FairPlanned names reply (lstPlan t u reply w)
+  pub fair-lstPlan : (w : Word) → Chained names 1 w → FairPlanned names reply (lstPlan boxed t u reply w)
   unfolding lstPlan
   fair-lstPlan w c =
       fair-toEnd names reply 1 w c t u _ (λ _ f. fair-reading w c f (noDirectory (endOf 1 w) t f) [] _ (fair-end names 15 1 w refl c) tt)
 
-  pub fair-lstBasePlan : FairPlanned names reply (lstBasePlan t u reply)
+  pub fair-lstBasePlan : FairPlanned names reply (lstBasePlan boxed t u reply)
   unfolding lstBasePlan
   fair-lstBasePlan = fair-showing [] [] _ tt tt
 
-  pub fair-lstTreePlan : (w : Word) (depth : ℕ) → Chained names 1 w → FairPlanned names reply (lstTreePlan t u reply w depth)
+  pub fair-lstTreePlan : (w : Word) (depth : ℕ) → Chained names 1 w → FairPlanned names reply (lstTreePlan boxed t u reply w depth)
   unfolding lstTreePlan
   fair-lstTreePlan w depth c =
       fair-toEnd names reply 1 w c t u _ (λ _ f. fair-reading w c f (noDirectory (endOf 1 w) t f) [] _ (fair-end names 15 1 w refl c) tt)
 
-  pub fair-lstBaseTreePlan : (depth : ℕ) → FairPlanned names reply (lstBaseTreePlan t u reply depth)
+  pub fair-lstBaseTreePlan : (depth : ℕ) → FairPlanned names reply (lstBaseTreePlan boxed t u reply depth)
   unfolding lstBaseTreePlan
   fair-lstBaseTreePlan depth = fair-showing [] [] _ tt tt
 
   -- a plan of four checks that writes nothing
-  pub fair-rewritePlan : (text : List ℕ) (w : Word) → Chained names 2 w → FairPlanned names reply (rewritePlan t u text w)
+  pub fair-rewritePlan : (text : List ℕ) (w : Word) → Chained names 2 w → FairPlanned names reply (rewritePlan boxed t u text w)
   unfolding rewritePlan
   fair-rewritePlan text w c =
       fair-toEnd names reply 2 w c t u _ (λ _ _.

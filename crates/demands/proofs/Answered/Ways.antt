@@ -5,6 +5,7 @@ use mathlib.Core.List.{List}
 use mathlib.Core.Path.{_≡_, refl}
 use Prim.Native.Nat.{ℕ}
 use lib.Dec.{eqb}
+use Rattle.paper.specs.Layout.{boxed}
 use Rattle.paper.specs.Line.{Word}
 use Rattle.paper.specs.Check.{Refusal}
 use Rattle.paper.specs.Request.{Request, crd, wrs, rds, cpy, dup, chn, del, dst, dpr, lst, lstBase, lstTree, lstBaseTree, rewrite, request, asked}
@@ -46,13 +47,13 @@ isSeveral r = isDel r || isDst r
 -- the three ways of a request, each the same for every stop number
 pub data Came (t line text reply : List ℕ) (u : ℕ) : Type 0 where
   -- refused before it is tried
-  lent : (f : Refusal) → Fair (namesAt line) f → ((k : ℕ) → requested t line text reply u k ≡ refusing t reply f) → Came t line text reply u
+  lent : (f : Refusal) → Fair (namesAt line) f → ((k : ℕ) → requested boxed t line text reply u k ≡ refusing t reply f) → Came t line text reply u
   -- tried by one plan
   planned : (r : Request) → asked line text ≡ request r → isSeveral r ≡ false → (p : Planned) → FairPlanned (namesAt line) reply p
-      → ((k : ℕ) → requested t line text reply u k ≡ single t reply k (ran k p)) → Came t line text reply u
+      → ((k : ℕ) → requested boxed t line text reply u k ≡ single t reply k (ran k p)) → Came t line text reply u
   -- a DEL or a DST
   deletes : (s : Several) (ws : List Word) → asked line text ≡ request (asking s ws) → Chains (namesAt line) ws
-      → ((k : ℕ) → requested t line text reply u k ≡ deleting (planOf s) t u reply k 0 0 ws)
+      → ((k : ℕ) → requested boxed t line text reply u k ≡ deleting (planOf s) t u reply k 0 0 ws)
       → Came t line text reply u
 
 pub came : (t line text reply : List ℕ) (u : ℕ) → Came t line text reply u
@@ -62,32 +63,32 @@ came t line text reply u = go (course t line text reply u)
     names : ℕ → List (List ℕ)
     names = namesAt line
 
-    grants : (r : Request) → asked line text ≡ request r → Spoken names r → ((k : ℕ) → requested t line text reply u k ≡ granted t text reply u k r)
+    grants : (r : Request) → asked line text ≡ request r → Spoken names r → ((k : ℕ) → requested boxed t line text reply u k ≡ granted boxed t text reply u k r)
         → Came t line text reply u
-    grants (crd w level code) q s = planned (crd w level code) q refl (crdPlan t u w level code) (fair-crdPlan names t reply u w level code s)
+    grants (crd w level code) q s = planned (crd w level code) q refl (crdPlan boxed t u w level code) (fair-crdPlan names t reply u w level code s)
     grants (wrs lifetime level code w) q s =
-        planned (wrs lifetime level code w) q refl (wrsPlan t u text lifetime level code w) (fair-wrsPlan names t reply u text lifetime level code w s)
+        planned (wrs lifetime level code w) q refl (wrsPlan boxed t u text lifetime level code w) (fair-wrsPlan names t reply u text lifetime level code w s)
     grants (rds from w first count) q s =
-        planned (rds from w first count) q refl (rdsPlan t (listOf u from) reply (begun from w) first count)
+        planned (rds from w first count) q refl (rdsPlan boxed t (listOf u from) reply (begun from w) first count)
         (fair-rdsPlan names t reply (listOf u from) (begun from w) first count (s .0) (s .1))
     grants (cpy from old new lifetime level code) q s =
-        planned (cpy from old new lifetime level code) q refl (cpyPlan t (listOf u from) u (begun from old) new lifetime level code)
+        planned (cpy from old new lifetime level code) q refl (cpyPlan boxed t (listOf u from) u (begun from old) new lifetime level code)
         (fair-cpyPlan names t reply u (listOf u from) (begun from old) new lifetime level code (s .0) (s .1 .0) (s .1 .1))
     grants (dup from old to new code) q s =
-        planned (dup from old to new code) q refl (dupPlan t (listOf u from) (listOf u to) to (begun from old) (begun to new) code)
+        planned (dup from old to new code) q refl (dupPlan boxed t (listOf u from) (listOf u to) to (begun from old) (begun to new) code)
         (fair-dupPlan names t reply (listOf u to) (listOf u from) to (begun from old) (begun to new) code (s .0) (s .1))
-    grants (chn old link) q s = planned (chn old link) q refl (chnPlan t u old link) (fair-chnPlan names t reply u old link (s .0) (s .1))
+    grants (chn old link) q s = planned (chn old link) q refl (chnPlan boxed t u old link) (fair-chnPlan names t reply u old link (s .0) (s .1))
     grants (del ws) q s = deletes deletion ws q s
     grants (dst ws) q s = deletes destruction ws q s
-    grants (dpr w code) q s = planned (dpr w code) q refl (dprPlan t u w code) (fair-dprPlan names t reply u w code (s .0) (s .1))
+    grants (dpr w code) q s = planned (dpr w code) q refl (dprPlan boxed t u w code) (fair-dprPlan names t reply u w code (s .0) (s .1))
     grants (lst from w) q s =
-        planned (lst from w) q refl (lstPlan t (listOf u from) reply (begun from w)) (fair-lstPlan names t reply (listOf u from) (begun from w) s)
-    grants lstBase q s = planned lstBase q refl (lstBasePlan t u reply) (fair-lstBasePlan names t reply u)
+        planned (lst from w) q refl (lstPlan boxed t (listOf u from) reply (begun from w)) (fair-lstPlan names t reply (listOf u from) (begun from w) s)
+    grants lstBase q s = planned lstBase q refl (lstBasePlan boxed t u reply) (fair-lstBasePlan names t reply u)
     grants (lstTree from w depth) q s =
-        planned (lstTree from w depth) q refl (lstTreePlan t (listOf u from) reply (begun from w) depth)
+        planned (lstTree from w depth) q refl (lstTreePlan boxed t (listOf u from) reply (begun from w) depth)
         (fair-lstTreePlan names t reply (listOf u from) (begun from w) depth s)
-    grants (lstBaseTree depth) q s = planned (lstBaseTree depth) q refl (lstBaseTreePlan t u reply depth) (fair-lstBaseTreePlan names t reply u depth)
-    grants (rewrite w) q s = planned (rewrite w) q refl (rewritePlan t u text w) (fair-rewritePlan names t reply u text w s)
+    grants (lstBaseTree depth) q s = planned (lstBaseTree depth) q refl (lstBaseTreePlan boxed t u reply depth) (fair-lstBaseTreePlan names t reply u depth)
+    grants (rewrite w) q s = planned (rewrite w) q refl (rewritePlan boxed t u text w) (fair-rewritePlan names t reply u text w s)
 
     go : Course t line text reply u → Came t line text reply u
     go (untried f h e) = lent f h e

@@ -4,6 +4,7 @@ use mathlib.Core.Bool.{true}
 use mathlib.Core.List.{List}
 use mathlib.Core.Path.{_≡_}
 use Prim.Native.Nat.{ℕ, _<_}
+use Rattle.paper.specs.Layout.{boxed}
 use Rattle.paper.specs.Table.{sized, rooms, rec}
 use Rattle.paper.specs.Sound.{shaped, sound}
 use Rattle.paper.specs.Count.{recounts}
@@ -20,9 +21,9 @@ pub record Updated (t : List ℕ) : Type 0 where
   pub stores : mendStores t ≡ recounts t
   pub each : (i : ℕ) → i < rooms t → Alike (rec t i) (rec (mended t) i)
   pub sized : sized (mended t) ≡ true
-  pub sound : sound (mended t) ≡ true
+  pub sound : sound boxed (mended t) ≡ true
 
-pub brought-up : (t : List ℕ) → sized t ≡ true → shaped t ≡ true → Updated t
+pub brought-up : (t : List ℕ) → sized t ≡ true → shaped boxed t ≡ true → Updated t
 brought-up t s e =
     let r = right-sound (mended t) right in
     record { stores = mend-shaped t c; each = λ i l. rw (mended-shaped t c) (recounts-each t i l); sized = r .0; sound = r .1 }

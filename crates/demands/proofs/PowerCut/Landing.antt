@@ -6,6 +6,7 @@ use mathlib.Core.Path.{_≡_, refl, sym, _∙_}
 use Prim.Native.Nat.{ℕ, zero, suc, _+_, _-_, _≤_, _<_}
 use native.Mathlib.Omega.{arith}
 use lib.ListN.{length, take}
+use Rattle.paper.specs.Layout.{boxed}
 use Rattle.paper.specs.Line.{Word}
 use Rattle.paper.specs.Walk.{file}
 use Rattle.paper.specs.Store.{run}
@@ -69,7 +70,7 @@ module _ (t reply : List ℕ) (c : Right t) (x : Planned) (safe : Safe t x) (sur
 
 module _ (t reply : List ℕ) (c : Right t) (u : ℕ) (text : List ℕ) (name : Word) (short : length text ≤ 24000) where
   abbrev rewriter : Planned
-  rewriter = rewritePlan t u text name
+  rewriter = rewritePlan boxed t u text name
 
   -- y is the table before; the table after; or, of a plan whose checks pass, the table with the file marked and empty
   pub data Remakes (y : List ℕ) : Type 0 where

@@ -9,6 +9,7 @@ use lib.ListN.{length}
 use borrow.Author.Tests.{ltb-false}
 use Rattle.paper.specs.Scan.{Found, at, nowhere}
 use Rattle.paper.specs.Record.{byte, level, lifetime, blank, headingRecord}
+use Rattle.paper.specs.Layout.{boxed}
 use Rattle.paper.specs.Table.{rooms, rec, frees, room}
 use Rattle.paper.specs.Declaration.{Part, orElse}
 use Rattle.paper.specs.Line.{Word}
@@ -39,11 +40,11 @@ Safe t (halted f) = Unit {0}
 Safe t (plan p) = verdict (p .checks) ≡ passed → Shaped t (p .stores)
 
 -- a walk to an argument's directory, or to its file, and what follows it
-holder-safe : (t : List ℕ) (u place : ℕ) (w : Word) (f : State → Planned) → ((d : State) → Safe t (f d)) → Safe t (toHolder t u place w f)
+holder-safe : (t : List ℕ) (u place : ℕ) (w : Word) (f : State → Planned) → ((d : State) → Safe t (f d)) → Safe t (toHolder boxed t u place w f)
 holder-safe t u place w f h = holder-by (Safe t) place (λ _ _ _. tt) t u w f (λ d _. h d)
 
 end-safe : (t : List ℕ) (u place : ℕ) (w : Word) (f : State → State → Planned)
-    → ((d s : State) → toLast t d (chainOf w) ≡ reached s → Safe t (f d s)) → Safe t (toEnd t u place w f)
+    → ((d s : State) → toLast boxed t d (chainOf w) ≡ reached s → Safe t (f d s)) → Safe t (toEnd boxed t u place w f)
 end-safe t u place w f h = end-by (Safe t) place (λ _ _ _. tt) t u w f (λ d s _. h d s)
 
 module _ (t : List ℕ) (c : Sound t) where
@@ -53,27 +54,26 @@ module _ (t : List ℕ) (c : Sound t) where
 
   -- a new entry, given that the stores before it are debris
   making-safe : (m : Making) (thirteen fifteen late : List Check) → (length (m .first) ≤ length (frees t) → Every (Litters t) (m .first))
-      → length (m .entry) ≡ 32 → byte (m .entry) 0 ≡ 2 → Safe t (making t m thirteen fifteen late)
+      → length (m .entry) ≡ 32 → byte (m .entry) 0 ≡ 2 → Safe t (making boxed t m thirteen fifteen late)
   unfolding making
   making-safe m thirteen fifteen late lit size kind e =
       let a = every-parts Idle (thirteen ++ writeInhibited (m .place) (m .directory) ∷ fifteen) _ (verdict-idle _ e) .1 in
-      go (borne t m) refl (ltb-false _ _ (a .1 .1 .0))
+      go (borne boxed t m) refl (ltb-false _ _ (a .1 .1 .0))
     where
-      go : (x : Found) → borne t m ≡ x → needed m x ≤ length (frees t) → Shaped t (placing t m x)
+      go : (x : Found) → borne boxed t m ≡ x → needed m x ≤ length (frees t) → Shaped t (placing t m x)
       go (at i) q enough =
           let f = found-stands t (m .directory .holder) (m .name) i q .1 in
           losing-shaped t c (m .first) (lit enough) i (m .entry) (f .kind) size
       go nowhere q enough =
           adding-shaped t (m .first) (lit (omega arith)) _ (m .entry) (room-below t (length (m .first)) (omega arith)) size kind
 
-  -- a new file under a name that fits its field
+  -- a new file and its entry
   filing-safe : (place : ℕ) (w : Word) (d : State) (type lev code life n : ℕ) (body : List ℕ) (thirteen fifteen late : List Check)
-      → length (lastName (chainOf w)) ≤ 10
-      → Safe t (making t (filing t place w d code (headingRecord type lev code life n) body) thirteen fifteen late)
-  filing-safe place w d type lev code life n body thirteen fifteen late l =
-      making-safe (filing t place w d code head body) thirteen fifteen late
+      → Safe t (making boxed t (filing boxed t place w d code (headingRecord type lev code life n) body) thirteen fifteen late)
+  filing-safe place w d type lev code life n body thirteen fifteen late =
+      making-safe (filing boxed t place w d code head body) thirteen fifteen late
       (λ enough. littering t c head body (roomy t type lev code life n body (omega (arith, length-file t head body, enough))))
-      (length-entry code (d .holder .heading) (room t 0) (d .holder .user) (lastName (chainOf w)) l)
+      (length-entry code (d .holder .heading) (room t 0) (d .holder .user) (lastName (chainOf w)))
       (entry-record-kind code (d .holder .heading) (room t 0) (d .holder .user) (lastName (chainOf w)))
     where
       head : List ℕ
@@ -81,45 +81,42 @@ module _ (t : List ℕ) (c : Sound t) where
 
   -- ---- each function
 
-  pub crd-safe : (u : ℕ) (name : Word) (lev code : Part) → length (lastName (chainOf name)) ≤ 10 → Safe t (crdPlan t u name lev code)
+  pub crd-safe : (u : ℕ) (name : Word) (lev code : Part) → Safe t (crdPlan boxed t u name lev code)
   unfolding crdPlan
-  crd-safe u name lev code l =
-      holder-safe t u 1 name _ (λ d. filing-safe 1 name d 0 (orElse lev 0) (orElse code 0) 1 0 [] [] [] [] l)
+  crd-safe u name lev code =
+      holder-safe t u 1 name _ (λ d. filing-safe 1 name d 0 (orElse lev 0) (orElse code 0) 1 0 [] [] [] [])
 
-  pub wrs-safe : (u : ℕ) (body : List ℕ) (life : ℕ) (lev code : Part) (name : Word) → length (lastName (chainOf name)) ≤ 10
-      → Safe t (wrsPlan t u body life lev code name)
+  pub wrs-safe : (u : ℕ) (body : List ℕ) (life : ℕ) (lev code : Part) (name : Word) → Safe t (wrsPlan boxed t u body life lev code name)
   unfolding wrsPlan
-  wrs-safe u body life lev code name l =
-      holder-safe t u 2 name _ (λ d. filing-safe 2 name d 1 (orElse lev 0) (orElse code 0) life (length body) body [] [] [] l)
+  wrs-safe u body life lev code name =
+      holder-safe t u 2 name _ (λ d. filing-safe 2 name d 1 (orElse lev 0) (orElse code 0) life (length body) body [] [] [])
 
-  pub cpy-safe : (v u : ℕ) (old new : Word) (life lev code : Part) → length (lastName (chainOf new)) ≤ 10
-      → Safe t (cpyPlan t v u old new life lev code)
+  pub cpy-safe : (v u : ℕ) (old new : Word) (life lev code : Part) → Safe t (cpyPlan boxed t v u old new life lev code)
   unfolding cpyPlan
-  cpy-safe v u old new life lev code l =
+  cpy-safe v u old new life lev code =
       end-safe t v 1 old _ (λ _ f _. holder-safe t u 2 new _ (λ d.
       let source : List ℕ = rec t (file t f) in
       let body : List ℕ = fileText t (file t f) in
       filing-safe 2 new d 1 (orElse lev (level source)) (orElse code 0) (orElse life (lifetime source)) (length body) body
-      _ _ _ l))
+      _ _ _))
 
-  pub dup-safe : (v u : ℕ) (to : Begin) (old new : Word) (code : Part) → length (lastName (chainOf new)) ≤ 10
-      → Safe t (dupPlan t v u to old new code)
+  pub dup-safe : (v u : ℕ) (to : Begin) (old new : Word) (code : Part) → Safe t (dupPlan boxed t v u to old new code)
   unfolding dupPlan
-  dup-safe v u to old new code l =
+  dup-safe v u to old new code =
       end-safe t v 1 old _ (λ _ f _. holder-safe t u 2 new _ (λ d.
-      making-safe _ [] _ _ (λ _. tt) (length-entry _ (d .holder .heading) (file t f) (d .holder .user) (lastName (chainOf new)) l)
+      making-safe _ [] _ _ (λ _. tt) (length-entry _ (d .holder .heading) (file t f) (d .holder .user) (lastName (chainOf new)))
       (entry-record-kind _ (d .holder .heading) (file t f) (d .holder .user) (lastName (chainOf new)))))
 
-  pub chn-safe : (u : ℕ) (old link : Word) → length (lastName (link .names)) ≤ 10 → Safe t (chnPlan t u old link)
+  pub chn-safe : (u : ℕ) (old link : Word) → Safe t (chnPlan boxed t u old link)
   unfolding chnPlan
-  chn-safe u old link l =
+  chn-safe u old link =
       end-safe t u 1 old _ (λ d f q _.
       let e = last-looked t d (chainOf old) f q in
       one-shaped (f .entry) _ (e .within)
-      (length-renamed (rec t (f .entry)) (lastName (link .names)) (length-rec t (f .entry) (e .within)) (e .stands .kind) l)
+      (length-renamed (rec t (f .entry)) (lastName (link .names)) (length-rec t (f .entry) (e .within)) (e .stands .kind))
       (over (e .stands .kind)))
 
-  pub dpr-safe : (u : ℕ) (name : Word) (code : ℕ) → Safe t (dprPlan t u name code)
+  pub dpr-safe : (u : ℕ) (name : Word) (code : ℕ) → Safe t (dprPlan boxed t u name code)
   unfolding dprPlan
   dpr-safe u name code =
       end-safe t u 1 name _ (λ d f q _.
@@ -129,27 +126,27 @@ module _ (t : List ℕ) (c : Sound t) where
       let s : length (rec t (file t f)) ≡ 32 = length-rec t (file t f) i in
       one-shaped (file t f) _ i (length-recoded (rec t (file t f)) code s k) (again k (recoded-like (rec t (file t f)) code s k .kind ∙ k)))
 
-  pub del-safe : (u place : ℕ) (name : Word) → Safe t (delPlan t u place name)
+  pub del-safe : (u place : ℕ) (name : Word) → Safe t (delPlan boxed t u place name)
   unfolding delPlan
   del-safe u place name =
       end-safe t u place name _ (λ d f q _. losing-shaped t c [] tt (f .entry) blank (last-looked t d (chainOf name) f q .stands .kind) length-blank)
 
-  pub rds-safe : (u : ℕ) (reply : List ℕ) (name : Word) (first count : Part) → Safe t (rdsPlan t u reply name first count)
+  pub rds-safe : (u : ℕ) (reply : List ℕ) (name : Word) (first count : Part) → Safe t (rdsPlan boxed t u reply name first count)
   unfolding rdsPlan
   rds-safe u reply name first count = end-safe t u 1 name _ (λ d f _ _. none refl)
 
-  pub lst-safe : (u : ℕ) (reply : List ℕ) (name : Word) → Safe t (lstPlan t u reply name)
+  pub lst-safe : (u : ℕ) (reply : List ℕ) (name : Word) → Safe t (lstPlan boxed t u reply name)
   unfolding lstPlan
   lst-safe u reply name = end-safe t u 1 name _ (λ d f _ _. none refl)
 
-  pub lst-base-safe : (u : ℕ) (reply : List ℕ) → Safe t (lstBasePlan t u reply)
+  pub lst-base-safe : (u : ℕ) (reply : List ℕ) → Safe t (lstBasePlan boxed t u reply)
   unfolding lstBasePlan
   lst-base-safe u reply _ = none refl
 
-  pub lst-tree-safe : (u : ℕ) (reply : List ℕ) (name : Word) (depth : ℕ) → Safe t (lstTreePlan t u reply name depth)
+  pub lst-tree-safe : (u : ℕ) (reply : List ℕ) (name : Word) (depth : ℕ) → Safe t (lstTreePlan boxed t u reply name depth)
   unfolding lstTreePlan
   lst-tree-safe u reply name depth = end-safe t u 1 name _ (λ d f _ _. none refl)
 
-  pub lst-base-tree-safe : (u : ℕ) (reply : List ℕ) (depth : ℕ) → Safe t (lstBaseTreePlan t u reply depth)
+  pub lst-base-tree-safe : (u : ℕ) (reply : List ℕ) (depth : ℕ) → Safe t (lstBaseTreePlan boxed t u reply depth)
   unfolding lstBaseTreePlan
   lst-base-tree-safe u reply depth _ = none refl

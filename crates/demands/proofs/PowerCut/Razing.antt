@@ -10,6 +10,7 @@ use lib.Dec.{eqb}
 use lib.ListN.{length, take}
 use borrow.Author.Tests.{eq-eqb}
 use Rattle.paper.specs.Record.{byte, headingNamed, headingOf, names, blank}
+use Rattle.paper.specs.Layout.{boxed}
 use Rattle.paper.specs.Table.{rooms, rec, lay, textRoom}
 use Rattle.paper.specs.Line.{Word}
 use Rattle.paper.specs.Check.{passed, verdict}
@@ -205,12 +206,12 @@ abbrev Cuts : List ℕ → Planned → Type 0
 Cuts t (plan p) = verdict (p .checks) ≡ passed → (n : ℕ) → Cut t (p .stores) n
 Cuts t (halted f) = Unit {0}
 
-dst-cuts : (t : List ℕ) → Right t → (u place : ℕ) (name : Word) → Cuts t (dstPlan t u place name)
+dst-cuts : (t : List ℕ) → Right t → (u place : ℕ) (name : Word) → Cuts t (dstPlan boxed t u place name)
 unfolding dstPlan
 dst-cuts t r u place name =
     end-by (Cuts t) place (λ _ _ _. tt) t u name _ (λ d f _ q v.
     let e = last-looked t d (chainOf name) f q in
     destroying-cut t (file t f) r (r .clauses .targets (f .entry) (e .within) (e .stands .kind)) (verdict-idle _ v .1 .0))
 
-pub passed-razed : (t : List ℕ) → Right t → (u place : ℕ) (name : Word) (p : Plan) → Passed (dstPlan t u place name) p → (n : ℕ) → Cut t (p .stores) n
+pub passed-razed : (t : List ℕ) → Right t → (u place : ℕ) (name : Word) (p : Plan) → Passed (dstPlan boxed t u place name) p → (n : ℕ) → Cut t (p .stores) n
 passed-razed t r u place name p v = let s : Cuts t (plan p) = rw (v .plan) at (dst-cuts t r u place name) in s (v .checks)

@@ -11,6 +11,7 @@ use borrow.Author.Tests.{eqb-true}
 use Rattle.paper.specs.Number.{bytesOf}
 use Rattle.paper.specs.Scan.{at}
 use Rattle.paper.specs.Record.{byte, directory, holderOf, names, headingRecord, blank}
+use Rattle.paper.specs.Layout.{boxed}
 use Rattle.paper.specs.Table.{rooms, rec, frees, room}
 use Rattle.paper.specs.Name.{same}
 use Rattle.paper.specs.Entry.{holder, inDirectory, stands, crowd}
@@ -118,7 +119,7 @@ module _ (o : ℕ) (t : List ℕ) (m : Making) (d : Made o t m) (n : countsTrue 
         counts = n;
       }
 
-  pub over-enters : Sound t → (e : ℕ) → borne t m ≡ at e → Entering (run t (m .first)) e (m .entry)
+  pub over-enters : Sound t → (e : ℕ) → borne boxed t m ≡ at e → Entering (run t (m .first)) e (m .entry)
   over-enters c e b =
       let s = found-stands t (m .directory .holder) (m .name) e b in
       let q : rec (run t (m .first)) e ≡ rec t e = displaced-same o t m c d e b in

@@ -10,7 +10,8 @@ use lib.ListN.{length}
 use lib.Dec.{eqb}
 use borrow.Author.Tests.{ne-eqb}
 use Rattle.paper.specs.Scan.{Found, at, nowhere}
-use Rattle.paper.specs.Record.{directory, nameOf}
+use Rattle.paper.specs.Record.{directory}
+use Rattle.paper.specs.Layout.{nameOf, boxed}
 use Rattle.paper.specs.Table.{rooms, rec}
 use Rattle.paper.specs.Line.{Word}
 use Rattle.paper.specs.Check.{atLink, refusalAt}
@@ -27,16 +28,16 @@ use Rattle.laws.proofs.Entries.{Stands, bears-stands, bears-name, found-bears}
 pub record Looked (t : List ℕ) (s : State) (n : List ℕ) (f : State) : Type 0 where
   pub within : f .entry < rooms t
   pub stands : Stands (s .holder) (rec t (f .entry))
-  pub name : n ≡ nameOf (rec t (f .entry))
-  pub first : find t (s .holder) n ≡ at (f .entry)
+  pub name : n ≡ nameOf boxed (rec t (f .entry))
+  pub first : find boxed t (s .holder) n ≡ at (f .entry)
   pub holder : f .holder ≡ s .holder
   pub code : f .code ≡ applies t (f .entry)
 
-pub look-on : (t : List ℕ) (s : State) (n : List ℕ) (f : State) → look t s n ≡ on f → Looked t s n f
+pub look-on : (t : List ℕ) (s : State) (n : List ℕ) (f : State) → look boxed t s n ≡ on f → Looked t s n f
 unfolding look
-look-on t s n f e = go (find t (s .holder) n) refl e
+look-on t s n f e = go (find boxed t (s .holder) n) refl e
   where
-    go : (x : Found) → find t (s .holder) n ≡ x → looked t s x ≡ on f → Looked t s n f
+    go : (x : Found) → find boxed t (s .holder) n ≡ x → looked t s x ≡ on f → Looked t s n f
     go (at i) p q =
         let c : record { holder = s .holder; entry = i; code = applies t i } ≡ f = cc in
         let g = found-bears t (s .holder) n i p in
@@ -73,10 +74,10 @@ enter-on t s d e = go (directory (rec t (file t s))) refl (noRead (s .code)) e
         subst (Inside t s) c (record { heading = refl; directory = p; entry = refl; code = refl })
 
 -- the last link
-pub last-looked : (t : List ℕ) (d : State) (ns : List (List ℕ)) (s : State) → toLast t d ns ≡ reached s → Looked t d (lastName ns) s
-last-looked t d ns s e = go (look t d (lastName ns)) refl e
+pub last-looked : (t : List ℕ) (d : State) (ns : List (List ℕ)) (s : State) → toLast boxed t d ns ≡ reached s → Looked t d (lastName ns) s
+last-looked t d ns s e = go (look boxed t d (lastName ns)) refl e
   where
-    go : (x : Step) → look t d (lastName ns) ≡ x → linked (length ns) x reached ≡ reached s → Looked t d (lastName ns) s
+    go : (x : Step) → look boxed t d (lastName ns) ≡ x → linked (length ns) x reached ≡ reached s → Looked t d (lastName ns) s
     go (off number) p q = clash (cc)
     go (on y) p q = let g : y ≡ s = cc in look-on t d (lastName ns) s (p ∙ ap on g)
 
@@ -90,9 +91,9 @@ abbrev Steps : Step → Type 0
 Steps (on s) = Unit {0}
 Steps (off n) = Walks n
 
-steps-look : (t : List ℕ) (s : State) (n : List ℕ) → Steps (look t s n)
+steps-look : (t : List ℕ) (s : State) (n : List ℕ) → Steps (look boxed t s n)
 unfolding look
-steps-look t s n = go (find t (s .holder) n)
+steps-look t s n = go (find boxed t (s .holder) n)
   where
     go : (x : Found) → Steps (looked t s x)
     go (at e) = tt
@@ -103,9 +104,9 @@ unfolding enter
 steps-enter t s =
     either Steps (not (directory (rec t (file t s)))) _ _ (inl (inr refl)) (either Steps (noRead (s .code)) _ _ (inr refl) tt)
 
-steps-follow : (t : List ℕ) (s : State) (n : List ℕ) → Steps (follow t s n)
+steps-follow : (t : List ℕ) (s : State) (n : List ℕ) → Steps (follow boxed t s n)
 unfolding follow
-steps-follow t s n = go (look t s n) (steps-look t s n)
+steps-follow t s n = go (look boxed t s n) (steps-look t s n)
   where
     go : (x : Step) → Steps x → Steps (then x (enter t))
     go (on s) h = steps-enter t s
@@ -127,14 +128,14 @@ record From (k : ℕ) (ns : List (List ℕ)) (n link : ℕ) : Type 0 where
   least : k ≤ link
   most : link < k + length ns
 
-stops-directory : (t : List ℕ) (k : ℕ) (s : State) (ns : List (List ℕ)) → Stops (From k ns) (toDirectory t k s ns)
+stops-directory : (t : List ℕ) (k : ℕ) (s : State) (ns : List (List ℕ)) → Stops (From k ns) (toDirectory boxed t k s ns)
 unfolding toDirectory
 stops-directory t k s [] = tt
 stops-directory t k s (n ∷ []) = tt
 stops-directory t k s (n ∷ m ∷ ns) =
-    stops-linked (From k (n ∷ m ∷ ns)) k (follow t s n) _ (steps-follow t s n)
+    stops-linked (From k (n ∷ m ∷ ns)) k (follow boxed t s n) _ (steps-follow t s n)
     (λ _ h. record { number = h; least = omega arith; most = omega arith })
-    (λ d. later (toDirectory t (suc k) d (m ∷ ns)) (stops-directory t (suc k) d (m ∷ ns)))
+    (λ d. later (toDirectory boxed t (suc k) d (m ∷ ns)) (stops-directory t (suc k) d (m ∷ ns)))
   where
     later : (x : Walked) → Stops (From (suc k) (m ∷ ns)) x → Stops (From k (n ∷ m ∷ ns)) x
     later (reached d) h = tt
@@ -156,9 +157,9 @@ halts-from ns n link h =
       none = ne-eqb link 0 (λ (z : link ≡ 0). omega arith) ∙ sym (ne-eqb (length ns) 0 (λ (z : length ns ≡ 0). omega arith));
     }
 
-stops-last : (t : List ℕ) (d : State) (ns : List (List ℕ)) → Stops (Halts ns) (toLast t d ns)
+stops-last : (t : List ℕ) (d : State) (ns : List (List ℕ)) → Stops (Halts ns) (toLast boxed t d ns)
 stops-last t d ns =
-    stops-linked (Halts ns) (length ns) (look t d (lastName ns)) reached (steps-look t d (lastName ns))
+    stops-linked (Halts ns) (length ns) (look boxed t d (lastName ns)) reached (steps-look t d (lastName ns))
     (λ _ h. record { number = h; most = omega arith; none = refl }) (λ s. tt)
 
 -- ---- what follows a walk
@@ -166,62 +167,64 @@ stops-last t d ns =
 module _ (X : Planned → Type 0) (argument : ℕ) (w : Word) (stop : (n link : ℕ) → Halts (chainOf w) n link → X (halted (refusalAt n (atLink argument link))))
     (t : List ℕ) (u : ℕ) where
   -- to an argument's directory
-  pub holder-within : (f : State → Planned) → ((d : State) → toDirectory t 1 (start u) (chainOf w) ≡ reached d → X (f d))
-      → X (toHolder t u argument w f)
-  holder-within f g = go (toDirectory t 1 (start u) (chainOf w)) refl (stops-directory t 1 (start u) (chainOf w))
+  pub holder-within : (f : State → Planned) → ((d : State) → toDirectory boxed t 1 (start u) (chainOf w) ≡ reached d → X (f d))
+      → X (toHolder boxed t u argument w f)
+  holder-within f g = go (toDirectory boxed t 1 (start u) (chainOf w)) refl (stops-directory t 1 (start u) (chainOf w))
     where
-      go : (x : Walked) → toDirectory t 1 (start u) (chainOf w) ≡ x → Stops (From 1 (chainOf w)) x → X (onward argument x f)
+      go : (x : Walked) → toDirectory boxed t 1 (start u) (chainOf w) ≡ x → Stops (From 1 (chainOf w)) x → X (onward argument x f)
       go (reached d) e h = g d e
       go (stopped n link) e h = stop n link (halts-from (chainOf w) n link h)
 
   -- .. and to the file that it names
   pub end-within : (f : State → State → Planned)
-      → ((d s : State) → toDirectory t 1 (start u) (chainOf w) ≡ reached d → toLast t d (chainOf w) ≡ reached s → X (f d s))
-      → X (toEnd t u argument w f)
+      → ((d s : State) → toDirectory boxed t 1 (start u) (chainOf w) ≡ reached d → toLast boxed t d (chainOf w) ≡ reached s → X (f d s))
+      → X (toEnd boxed t u argument w f)
   unfolding ended
-  end-within f g = go (toDirectory t 1 (start u) (chainOf w)) refl (stops-directory t 1 (start u) (chainOf w))
+  end-within f g = go (toDirectory boxed t 1 (start u) (chainOf w)) refl (stops-directory t 1 (start u) (chainOf w))
     where
       last : (d : State) (x : Walked) → Stops (Halts (chainOf w)) x → ((s : State) → x ≡ reached s → X (f d s)) → X (inward argument (lastFrom d x) f)
       last d (reached s) h k = k s refl
       last d (stopped n link) h k = stop n link h
 
-      go : (x : Walked) → toDirectory t 1 (start u) (chainOf w) ≡ x → Stops (From 1 (chainOf w)) x → X (inward argument (endFrom t (chainOf w) x) f)
-      go (reached d) e h = last d (toLast t d (chainOf w)) (stops-last t d (chainOf w)) (λ s. g d s e)
+      go : (x : Walked) → toDirectory boxed t 1 (start u) (chainOf w) ≡ x → Stops (From 1 (chainOf w)) x → X (inward argument (endFrom boxed t (chainOf w) x) f)
+      go (reached d) e h = last d (toLast boxed t d (chainOf w)) (stops-last t d (chainOf w)) (λ s. g d s e)
       go (stopped n link) e h = stop n link (halts-from (chainOf w) n link h)
 
 -- .. where the link does not matter
 module _ (X : Planned → Type 0) (argument : ℕ) (stop : (n link : ℕ) → Walks n → X (halted (refusalAt n (atLink argument link)))) (t : List ℕ) (u : ℕ)
     (w : Word) where
-  pub holder-by : (f : State → Planned) → ((d : State) → toDirectory t 1 (start u) (chainOf w) ≡ reached d → X (f d)) → X (toHolder t u argument w f)
+  pub holder-by : (f : State → Planned) → ((d : State) → toDirectory boxed t 1 (start u) (chainOf w) ≡ reached d → X (f d))
+      → X (toHolder boxed t u argument w f)
   holder-by = holder-within X argument w (λ n link h. stop n link (h .number)) t u
 
   pub end-by : (f : State → State → Planned)
-      → ((d s : State) → toDirectory t 1 (start u) (chainOf w) ≡ reached d → toLast t d (chainOf w) ≡ reached s → X (f d s))
-      → X (toEnd t u argument w f)
+      → ((d s : State) → toDirectory boxed t 1 (start u) (chainOf w) ≡ reached d → toLast boxed t d (chainOf w) ≡ reached s → X (f d s))
+      → X (toEnd boxed t u argument w f)
   end-by = end-within X argument w (λ n link h. stop n link (h .number)) t u
 
 -- ---- walks on two tables
 
 -- where each link is followed alike, and the last looked up alike, walks end alike
-module _ (t f : List ℕ) (looks : (s : State) (n : List ℕ) → look f s n ≡ look t s n) (follows : (s : State) (n : List ℕ) → follow f s n ≡ follow t s n) where
-  pub directory-same : (k : ℕ) (s : State) (ns : List (List ℕ)) → toDirectory f k s ns ≡ toDirectory t k s ns
+module _ (t f : List ℕ) (looks : (s : State) (n : List ℕ) → look boxed f s n ≡ look boxed t s n)
+    (follows : (s : State) (n : List ℕ) → follow boxed f s n ≡ follow boxed t s n) where
+  pub directory-same : (k : ℕ) (s : State) (ns : List (List ℕ)) → toDirectory boxed f k s ns ≡ toDirectory boxed t k s ns
   unfolding toDirectory
   directory-same k s [] = refl
   directory-same k s (n ∷ []) = refl
-  directory-same k s (n ∷ m ∷ ns) = rw (follows s n) (go (follow t s n) (λ x. directory-same (suc k) x (m ∷ ns)))
+  directory-same k s (n ∷ m ∷ ns) = rw (follows s n) (go (follow boxed t s n) (λ x. directory-same (suc k) x (m ∷ ns)))
     where
-      go : (x : Step) → ((y : State) → toDirectory f (suc k) y (m ∷ ns) ≡ toDirectory t (suc k) y (m ∷ ns))
-          → linked k x (λ y. toDirectory f (suc k) y (m ∷ ns)) ≡ linked k x (λ y. toDirectory t (suc k) y (m ∷ ns))
+      go : (x : Step) → ((y : State) → toDirectory boxed f (suc k) y (m ∷ ns) ≡ toDirectory boxed t (suc k) y (m ∷ ns))
+          → linked k x (λ y. toDirectory boxed f (suc k) y (m ∷ ns)) ≡ linked k x (λ y. toDirectory boxed t (suc k) y (m ∷ ns))
       go (on y) r = r y
       go (off number) r = refl
 
-  pub last-same : (s : State) (ns : List (List ℕ)) → toLast f s ns ≡ toLast t s ns
+  pub last-same : (s : State) (ns : List (List ℕ)) → toLast boxed f s ns ≡ toLast boxed t s ns
   last-same s ns = rw (looks s (lastName ns))
 
-  pub end-same : (s : State) (ns : List (List ℕ)) → ended f s ns ≡ ended t s ns
+  pub end-same : (s : State) (ns : List (List ℕ)) → ended boxed f s ns ≡ ended boxed t s ns
   unfolding ended
-  end-same s ns = rw (directory-same 1 s ns) (go (toDirectory t 1 s ns))
+  end-same s ns = rw (directory-same 1 s ns) (go (toDirectory boxed t 1 s ns))
     where
-      go : (x : Walked) → endFrom f ns x ≡ endFrom t ns x
+      go : (x : Walked) → endFrom boxed f ns x ≡ endFrom boxed t ns x
       go (reached y) = rw (last-same y ns)
       go (stopped number link) = refl

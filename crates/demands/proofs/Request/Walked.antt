@@ -9,6 +9,7 @@ use native.Mathlib.Omega.{arith}
 use lib.ListN.{length}
 use lib.Bits.{or-lt}
 use Rattle.paper.specs.Record.{byte, directory}
+use Rattle.paper.specs.Layout.{boxed}
 use Rattle.paper.specs.Table.{rooms, rec}
 use Rattle.paper.specs.Code.{joined}
 use Rattle.paper.specs.Entry.{Holder, inDirectory}
@@ -63,11 +64,11 @@ module _ (o : ℕ) (t : List ℕ) (c : SoundBut o t) where
       }
 
   -- a link before the last leads into a directory
-  pub follow-on : (s : State) (n : List ℕ) (d : State) → follow t s n ≡ on d → InDirectory t d
+  pub follow-on : (s : State) (n : List ℕ) (d : State) → follow boxed t s n ≡ on d → InDirectory t d
   unfolding follow
-  follow-on s n d e = go (look t s n) refl e
+  follow-on s n d e = go (look boxed t s n) refl e
     where
-      go : (x : Step) → look t s n ≡ x → then x (enter t) ≡ on d → InDirectory t d
+      go : (x : Step) → look boxed t s n ≡ x → then x (enter t) ≡ on d → InDirectory t d
       go (off number) p q = clash (cc)
       go (on f) p q =
           let r = looked-reached s n f (look-on t s n f p) in
@@ -75,24 +76,24 @@ module _ (o : ℕ) (t : List ℕ) (c : SoundBut o t) where
           record { heading = file t f; within = r .within; directory = i .directory; holder = i .heading; code = rw (i .code) (r .code) }
 
   -- from any state: where it stands, after one name; in a directory, after more
-  walk-from : (k : ℕ) (s : State) (ns : List (List ℕ)) (d : State) → toDirectory t k s ns ≡ reached d
+  walk-from : (k : ℕ) (s : State) (ns : List (List ℕ)) (d : State) → toDirectory boxed t k s ns ≡ reached d
       → ((length ns ≤ 1) × (d ≡ s)) ⊎ ((2 ≤ length ns) × InDirectory t d)
   unfolding toDirectory
   walk-from k s [] d e = inl (omega arith, cc)
   walk-from k s (n ∷ []) d e = inl (omega arith, cc)
-  walk-from k s (n ∷ m ∷ ns) d e = go (follow t s n) refl e (λ x. walk-from (suc k) x (m ∷ ns) d)
+  walk-from k s (n ∷ m ∷ ns) d e = go (follow boxed t s n) refl e (λ x. walk-from (suc k) x (m ∷ ns) d)
     where
       joined : (x : State) → InDirectory t x → ((length (m ∷ ns) ≤ 1) × (d ≡ x)) ⊎ ((2 ≤ length (m ∷ ns)) × InDirectory t d) → InDirectory t d
       joined x i (inl r) = subst (InDirectory t) (sym (r .1)) i
       joined x i (inr r) = r .1
 
-      go : (x : Step) → follow t s n ≡ x → linked k x (λ y. toDirectory t (suc k) y (m ∷ ns)) ≡ reached d
-          → ((y : State) → toDirectory t (suc k) y (m ∷ ns) ≡ reached d → ((length (m ∷ ns) ≤ 1) × (d ≡ y)) ⊎ ((2 ≤ length (m ∷ ns)) × InDirectory t d))
+      go : (x : Step) → follow boxed t s n ≡ x → linked k x (λ y. toDirectory boxed t (suc k) y (m ∷ ns)) ≡ reached d
+          → ((y : State) → toDirectory boxed t (suc k) y (m ∷ ns) ≡ reached d → ((length (m ∷ ns) ≤ 1) × (d ≡ y)) ⊎ ((2 ≤ length (m ∷ ns)) × InDirectory t d))
           → ((length (n ∷ m ∷ ns) ≤ 1) × (d ≡ s)) ⊎ ((2 ≤ length (n ∷ m ∷ ns)) × InDirectory t d)
       go (off number) p q r = clash (cc)
       go (on y) p q r = inr (omega arith, joined y (follow-on s n y p) (r y q))
 
-  pub walk-ends : (k u : ℕ) (ns : List (List ℕ)) (d : State) → toDirectory t k (start u) ns ≡ reached d → Ends t u ns d
+  pub walk-ends : (k u : ℕ) (ns : List (List ℕ)) (d : State) → toDirectory boxed t k (start u) ns ≡ reached d → Ends t u ns d
   walk-ends k u ns d e = go (walk-from k (start u) ns d e)
     where
       go : ((length ns ≤ 1) × (d ≡ start u)) ⊎ ((2 ≤ length ns) × InDirectory t d) → Ends t u ns d
@@ -100,7 +101,7 @@ module _ (o : ℕ) (t : List ℕ) (c : SoundBut o t) where
       go (inr r) = inside (r .0) (r .1)
 
   -- the last name leads to an entry that bears it, and the heading that the entry names
-  pub walk-reached : (d : State) (ns : List (List ℕ)) (f : State) → toLast t d ns ≡ reached f → Reached t d (lastName ns) f
+  pub walk-reached : (d : State) (ns : List (List ℕ)) (f : State) → toLast boxed t d ns ≡ reached f → Reached t d (lastName ns) f
   walk-reached d ns f e = looked-reached d (lastName ns) f (last-looked t d ns f e)
 
   -- the base list exactly after one name

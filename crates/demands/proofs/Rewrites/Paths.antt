@@ -6,6 +6,7 @@ use Prim.Native.Nat.{ℕ}
 use native.Mathlib.Omega.{arith}
 use Rattle.paper.specs.Scan.{Found, at, nowhere}
 use Rattle.paper.specs.Record.{byte, headingCode, headingNamed}
+use Rattle.paper.specs.Layout.{boxed}
 use Rattle.paper.specs.Table.{rooms, rec}
 use Rattle.paper.specs.Entry.{Holder, bears, find}
 use Rattle.paper.specs.Walk.{State, applies, looked, look, enter, then, follow, Walked, reached, stopped, toDirectory, toLast, arrived, lastFrom, endFrom, ended}
@@ -17,17 +18,17 @@ use Rattle.demands.proofs.Request.Steps.{last-looked, end-same}
 use Rattle.demands.proofs.SoundKept.Retexted.{mine-not, Retexted, Seen, same, head, mine, seen, of-entries, of-type}
 
 -- a walk that arrives has found its last entry
-pub arrived-entry : (t : List ℕ) (s : State) (ns : List (List ℕ)) (d e : State) → ended t s ns ≡ arrived d e → byte (rec t (e .entry)) 0 ≡ 2
+pub arrived-entry : (t : List ℕ) (s : State) (ns : List (List ℕ)) (d e : State) → ended boxed t s ns ≡ arrived d e → byte (rec t (e .entry)) 0 ≡ 2
 unfolding ended
-arrived-entry t s ns d e q = go (toDirectory t 1 s ns) q
+arrived-entry t s ns d e q = go (toDirectory boxed t 1 s ns) q
   where
-    last : (y : State) (x : Walked) → toLast t y ns ≡ x → lastFrom y x ≡ arrived d e → byte (rec t (e .entry)) 0 ≡ 2
+    last : (y : State) (x : Walked) → toLast boxed t y ns ≡ x → lastFrom y x ≡ arrived d e → byte (rec t (e .entry)) 0 ≡ 2
     last y (stopped number link) p r = clash (cc)
     last y (reached z) p r = let b : z ≡ e = cc in last-looked t y ns e (p ∙ ap reached b) .stands .kind
 
-    go : (x : Walked) → endFrom t ns x ≡ arrived d e → byte (rec t (e .entry)) 0 ≡ 2
+    go : (x : Walked) → endFrom boxed t ns x ≡ arrived d e → byte (rec t (e .entry)) 0 ≡ 2
     go (stopped number link) r = clash (cc)
-    go (reached y) r = last y (toLast t y ns) refl r
+    go (reached y) r = last y (toLast boxed t y ns) refl r
 
 module _ (t f : List ℕ) (h : ℕ) (c : Sound t) (d : Retexted t f h) (k : headingCode (rec f h) ≡ headingCode (rec t h)) where
   pub entry-stays : (i : ℕ) → byte (rec t i) 0 ≡ 2 → rec f i ≡ rec t i
@@ -46,14 +47,14 @@ module _ (t f : List ℕ) (h : ℕ) (c : Sound t) (d : Retexted t f h) (k : head
       go (head e) = rw e k
       go (mine a b) = absurd (mine-not h (rec t g) 1 a (omega arith) (omega arith) q)
 
-  find-stays : (x : Holder) (n : List ℕ) → find f x n ≡ find t x n
+  find-stays : (x : Holder) (n : List ℕ) → find boxed f x n ≡ find boxed t x n
   unfolding find
   find-stays x n =
-      rw (d .long) (first-cong (λ i. bears x n (rec f i)) (λ i. bears x n (rec t i)) (rooms t)
-      (λ i _. of-entries t f h c d (bears x n) (λ r e. bears-stands x n r e .kind) i))
+      rw (d .long) (first-cong (λ i. bears boxed x n (rec f i)) (λ i. bears boxed x n (rec t i)) (rooms t)
+      (λ i _. of-entries t f h c d (bears boxed x n) (λ r e. bears-stands x n r e .kind) i))
 
   -- an entry that is found
-  module _ (s : State) (n : List ℕ) (e : ℕ) (q : find t (s .holder) n ≡ at e) where
+  module _ (s : State) (n : List ℕ) (e : ℕ) (q : find boxed t (s .holder) n ≡ at e) where
     entry-same : rec f e ≡ rec t e
     entry-same = entry-stays e (found-stands t (s .holder) n e q .1 .kind)
 
@@ -67,21 +68,21 @@ module _ (t f : List ℕ) (h : ℕ) (c : Sound t) (d : Retexted t f h) (k : head
     unfolding enter
     enter-same code = rw (entry-same, of-type t f h c d 0 (headingNamed (rec t e)))
 
-  look-same : (s : State) (n : List ℕ) → look f s n ≡ look t s n
+  look-same : (s : State) (n : List ℕ) → look boxed f s n ≡ look boxed t s n
   unfolding look
-  look-same s n = rw (find-stays (s .holder) n) (go (find t (s .holder) n) refl)
+  look-same s n = rw (find-stays (s .holder) n) (go (find boxed t (s .holder) n) refl)
     where
-      go : (x : Found) → find t (s .holder) n ≡ x → looked f s x ≡ looked t s x
+      go : (x : Found) → find boxed t (s .holder) n ≡ x → looked f s x ≡ looked t s x
       go (at e) q = rw (applies-same s n e q)
       go nowhere q = refl
 
-  follow-same : (s : State) (n : List ℕ) → follow f s n ≡ follow t s n
+  follow-same : (s : State) (n : List ℕ) → follow boxed f s n ≡ follow boxed t s n
   unfolding follow look
-  follow-same s n = rw (find-stays (s .holder) n) (go (find t (s .holder) n) refl)
+  follow-same s n = rw (find-stays (s .holder) n) (go (find boxed t (s .holder) n) refl)
     where
-      go : (x : Found) → find t (s .holder) n ≡ x → then (looked f s x) (enter f) ≡ then (looked t s x) (enter t)
+      go : (x : Found) → find boxed t (s .holder) n ≡ x → then (looked f s x) (enter f) ≡ then (looked t s x) (enter t)
       go (at e) q = rw (applies-same s n e q) (enter-same s n e q (applies t e))
       go nowhere q = refl
 
-  pub ended-same : (s : State) (ns : List (List ℕ)) → ended f s ns ≡ ended t s ns
+  pub ended-same : (s : State) (ns : List (List ℕ)) → ended boxed f s ns ≡ ended boxed t s ns
   ended-same = end-same t f look-same follow-same

@@ -11,7 +11,8 @@ use lib.ListN.{length}
 use lib.Dec.{eqb, leb}
 use borrow.Author.Tests.{eqb-true, eq-eqb, leb-true, le-leb, not-true}
 use Rattle.paper.specs.Scan.{allBelow, anyBelow, countBelow}
-use Rattle.paper.specs.Record.{byte, headingType, level, headingCode, lifetime, mark, textLength, directory, simple, entryCode, headingNamed, nameLength, nameOf, textAt, zeros}
+use Rattle.paper.specs.Record.{byte, headingType, level, headingCode, lifetime, mark, textLength, directory, simple, entryCode, headingNamed, textAt, zeros}
+use Rattle.paper.specs.Layout.{nameOf, boxed}
 use Rattle.paper.specs.Table.{sized, rooms, rec}
 use Rattle.paper.specs.Entry.{Holder, holder, stands, bears, crowd, limit, named}
 use Rattle.paper.specs.Block.{blocks}
@@ -29,10 +30,10 @@ pub record HeadingOwn (r : List ℕ) : Type 0 where
   pub simple : headingType r ≡ 1 → textLength r ≤ 24000
 
 pub record EntryOwn (r : List ℕ) : Type 0 where
-  pub shape : entryAsAbove 0 r ≡ true
+  pub shape : entryAsAbove boxed 0 r ≡ true
   pub user : userRight 0 r ≡ true
-  pub padded : namePadded 0 r ≡ true
-  pub legal : nameLegal 0 r ≡ true
+  pub padded : namePadded boxed 0 r ≡ true
+  pub legal : nameLegal boxed 0 r ≡ true
 
 -- what a record owes by itself, by its kind
 pub record Own (r : List ℕ) : Type 0 where
@@ -52,7 +53,7 @@ pub record SoundBut (o : ℕ) (t : List ℕ) : Type 0 where
   -- "each entry names a heading"
   pub targets : (i : ℕ) → i < rooms t → byte (rec t i) 0 ≡ 2 → byte (rec t (headingNamed (rec t i))) 0 ≡ 1
   -- "no directory, and no one user's base list, has a name twice"
-  pub apart : (i j : ℕ) → i < rooms t → j < rooms t → byte (rec t i) 0 ≡ 2 → bears (holder (rec t i)) (nameOf (rec t i)) (rec t j) ≡ true → i ≡ j
+  pub apart : (i j : ℕ) → i < rooms t → j < rooms t → byte (rec t i) 0 ≡ 2 → bears boxed (holder (rec t i)) (nameOf boxed (rec t i)) (rec t j) ≡ true → i ≡ j
   -- "every heading is named by an entry"
   pub named : (i : ℕ) → i < rooms t → byte (rec t i) 0 ≡ 1 → (named t i ≡ true) ⊎ (i ≡ o)
   -- "a directory has at most 112 entries and a user at most 100 base files"
@@ -112,7 +113,7 @@ heading-marked r h m =
     }
 
 pub entry-code : (r : List ℕ) → EntryOwn r → entryCode r ≤ 7
-entry-code r h = leb-true _ _ (and-left (leb (entryCode r) 7) _ (and-left (leb (entryCode r) 7 && leb (nameLength r) 10) _ (h .shape)))
+entry-code r h = leb-true _ _ (and-left (leb (entryCode r) 7) _ (h .shape))
 
 -- a heading of a text is a simple file's, since a directory has none; and no text is longer than 24,000
 pub simple-by : (r : List ℕ) → HeadingOwn r → (p : ℕ) → p < blocks (textLength r) → headingType r ≡ 1
@@ -149,17 +150,17 @@ own-by t c i l =
           };
       entry = λ q.
           record {
-            shape = every-true 2 entryAsAbove t (a .entry) i l q;
+            shape = every-true 2 (entryAsAbove boxed) t (a .entry) i l q;
             user = every-true 2 userRight t (c .users) i l q;
-            padded = every-true 2 namePadded t (c .padded) i l q;
-            legal = every-true 2 nameLegal t (c .legal) i l q;
+            padded = every-true 2 (namePadded boxed) t (c .padded) i l q;
+            legal = every-true 2 (nameLegal boxed) t (c .legal) i l q;
           };
       text = every-true 3 textAsAbove t (a .text) i l;
     }
 
 -- two entries that bear one name in one place are one: the later of two would have one before it
 apart-by : (t : List ℕ) → Tested t → (i j : ℕ) → i < rooms t → j < rooms t → byte (rec t i) 0 ≡ 2
-    → bears (holder (rec t i)) (nameOf (rec t i)) (rec t j) ≡ true → i ≡ j
+    → bears boxed (holder (rec t i)) (nameOf boxed (rec t i)) (rec t j) ≡ true → i ≡ j
 unfolding noneTwice
 apart-by t c i j li lj q b =
     by-cases (ℕ-discrete i j) (λ (e : i ≡ j). e)
@@ -168,12 +169,12 @@ apart-by t c i j li lj q b =
     (λ (l : ¬ (j < i)). absurd (later j i lj (s .kind) (omega arith) (bears-back (rec t i) (rec t j) q b))))
   where
     s : Stands (holder (rec t i)) (rec t j)
-    s = bears-stands (holder (rec t i)) (nameOf (rec t i)) (rec t j) b
+    s = bears-stands (holder (rec t i)) (nameOf boxed (rec t i)) (rec t j) b
 
-    later : (a z : ℕ) → a < rooms t → byte (rec t a) 0 ≡ 2 → z < a → bears (holder (rec t a)) (nameOf (rec t a)) (rec t z) ≡ true → ⊥
+    later : (a z : ℕ) → a < rooms t → byte (rec t a) 0 ≡ 2 → z < a → bears boxed (holder (rec t a)) (nameOf boxed (rec t a)) (rec t z) ≡ true → ⊥
     later a z la qa lz x =
-        not-both (any-here (λ j. bears (holder (rec t a)) (nameOf (rec t a)) (rec t j)) a z lz x)
-        (not-true _ (every-true 2 (notTwice t) t (c .twice) a la qa))
+        not-both (any-here (λ j. bears boxed (holder (rec t a)) (nameOf boxed (rec t a)) (rec t j)) a z lz x)
+        (not-true _ (every-true 2 (notTwice boxed t) t (c .twice) a la qa))
 
 -- a holder in which nothing stands has no crowd, and another is some entry's own
 crowds-by : (t : List ℕ) → Tested t → (d : Holder) → crowd t d ≤ limit d
@@ -189,7 +190,7 @@ crowds-by t c d = go (truth (anyBelow (λ i. stands d (rec t i)) (rooms t)))
         leb-true _ _ (every-true 2 (notCrowded t) t (c .crowded) (w .0) (w .1) (s .kind)) in
         subst (λ (x : Holder). crowd t x ≤ limit x) (stands-holder d (rec t (w .0)) s) b
 
-pub shaped-clauses : (t : List ℕ) → sized t ≡ true → shaped t ≡ true → Sound t
+pub shaped-clauses : (t : List ℕ) → sized t ≡ true → shaped boxed t ≡ true → Sound t
 unfolding holdersThere headingsThere allNamed textsWhole noOtherText
 shaped-clauses t z e =
     let c = tested t e in
@@ -210,29 +211,30 @@ shaped-clauses t z e =
       texts = every-true 3 (textInPlace t) t (c .other);
     }
 
-pub sound-clauses : (t : List ℕ) → sized t ≡ true → sound t ≡ true → Sound t
+pub sound-clauses : (t : List ℕ) → sized t ≡ true → sound boxed t ≡ true → Sound t
 unfolding sound
-sound-clauses t z e = shaped-clauses t z (and-left (shaped t) _ e)
+sound-clauses t z e = shaped-clauses t z (and-left (shaped boxed t) _ e)
 
 -- ---- from the clauses to the test
 
-above-by : (t : List ℕ) → Sound t → asAbove t ≡ true
+above-by : (t : List ℕ) → Sound t → asAbove boxed t ≡ true
 above-by t c =
     above-made t (record {
       kinds = all-here (λ i. leb (byte (rec t i) 0) 3) (rooms t) (λ i l. le-leb _ _ (c .own i l .kinds));
       free = every-here 0 freeAsAbove t (λ i l. c .own i l .free);
       heading = every-here 1 headingAsAbove t (λ i l q. c .own i l .heading q .shape);
-      entry = every-here 2 entryAsAbove t (λ i l q. c .own i l .entry q .shape);
+      entry = every-here 2 (entryAsAbove boxed) t (λ i l q. c .own i l .entry q .shape);
       text = every-here 3 textAsAbove t (λ i l. c .own i l .text);
     })
 
-twice-by : (t : List ℕ) → Sound t → noneTwice t ≡ true
+twice-by : (t : List ℕ) → Sound t → noneTwice boxed t ≡ true
 unfolding noneTwice
-twice-by t c = every-here 2 (notTwice t) t (λ i l q. rw (false-by (anyBelow (λ j. bears (holder (rec t i)) (nameOf (rec t i)) (rec t j)) i) (one i l q)))
+twice-by t c =
+    every-here 2 (notTwice boxed t) t (λ i l q. rw (false-by (anyBelow (λ j. bears boxed (holder (rec t i)) (nameOf boxed (rec t i)) (rec t j)) i) (one i l q)))
   where
-    one : (i : ℕ) → i < rooms t → byte (rec t i) 0 ≡ 2 → anyBelow (λ j. bears (holder (rec t i)) (nameOf (rec t i)) (rec t j)) i ≡ true → ⊥
+    one : (i : ℕ) → i < rooms t → byte (rec t i) 0 ≡ 2 → anyBelow (λ j. bears boxed (holder (rec t i)) (nameOf boxed (rec t i)) (rec t j)) i ≡ true → ⊥
     one i l q e =
-        let w = any-true (λ j. bears (holder (rec t i)) (nameOf (rec t i)) (rec t j)) i e in
+        let w = any-true (λ j. bears boxed (holder (rec t i)) (nameOf boxed (rec t i)) (rec t j)) i e in
         let b : w .0 < i = w .1 in
         let s : i ≡ w .0 = c .apart i (w .0) l (omega arith) q (w .2) in
         omega arith
@@ -244,7 +246,7 @@ named-by t c i l q = go (c .named i l q)
     go (inl e) = e
     go (inr e) = let z : ⊥ = omega (arith, c .few) in absurd z
 
-pub clauses-shaped : (t : List ℕ) → Sound t → (sized t ≡ true) × (shaped t ≡ true)
+pub clauses-shaped : (t : List ℕ) → Sound t → (sized t ≡ true) × (shaped boxed t ≡ true)
 unfolding holdersThere headingsThere usersRight namesPadded allNamed noneCrowded directoriesPlain textsWhole noOtherText namesLegal
 clauses-shaped t c =
     let m : length t % 32 ≡ 0 = c .whole in
@@ -255,7 +257,7 @@ clauses-shaped t c =
         holders = every-here 2 (holderThere t) t (c .holders);
         headings = every-here 2 (headingThere t) t (λ i l q. eq-eqb _ _ (c .targets i l q));
         users = every-here 2 userRight t (λ i l q. c .own i l .entry q .user);
-        padded = every-here 2 namePadded t (λ i l q. c .own i l .entry q .padded);
+        padded = every-here 2 (namePadded boxed) t (λ i l q. c .own i l .entry q .padded);
         twice = twice-by t c;
         named = every-here 1 (isNamed t) t (named-by t c);
         crowded = every-here 2 (notCrowded t) t (λ i l q. le-leb _ _ (c .crowds (holder (rec t i))));
@@ -266,10 +268,10 @@ clauses-shaped t c =
             and-both (leb (textLength (rec t i)) 24000) _ (le-leb _ _ (c .own i l .heading q .simple (eqb-true _ _ z)))
             (all-here (once t i) (blocks (textLength (rec t i))) (λ p b. eq-eqb _ _ (c .once i p l q (eqb-true _ _ z) b)))));
         other = every-here 3 (textInPlace t) t (c .texts);
-        legal = every-here 2 nameLegal t (λ i l q. c .own i l .entry q .legal);
+        legal = every-here 2 (nameLegal boxed) t (λ i l q. c .own i l .entry q .legal);
       }),
     )
 
-pub clauses-sound : (t : List ℕ) → Sound t → countsTrue t ≡ true → (sized t ≡ true) × (sound t ≡ true)
+pub clauses-sound : (t : List ℕ) → Sound t → countsTrue t ≡ true → (sized t ≡ true) × (sound boxed t ≡ true)
 unfolding sound
-clauses-sound t c e = let s = clauses-shaped t c in (s .0, and-both (shaped t) _ (s .1) e)
+clauses-sound t c e = let s = clauses-shaped t c in (s .0, and-both (shaped boxed t) _ (s .1) e)

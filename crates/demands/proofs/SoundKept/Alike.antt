@@ -10,7 +10,8 @@ use native.Mathlib.Decide.{ℕ-discrete, decLt}
 use lib.ListN.{length}
 use borrow.Author.Tests.{ne-eqb}
 use Rattle.paper.specs.Scan.{countBelow}
-use Rattle.paper.specs.Record.{byte, isKind, headingType, textLength, holderOf, headingNamed, userOf, nameOf, names, headingOf, textAt}
+use Rattle.paper.specs.Record.{byte, isKind, headingType, textLength, holderOf, headingNamed, userOf, names, headingOf, textAt}
+use Rattle.paper.specs.Layout.{nameOf, boxed}
 use Rattle.paper.specs.Table.{rooms, rec, lay}
 use Rattle.paper.specs.Entry.{Holder, holder, stands, bears, crowd, limit, named}
 use Rattle.paper.specs.Block.{blocks}
@@ -72,7 +73,7 @@ pub record Alike (t f : List ℕ) : Type 0 where
   pub long : length f ≡ length t
   pub each : (i : ℕ) → i < rooms t → Like (rec t i) (rec f i)
   pub own : (i : ℕ) → i < rooms t → Own (rec f i)
-  pub apart : (i j : ℕ) → i < rooms t → j < rooms t → byte (rec f i) 0 ≡ 2 → bears (holder (rec f i)) (nameOf (rec f i)) (rec f j) ≡ true → i ≡ j
+  pub apart : (i j : ℕ) → i < rooms t → j < rooms t → byte (rec f i) 0 ≡ 2 → bears boxed (holder (rec f i)) (nameOf boxed (rec f i)) (rec f j) ≡ true → i ≡ j
 
 module _ (o : ℕ) (t f : List ℕ) (c : SoundBut o t) (d : Alike t f) where
   -- past the table too
@@ -139,7 +140,7 @@ module _ (o : ℕ) (t f : List ℕ) (c : SoundBut o t) (d : Alike t f) where
 
 -- one record replaced by a like one; if it is an entry, no other entry bears its name there
 module _ (o : ℕ) (t : List ℕ) (e : ℕ) (r : List ℕ) (c : SoundBut o t) (l : e < rooms t) (s : length r ≡ 32) (k : Like (rec t e) r) (w : Own r)
-    (fresh : byte r 0 ≡ 2 → (j : ℕ) → j < rooms t → j ≢ e → bears (holder r) (nameOf r) (rec t j) ≡ true → ⊥) where
+    (fresh : byte r 0 ≡ 2 → (j : ℕ) → j < rooms t → j ≢ e → bears boxed (holder r) (nameOf boxed r) (rec t j) ≡ true → ⊥) where
   here : rec (lay t e r) e ≡ r
   here = lay-same t e r s l
 
@@ -147,7 +148,7 @@ module _ (o : ℕ) (t : List ℕ) (e : ℕ) (r : List ℕ) (c : SoundBut o t) (l
   there i m d = lay-other t e r i s d m
 
   apart-one : (i j : ℕ) → i < rooms t → j < rooms t → byte (rec (lay t e r) i) 0 ≡ 2
-      → bears (holder (rec (lay t e r) i)) (nameOf (rec (lay t e r) i)) (rec (lay t e r) j) ≡ true → i ≡ j
+      → bears boxed (holder (rec (lay t e r) i)) (nameOf boxed (rec (lay t e r) i)) (rec (lay t e r) j) ≡ true → i ≡ j
   apart-one i j m n y b =
       by-cases (ℕ-discrete i e)
       (λ (p : i ≡ e). by-cases (ℕ-discrete j e) (λ (q : j ≡ e). p ∙ sym q) (λ (q : j ≢ e).
@@ -156,8 +157,8 @@ module _ (o : ℕ) (t : List ℕ) (e : ℕ) (r : List ℕ) (c : SoundBut o t) (l
       (λ (q : j ≡ e). absurd (back p (rw (there i m p) at y) (rw (q, here, there i m p) at b)))
       (λ (q : j ≢ e). c .apart i j m n (rw (there i m p) at y) (rw (there i m p, there j n q) at b)))
     where
-      back : i ≢ e → byte (rec t i) 0 ≡ 2 → bears (holder (rec t i)) (nameOf (rec t i)) r ≡ true → ⊥
-      back p y b = fresh (bears-stands (holder (rec t i)) (nameOf (rec t i)) r b .kind) i m p (bears-back (rec t i) r y b)
+      back : i ≢ e → byte (rec t i) 0 ≡ 2 → bears boxed (holder (rec t i)) (nameOf boxed (rec t i)) r ≡ true → ⊥
+      back p y b = fresh (bears-stands (holder (rec t i)) (nameOf boxed (rec t i)) r b .kind) i m p (bears-back (rec t i) r y b)
 
   pub replaced-sound : SoundBut o (lay t e r)
   replaced-sound =

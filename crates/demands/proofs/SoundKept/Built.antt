@@ -8,16 +8,16 @@ use Prim.Native.Nat.{ℕ, _^_, _≤_, _<_}
 use native.Mathlib.Omega.{arith}
 use native.Mathlib.Decide.{ℕ-discrete}
 use lib.ListN.{length}
-use lib.Dec.{eqb}
+use lib.Dec.{eqb, leb}
 use borrow.Author.Tests.{eq-eqb, ne-eqb, le-leb, eqb-true}
 use Rattle.paper.specs.Number.{bytesOf}
 use Rattle.paper.specs.Scan.{allBelow}
-use Rattle.paper.specs.Record.{byte, textLength, holderOf, userOf, zeros, headingRecord, entryRecord, textRecord}
+use Rattle.paper.specs.Record.{byte, textLength, entryCode, holderOf, userOf, zeros, headingRecord, textRecord}
+use Rattle.paper.specs.Layout.{entryRecord, boxed}
 use Rattle.paper.specs.Name.{linkName, legalBase}
 use Rattle.paper.specs.Sound.{entryAsAbove, textAsAbove, userRight, nameLegal}
 use Rattle.laws.proofs.Tests.{and-both, implies-by}
-use Rattle.laws.proofs.Fields.{heading-length, entry-record-kind, entry-code, entry-size, entry-name, entry-padded, entry-rest, entry-holder, entry-user, text-record-kind, text-size, text-gap, text-rest}
-use Rattle.laws.proofs.Entries.{link-short}
+use Rattle.laws.proofs.Fields.{heading-length, entry-record-kind, entry-code, entry-name, entry-above, entry-holder, entry-user, text-record-kind, text-size, text-gap, text-rest}
 use Rattle.demands.proofs.Sound.Clauses.{Own, HeadingOwn, EntryOwn}
 
 -- ---- what a record owes by itself is what its own kind owes
@@ -92,35 +92,32 @@ pub record NewEntry (code holder user : ℕ) (name : List ℕ) : Type 0 where
   pub base : holder ≡ 65535 → legalBase name ≡ true
 
 module _ (code holder heading user : ℕ) (name : List ℕ) where
-  pub own-entry : NewEntry code holder user name → Own (entryRecord code holder heading user name)
+  pub own-entry : NewEntry code holder user name → Own (entryRecord boxed code holder heading user name)
   own-entry f =
-      entry-own (entryRecord code holder heading user name) (entry-record-kind code holder heading user name)
-      (record { shape = shape; user = users; padded = entry-padded code holder heading user name; legal = legal })
+      entry-own (entryRecord boxed code holder heading user name) (entry-record-kind code holder heading user name)
+      (record { shape = shape; user = users; padded = refl; legal = legal })
     where
-      l : length name ≤ 10
-      l = link-short name (f .legal) .1
-
-      at-holder : holderOf (entryRecord code holder heading user name) ≡ holder
+      at-holder : holderOf (entryRecord boxed code holder heading user name) ≡ holder
       at-holder = entry-holder code holder heading user name (f .holders)
 
-      at-user : userOf (entryRecord code holder heading user name) ≡ user
+      at-user : userOf (entryRecord boxed code holder heading user name) ≡ user
       at-user = entry-user code holder heading user name (omega (arith, f .users))
 
-      shape : entryAsAbove 0 (entryRecord code holder heading user name) ≡ true
+      shape : entryAsAbove boxed 0 (entryRecord boxed code holder heading user name) ≡ true
       shape =
-          rw (entry-code code holder heading user name, entry-size code holder heading user name)
-          (rw (le-leb _ _ (f .codes), le-leb _ _ l, entry-rest code holder heading user name l))
+          and-both (leb (entryCode (entryRecord boxed code holder heading user name)) 7) _
+          (rw (entry-code code holder heading user name) (le-leb _ _ (f .codes))) (entry-above code holder heading user name)
 
-      users : userRight 0 (entryRecord code holder heading user name) ≡ true
+      users : userRight 0 (entryRecord boxed code holder heading user name) ≡ true
       users =
           rw (at-holder, at-user)
           (by-cases (ℕ-discrete holder 65535)
           (λ (q : holder ≡ 65535). rw (eq-eqb _ _ q) (le-leb _ _ (f .users)))
           (λ (q : holder ≢ 65535). rw (ne-eqb _ _ q) (eq-eqb _ _ (f .other q))))
 
-      legal : nameLegal 0 (entryRecord code holder heading user name) ≡ true
+      legal : nameLegal boxed 0 (entryRecord boxed code holder heading user name) ≡ true
       legal =
-          rw (entry-name code holder heading user name l, at-holder)
+          rw (entry-name code holder heading user name (f .legal), at-holder)
           (and-both (linkName name) _ (f .legal) (implies-by (eqb holder 65535) (legalBase name) (λ q. f .base (eqb-true _ _ q))))
 
 -- ---- a new text record

@@ -11,7 +11,8 @@ use lib.ListN.{length}
 use lib.Dec.{eqb}
 use borrow.Author.Tests.{eq-eqb, ne-eqb}
 use Rattle.paper.specs.Scan.{allBelow, countBelow}
-use Rattle.paper.specs.Record.{byte, headingType, textLength, directory, holderOf, headingNamed, nameOf, names, headingOf, textAt, zeros, blank}
+use Rattle.paper.specs.Record.{byte, headingType, textLength, directory, holderOf, headingNamed, names, headingOf, textAt, zeros, blank}
+use Rattle.paper.specs.Layout.{nameOf, boxed}
 use Rattle.paper.specs.Table.{rooms, rec, lay}
 use Rattle.paper.specs.Entry.{Holder, holder, stands, bears, crowd, limit, named}
 use Rattle.paper.specs.Block.{blocks}
@@ -98,10 +99,10 @@ module _ (o p : ℕ) (gone : ℕ → Bool) (t f : List ℕ) (c : SoundBut o t) (
       let m : byte (rec t i) 0 ≡ 2 = rw e at k in
       rw (e, stays gone t f (c .whole) d (headingNamed (rec t i)) (s .targets i l g m)) (c .targets i l m)
 
-  apart-f : (i j : ℕ) → i < rooms t → j < rooms t → byte (rec f i) 0 ≡ 2 → bears (holder (rec f i)) (nameOf (rec f i)) (rec f j) ≡ true → i ≡ j
+  apart-f : (i j : ℕ) → i < rooms t → j < rooms t → byte (rec f i) 0 ≡ 2 → bears boxed (holder (rec f i)) (nameOf boxed (rec f i)) (rec f j) ≡ true → i ≡ j
   apart-f i j l m k b =
       let e = was gone t f (c .whole) d 1 i l k in
-      let q = was gone t f (c .whole) d 1 j m (bears-stands (holder (rec f i)) (nameOf (rec f i)) (rec f j) b .kind) in
+      let q = was gone t f (c .whole) d 1 j m (bears-stands (holder (rec f i)) (nameOf boxed (rec f i)) (rec f j) b .kind) in
       c .apart i j l m (rw e at k) (rw (e, q) at b)
 
   named-f : (i : ℕ) → i < rooms t → byte (rec f i) 0 ≡ 1 → (named f i ≡ true) ⊎ (i ≡ p)

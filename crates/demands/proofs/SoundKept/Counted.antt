@@ -11,7 +11,8 @@ use lib.ListN.{length, getD, drop}
 use lib.Seq.{getD-take, getD-drop}
 use lib.Dec.{eqb}
 use borrow.Author.Tests.{ne-eqb}
-use Rattle.paper.specs.Record.{byte, headingType, textLength, directory, nameOf, zeros}
+use Rattle.paper.specs.Record.{byte, headingType, textLength, directory, zeros}
+use Rattle.paper.specs.Layout.{nameOf, boxed}
 use Rattle.paper.specs.Table.{rooms, rec, lay}
 use Rattle.paper.specs.Entry.{Holder, holder, bears}
 use Rattle.paper.specs.Sound.{implies}
@@ -103,8 +104,8 @@ module _ (o : ℕ) (t f : List ℕ) (c : SoundBut o t) (long : length f ≡ leng
       alike-same (rec t i) (rec f i) (each i l)
       (let q : byte (rec t i) 0 ≡ 2 = sym (alike-kind (rec t i) (rec f i) (each i l)) ∙ k in rw q)
 
-  same-bears : (d : Holder) (n : List ℕ) (i : ℕ) → i < rooms t → bears d n (rec f i) ≡ bears d n (rec t i)
-  same-bears d n i l = alike-entry (bears d n) (λ r e. bears-stands d n r e .kind) (rec t i) (rec f i) (each i l)
+  same-bears : (d : Holder) (n : List ℕ) (i : ℕ) → i < rooms t → bears boxed d n (rec f i) ≡ bears boxed d n (rec t i)
+  same-bears d n i l = alike-entry (bears boxed d n) (λ r e. bears-stands d n r e .kind) (rec t i) (rec f i) (each i l)
 
   pub alike-clauses : SoundBut o f
   alike-clauses =
@@ -115,7 +116,7 @@ module _ (o : ℕ) (t f : List ℕ) (c : SoundBut o t) (long : length f ≡ leng
         own = λ i l. alike-own (rec t i) (rec f i) (each i l) (c .own i l);
         apart = λ i j l m k e.
             let s = same-entry i l k in
-            c .apart i j l m (rw s at k) (sym (same-bears (holder (rec t i)) (nameOf (rec t i)) j m) ∙ (rw s at e));
+            c .apart i j l m (rw s at k) (sym (same-bears (holder (rec t i)) (nameOf boxed (rec t i)) j m) ∙ (rw s at e));
       })
 
 -- a table that has its clauses is sound once its counts are corrected

@@ -9,7 +9,8 @@ use native.Mathlib.Omega.{arith}
 use lib.ListN.{length}
 use borrow.Author.Tests.{eq-eqb, lt-ltb}
 use Rattle.paper.specs.Scan.{countBelow}
-use Rattle.paper.specs.Record.{byte, headingType, textLength, simple, headingNamed, nameOf, headingOf, textAt}
+use Rattle.paper.specs.Record.{byte, headingType, textLength, simple, headingNamed, headingOf, textAt}
+use Rattle.paper.specs.Layout.{nameOf, boxed}
 use Rattle.paper.specs.Table.{rooms, rec, room}
 use Rattle.paper.specs.Entry.{holder, bears, named}
 use Rattle.paper.specs.Block.{blocks, share, block}
@@ -49,10 +50,10 @@ module _ (t f : List ℕ) (c : Sound t) (g : Grown t f) where
       rw (e, heading-stays (headingNamed (rec t i)) b) b
 
   grown-apart : (i j : ℕ) → i < rooms t → j < rooms t → byte (rec f i) 0 ≡ 2
-      → bears (holder (rec f i)) (nameOf (rec f i)) (rec f j) ≡ true → i ≡ j
+      → bears boxed (holder (rec f i)) (nameOf boxed (rec f i)) (rec f j) ≡ true → i ≡ j
   grown-apart i j l m k b =
       let e = grown-entry t f g i l k in
-      let d = grown-entry t f g j m (bears-stands (holder (rec f i)) (nameOf (rec f i)) (rec f j) b .kind) in
+      let d = grown-entry t f g j m (bears-stands (holder (rec f i)) (nameOf boxed (rec f i)) (rec f j) b .kind) in
       c .apart i j l m (rw e at k) (rw (e, d) at b)
 
 -- ---- the clauses of a table with a new file

@@ -8,6 +8,7 @@ use Prim.Native.Nat.{ℕ, _<_}
 use native.Mathlib.Omega.{arith}
 use lib.ListN.{length}
 use Rattle.paper.specs.Record.{byte, names, headingOf, textAt}
+use Rattle.paper.specs.Layout.{boxed}
 use Rattle.paper.specs.Table.{rooms, rec}
 use Rattle.paper.specs.Entry.{Holder, stands, bears, find, crowd, named}
 use Rattle.paper.specs.Count.{namings}
@@ -90,9 +91,9 @@ module _ (t f : List ℕ) (g : Grown t f) where
   unfolding crowd
   grown-crowd d = rw grown-rooms (count-cong _ _ (rooms t) (same-entry (stands d) (λ r e. stands-true d r e .kind)))
 
-  pub grown-find : (d : Holder) (n : List ℕ) → find f d n ≡ find t d n
+  pub grown-find : (d : Holder) (n : List ℕ) → find boxed f d n ≡ find boxed t d n
   unfolding find
-  grown-find d n = rw grown-rooms (first-cong _ _ (rooms t) (same-entry (bears d n) (λ r e. bears-stands d n r e .kind)))
+  grown-find d n = rw grown-rooms (first-cong _ _ (rooms t) (same-entry (bears boxed d n) (λ r e. bears-stands d n r e .kind)))
 
   -- the text of a heading of t is where it was
   pub grown-text : (h p : ℕ) → byte (rec t h) 0 ≡ 1 → (i : ℕ) → i < rooms t → textAt h p (rec f i) ≡ textAt h p (rec t i)

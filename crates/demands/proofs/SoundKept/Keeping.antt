@@ -10,6 +10,7 @@ use lib.ListN.{length}
 use borrow.Author.Tests.{leb-false}
 use Rattle.paper.specs.Scan.{at, nowhere}
 use Rattle.paper.specs.Record.{byte, level, lifetime, headingRecord, entryCode}
+use Rattle.paper.specs.Layout.{boxed}
 use Rattle.paper.specs.Table.{rooms, rec, frees, room}
 use Rattle.paper.specs.Name.{legalBase}
 use Rattle.paper.specs.Declaration.{Part, orElse}
@@ -66,10 +67,10 @@ simple-heading lev code life n l b f s =
 module _ (t : List ℕ) (c : Sound t) where
   -- a new entry, given that it may be laid once there is room for the stores before it
   made-keeps : (o : ℕ) (m : Making) → (length (m .first) ≤ length (frees t) → Made o t m)
-      → (thirteen fifteen late : List Check) → Keeps t (making t m thirteen fifteen late)
+      → (thirteen fifteen late : List Check) → Keeps t (making boxed t m thirteen fifteen late)
   made-keeps o m made = making-keeps t m over free
     where
-      over : (e : ℕ) → borne t m ≡ at e → length (m .first) ≤ length (frees t) → losing t e (m .entry) ≡ false
+      over : (e : ℕ) → borne boxed t m ≡ at e → length (m .first) ≤ length (frees t) → losing t e (m .entry) ≡ false
           → Right (run t (placing t m (at e)))
       over e b l v =
           let d = made l in
@@ -88,7 +89,7 @@ module _ (t : List ℕ) (c : Sound t) where
               lay-other (run t (m .first)) e (m .entry) i (d .fits .size) n (rw (rooms-run t (m .first)) (within t i (c .whole) (omega arith)))
               ∙ grown-stays t (run t (m .first)) (d .before .grown) i (c .whole) (omega arith))
 
-      free : borne t m ≡ nowhere → full t (m .directory .holder) ≡ false → length (m .first) < length (frees t)
+      free : borne boxed t m ≡ nowhere → full t (m .directory .holder) ≡ false → length (m .first) < length (frees t)
           → Right (run t (placing t m nowhere))
       free b f l =
           rw (append-nil (placing t m nowhere)) at
@@ -97,9 +98,9 @@ module _ (t : List ℕ) (c : Sound t) where
   -- a new file, whose heading and entry are as they should be
   filing-keeps : (place : ℕ) (w : Word) (d : State) (type lev code life : ℕ) (text : List ℕ) → NewHeading type lev code life (length text)
       → Entered t (d .holder) code (lastName (chainOf w)) → (thirteen fifteen late : List Check)
-      → Keeps t (making t (filing t place w d code (headingRecord type lev code life (length text)) text) thirteen fifteen late)
+      → Keeps t (making boxed t (filing boxed t place w d code (headingRecord type lev code life (length text)) text) thirteen fifteen late)
   filing-keeps place w d type lev code life text h x =
-      made-keeps (room t 0) (filing t place w d code head text) (λ l.
+      made-keeps (room t 0) (filing boxed t place w d code head text) (λ l.
       let roomy : blocks (length text) < length (frees t) = omega (arith, length-file t head text, l) in
       let n = new-file t type lev code life text h roomy in
       filing-made t place w d code head text c n x)
@@ -108,7 +109,7 @@ module _ (t : List ℕ) (c : Sound t) where
       head = headingRecord type lev code life (length text)
 
   -- where a walk ends, an entry may be laid under a name that was read
-  pub entered : (u : ℕ) (w : Word) (d : State) (code : ℕ) → u ≤ 999999 → Named w → code ≤ 7 → toDirectory t 1 (start u) (chainOf w) ≡ reached d
+  pub entered : (u : ℕ) (w : Word) (d : State) (code : ℕ) → u ≤ 999999 → Named w → code ≤ 7 → toDirectory boxed t 1 (start u) (chainOf w) ≡ reached d
       → Entered t (d .holder) code (lastName (chainOf w))
   entered u w d code m n b q = go e
     where
@@ -141,7 +142,7 @@ module _ (t : List ℕ) (c : Sound t) where
 
   -- ---- each function
 
-  pub crd-keeps : (u : ℕ) (name : Word) (lev code : Part) → u ≤ 999999 → CrdRead name lev code → Keeps t (crdPlan t u name lev code)
+  pub crd-keeps : (u : ℕ) (name : Word) (lev code : Part) → u ≤ 999999 → CrdRead name lev code → Keeps t (crdPlan boxed t u name lev code)
   unfolding crdPlan
   crd-keeps u name lev code m h =
       let l : orElse lev 0 ≤ 3 = at-most 3 0 lev (h .level) (omega arith) in
@@ -152,7 +153,7 @@ module _ (t : List ℕ) (c : Sound t) where
       filing-keeps 1 name d 0 (orElse lev 0) (orElse code 0) 1 [] n (entered u name d (orElse code 0) m (h .name) b q) [] [] [])
 
   pub wrs-keeps : (u : ℕ) (text : List ℕ) (life : ℕ) (lev code : Part) (name : Word) → u ≤ 999999 → WrsRead text life lev code name
-      → Keeps t (wrsPlan t u text life lev code name)
+      → Keeps t (wrsPlan boxed t u text life lev code name)
   unfolding wrsPlan
   wrs-keeps u text life lev code name m h =
       let l : orElse lev 0 ≤ 3 = at-most 3 0 lev (h .level) (omega arith) in
@@ -162,7 +163,7 @@ module _ (t : List ℕ) (c : Sound t) where
       (entered u name d (orElse code 0) m (h .name) b q) [] [] [])
 
   pub cpy-keeps : (v u : ℕ) (old new : Word) (life lev code : Part) → u ≤ 999999 → CpyRead old new life lev code
-      → Keeps t (cpyPlan t v u old new life lev code)
+      → Keeps t (cpyPlan boxed t v u old new life lev code)
   unfolding cpyPlan
   cpy-keeps v u old new life lev code m h =
       end-keeps t v 1 old _ (λ e f _ r. holder-keeps t u 2 new _ (λ d q.
@@ -176,7 +177,7 @@ module _ (t : List ℕ) (c : Sound t) where
       (entered u new d (orElse code 0) m (h .new) b q) _ _ _))
 
   pub dup-keeps : (v u : ℕ) (to : Begin) (old new : Word) (code : Part) → u ≤ 999999 → DupRead old new to code
-      → Keeps t (dupPlan t v u to old new code)
+      → Keeps t (dupPlan boxed t v u to old new code)
   unfolding dupPlan run
   dup-keeps v u to old new code m h =
       end-keeps t v 1 old _ (λ e f _ r. holder-keeps t u 2 new _ (λ d q.
@@ -184,9 +185,9 @@ module _ (t : List ℕ) (c : Sound t) where
       let b : orElse code 0 ≤ 7 = at-most 7 0 code (h .code) (omega arith) in
       let j : ℕ = joined (entryCode (rec t (f .entry))) (orElse code 0) in
       let x = entered u new d j m (h .new) (joined-code _ _ (entry-code (rec t (f .entry)) (s .own)) b) q in
-      made-keeps 65535 (linking t f d new code) (λ _. linking-made t f d new code c (s .heading) x) [] _ []))
+      made-keeps 65535 (linking boxed t f d new code) (λ _. linking-made t f d new code c (s .heading) x) [] _ []))
 
-  pub chn-kept : countsTrue t ≡ true → (u : ℕ) (old link : Word) → ChnRead old link → Keeps t (chnPlan t u old link)
+  pub chn-kept : countsTrue t ≡ true → (u : ℕ) (old link : Word) → ChnRead old link → Keeps t (chnPlan boxed t u old link)
   chn-kept e u old link h =
       chn-keeps t u old link (record { clauses = c; counts = e }) (h .link) (λ d q z.
       let one = ends-base 65535 t c u (chainOf old) d (walk-ends 65535 t c 1 u (chainOf old) d q) z in

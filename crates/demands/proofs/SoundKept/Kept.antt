@@ -10,6 +10,7 @@ use lib.ListN.{length}
 use borrow.Author.Tests.{eqb-true, ltb-false}
 use Rattle.paper.specs.Scan.{Found, at, nowhere}
 use Rattle.paper.specs.Record.{byte, blank}
+use Rattle.paper.specs.Layout.{boxed}
 use Rattle.paper.specs.Table.{rooms, rec, lay, frees}
 use Rattle.paper.specs.Name.{linkName, legalBase}
 use Rattle.paper.specs.Declaration.{Part}
@@ -24,7 +25,7 @@ use Rattle.paper.specs.Effect.{Plan, Planned, plan, halted, chainOf, toHolder, 
 use Rattle.paper.specs.Answer.{Outcome, ran, single, oneName, deleting}
 use Rattle.laws.proofs.Tests.{implies-by}
 use Rattle.laws.proofs.Lists.{Every, every-parts}
-use Rattle.laws.proofs.Entries.{stands-holder, link-short}
+use Rattle.laws.proofs.Entries.{stands-holder}
 use Rattle.laws.proofs.Lay.{length-blank, lay-other, rooms-lay, within}
 use Rattle.laws.proofs.Runs.{Lays, run-append}
 use Rattle.demands.proofs.Sound.Clauses.{Sound}
@@ -48,17 +49,17 @@ Keeps t (halted f) = Unit {0}
 
 -- what the walks of an argument reach, and what follows them
 pub holder-keeps : (t : List ℕ) (u place : ℕ) (w : Word) (f : State → Planned)
-    → ((d : State) → toDirectory t 1 (start u) (chainOf w) ≡ reached d → Keeps t (f d)) → Keeps t (toHolder t u place w f)
+    → ((d : State) → toDirectory boxed t 1 (start u) (chainOf w) ≡ reached d → Keeps t (f d)) → Keeps t (toHolder boxed t u place w f)
 holder-keeps t u place w f = holder-by (Keeps t) place (λ _ _ _. tt) t u w f
 
 pub end-keeps : (t : List ℕ) (u place : ℕ) (w : Word) (f : State → State → Planned)
-    → ((d s : State) → toDirectory t 1 (start u) (chainOf w) ≡ reached d → toLast t d (chainOf w) ≡ reached s → Keeps t (f d s))
-    → Keeps t (toEnd t u place w f)
+    → ((d s : State) → toDirectory boxed t 1 (start u) (chainOf w) ≡ reached d → toLast boxed t d (chainOf w) ≡ reached s → Keeps t (f d s))
+    → Keeps t (toEnd boxed t u place w f)
 end-keeps t u place w f = end-by (Keeps t) place (λ _ _ _. tt) t u w f
 
 -- ---- DPR, DEL, DST and CHN
 
-pub dpr-keeps : (t : List ℕ) (u : ℕ) (name : Word) (code : ℕ) → Right t → code ≤ 7 → Keeps t (dprPlan t u name code)
+pub dpr-keeps : (t : List ℕ) (u : ℕ) (name : Word) (code : ℕ) → Right t → code ≤ 7 → Keeps t (dprPlan boxed t u name code)
 unfolding dprPlan run
 dpr-keeps t u name code c b =
     end-keeps t u 1 name _ (λ d s _ e _.
@@ -66,7 +67,7 @@ dpr-keeps t u name code c b =
     let k = c .clauses .targets (s .entry) (f .within) (f .stands .kind) in
     record { clauses = recoded-sound t (file t s) code (c .clauses) k b; counts = recoded-true t (file t s) code (c .clauses) k (c .counts) })
 
-pub del-keeps : (t : List ℕ) (u place : ℕ) (name : Word) → Sound t → Keeps t (delPlan t u place name)
+pub del-keeps : (t : List ℕ) (u place : ℕ) (name : Word) → Sound t → Keeps t (delPlan boxed t u place name)
 unfolding delPlan run
 del-keeps t u place name c =
     end-keeps t u place name _ (λ d s _ e v.
@@ -79,7 +80,7 @@ del-keeps t u place name c =
         settled-gone t c e blank l k (lay t e blank) (rooms-lay t e blank)
         (λ j i d q. lay-other t e blank i length-blank d (within t i (c .whole) (omega arith)))
 
-pub dst-keeps : (t : List ℕ) (u place : ℕ) (name : Word) → Sound t → Keeps t (dstPlan t u place name)
+pub dst-keeps : (t : List ℕ) (u place : ℕ) (name : Word) → Sound t → Keeps t (dstPlan boxed t u place name)
 unfolding dstPlan
 dst-keeps t u place name c =
     end-keeps t u place name _ (λ d s _ e v.
@@ -100,58 +101,58 @@ not-found nowhere e = refl
 
 -- CHN's link is a link name, and a legal base name where the old name is looked up in the base list
 pub chn-keeps : (t : List ℕ) (u : ℕ) (old link : Word) → Right t → linkName (lastName (link .names)) ≡ true
-    → ((d : State) → toDirectory t 1 (start u) (chainOf old) ≡ reached d → d .holder .heading ≡ 65535 → legalBase (lastName (link .names)) ≡ true)
-    → Keeps t (chnPlan t u old link)
+    → ((d : State) → toDirectory boxed t 1 (start u) (chainOf old) ≡ reached d → d .holder .heading ≡ 65535 → legalBase (lastName (link .names)) ≡ true)
+    → Keeps t (chnPlan boxed t u old link)
 unfolding chnPlan run
 chn-keeps t u old link c n b =
     end-keeps t u 1 old _ (λ d s w e v.
     let l = last-looked t d (chainOf old) s e in
     let f = l .stands in
-    let x : find t (d .holder) (lastName (link .names)) ≡ nowhere = not-found _ (verdict-idle _ v .1 .0) in
+    let x : find boxed t (d .holder) (lastName (link .names)) ≡ nowhere = not-found _ (verdict-idle _ v .1 .0) in
     record {
       clauses =
           renamed-sound t (s .entry) (lastName (link .names)) (c .clauses) (f .kind) n
           (implies-by (isBase (rec t (s .entry))) _ (λ q. b d w (sym (f .heading) ∙ eqb-true _ _ q)))
           (rw (stands-holder (d .holder) (rec t (s .entry)) f) x);
-      counts = renamed-true t (s .entry) (lastName (link .names)) (l .within) (f .kind) (link-short (lastName (link .names)) n .1) (c .counts);
+      counts = renamed-true t (s .entry) (lastName (link .names)) (l .within) (f .kind) (c .counts);
     })
 
 -- ---- RDS and LST store nothing
 
-pub rds-keeps : (t : List ℕ) (u : ℕ) (reply : List ℕ) (name : Word) (first count : Part) → Right t → Keeps t (rdsPlan t u reply name first count)
+pub rds-keeps : (t : List ℕ) (u : ℕ) (reply : List ℕ) (name : Word) (first count : Part) → Right t → Keeps t (rdsPlan boxed t u reply name first count)
 unfolding rdsPlan run
 rds-keeps t u reply name first count c = end-keeps t u 1 name _ (λ _ _ _ _ _. c)
 
-pub lst-keeps : (t : List ℕ) (u : ℕ) (reply : List ℕ) (name : Word) → Right t → Keeps t (lstPlan t u reply name)
+pub lst-keeps : (t : List ℕ) (u : ℕ) (reply : List ℕ) (name : Word) → Right t → Keeps t (lstPlan boxed t u reply name)
 unfolding lstPlan run
 lst-keeps t u reply name c = end-keeps t u 1 name _ (λ _ _ _ _ _. c)
 
-pub lstBase-keeps : (t : List ℕ) (u : ℕ) (reply : List ℕ) → Right t → Keeps t (lstBasePlan t u reply)
+pub lstBase-keeps : (t : List ℕ) (u : ℕ) (reply : List ℕ) → Right t → Keeps t (lstBasePlan boxed t u reply)
 unfolding lstBasePlan run
 lstBase-keeps t u reply c _ = c
 
-pub lstTree-keeps : (t : List ℕ) (u : ℕ) (reply : List ℕ) (name : Word) (depth : ℕ) → Right t → Keeps t (lstTreePlan t u reply name depth)
+pub lstTree-keeps : (t : List ℕ) (u : ℕ) (reply : List ℕ) (name : Word) (depth : ℕ) → Right t → Keeps t (lstTreePlan boxed t u reply name depth)
 unfolding lstTreePlan run
 lstTree-keeps t u reply name depth c = end-keeps t u 1 name _ (λ _ _ _ _ _. c)
 
-pub lstBaseTree-keeps : (t : List ℕ) (u : ℕ) (reply : List ℕ) (depth : ℕ) → Right t → Keeps t (lstBaseTreePlan t u reply depth)
+pub lstBaseTree-keeps : (t : List ℕ) (u : ℕ) (reply : List ℕ) (depth : ℕ) → Right t → Keeps t (lstBaseTreePlan boxed t u reply depth)
 unfolding lstBaseTreePlan run
 lstBaseTree-keeps t u reply depth c _ = c
 
 -- ---- a new entry: over the one that bears its name, or in a free record
 
 module _ (t : List ℕ) (m : Making)
-    (over : (e : ℕ) → borne t m ≡ at e → length (m .first) ≤ length (frees t) → losing t e (m .entry) ≡ false
+    (over : (e : ℕ) → borne boxed t m ≡ at e → length (m .first) ≤ length (frees t) → losing t e (m .entry) ≡ false
     → Right (run t (placing t m (at e))))
-    (free : borne t m ≡ nowhere → full t (m .directory .holder) ≡ false → length (m .first) < length (frees t)
+    (free : borne boxed t m ≡ nowhere → full t (m .directory .holder) ≡ false → length (m .first) < length (frees t)
     → Right (run t (placing t m nowhere))) where
-  pub making-keeps : (thirteen fifteen late : List Check) → Keeps t (making t m thirteen fifteen late)
+  pub making-keeps : (thirteen fifteen late : List Check) → Keeps t (making boxed t m thirteen fifteen late)
   unfolding making
   making-keeps thirteen fifteen late v =
       let a = every-parts Idle (thirteen ++ writeInhibited (m .place) (m .directory) ∷ fifteen) _ (verdict-idle _ v) .1 in
-      go (borne t m) refl (a .0) (a .1 .0) (ltb-false _ _ (a .1 .1 .0))
+      go (borne boxed t m) refl (a .0) (a .1 .0) (ltb-false _ _ (a .1 .1 .0))
     where
-      go : (f : Found) → borne t m ≡ f → (not (isFound f) && full t (m .directory .holder)) ≡ false → displacing t f (m .entry) ≡ false
+      go : (f : Found) → borne boxed t m ≡ f → (not (isFound f) && full t (m .directory .holder)) ≡ false → displacing t f (m .entry) ≡ false
           → needed m f ≤ length (frees t) → Right (run t (placing t m f))
       go (at e) q x y z = over e q z y
       go nowhere q x y z = free q x (omega arith)

@@ -9,7 +9,8 @@ use native.Mathlib.Omega.{arith}
 use lib.ListN.{length}
 use borrow.Author.Tests.{eq-eqb}
 use Rattle.paper.specs.Scan.{at, nowhere}
-use Rattle.paper.specs.Record.{byte, entryCode, directory, holderOf, headingNamed, userOf, nameOf, headingRecord, entryRecord}
+use Rattle.paper.specs.Record.{byte, entryCode, directory, holderOf, headingNamed, userOf, headingRecord}
+use Rattle.paper.specs.Layout.{nameOf, entryRecord, boxed}
 use Rattle.paper.specs.Table.{rooms, rec, lay, frees, room}
 use Rattle.paper.specs.Declaration.{Part, orElse}
 use Rattle.paper.specs.Line.{Word}
@@ -22,7 +23,7 @@ use Rattle.paper.specs.Store.{Store, puts, run}
 use Rattle.paper.specs.Effect.{Making, borne, newFile, chainOf, filing, linking}
 use Rattle.laws.proofs.Tests.{or-left, or-right}
 use Rattle.laws.proofs.Fields.{heading-length, entry-record-kind, length-entry, entry-holder, entry-heading, entry-user, entry-name}
-use Rattle.laws.proofs.Entries.{link-short, found-bears, found-stands}
+use Rattle.laws.proofs.Entries.{found-bears, found-stands}
 use Rattle.laws.proofs.Lay.{within}
 use Rattle.laws.proofs.Runs.{run-append, rooms-run}
 use Rattle.laws.proofs.Rooms.{room-below, room-kind}
@@ -58,19 +59,19 @@ pub record Made (o : ℕ) (t : List ℕ) (m : Making) : Type 0 where
   pub before : Before o t (m .first)
   pub fits : Fits o (run t (m .first)) (m .entry)
   pub place : holder (m .entry) ≡ m .directory .holder
-  pub name : nameOf (m .entry) ≡ m .name
+  pub name : nameOf boxed (m .entry) ≡ m .name
 
 module _ (o : ℕ) (t : List ℕ) (m : Making) (c : Sound t) (d : Made o t m) where
   abbrev f : List ℕ
   f = run t (m .first)
 
-  found-there : find f (holder (m .entry)) (nameOf (m .entry)) ≡ borne t m
+  found-there : find boxed f (holder (m .entry)) (nameOf boxed (m .entry)) ≡ borne boxed t m
   found-there =
-      ap (λ (x : Holder). find f x (nameOf (m .entry))) (d .place) ∙ ap (find f (m .directory .holder)) (d .name)
+      ap (λ (x : Holder). find boxed f x (nameOf boxed (m .entry))) (d .place) ∙ ap (find boxed f (m .directory .holder)) (d .name)
       ∙ grown-find t f (d .before .grown) (m .directory .holder) (m .name)
 
   -- nothing is displaced, the place is not full, and there is room: the table is sound
-  pub made-sound : borne t m ≡ nowhere → crowd t (m .directory .holder) < limit (m .directory .holder) → length (m .first) < length (frees t)
+  pub made-sound : borne boxed t m ≡ nowhere → crowd t (m .directory .holder) < limit (m .directory .holder) → length (m .first) < length (frees t)
       → Sound (run t (m .first ++ puts (room t (length (m .first))) (m .entry) ∷ []))
   unfolding run
   made-sound b l k =
@@ -82,7 +83,7 @@ module _ (o : ℕ) (t : List ℕ) (m : Making) (c : Sound t) (d : Made o t m) wh
       roomy = subst (λ (x : Holder). crowd f x < limit x) (sym (d .place)) (rw (grown-crowd t f (d .before .grown) (m .directory .holder)) l)
 
   -- an entry is displaced: it is as it was, and the table is sound but for its file
-  module _ (e : ℕ) (b : borne t m ≡ at e) where
+  module _ (e : ℕ) (b : borne boxed t m ≡ at e) where
     pub displaced-same : rec f e ≡ rec t e
     displaced-same = grown-stays t f (d .before .grown) e (c .whole) (omega (arith, found-stands t (m .directory .holder) (m .name) e b .1 .kind))
 
@@ -91,9 +92,9 @@ module _ (o : ℕ) (t : List ℕ) (m : Making) (c : Sound t) (d : Made o t m) wh
         rw displaced-same at
         (placed-over o f e (m .entry) (d .before .sound) (d .fits) (rw rooms-run (there .0))
         (rw displaced-same
-        (subst (λ (x : Holder). bears x (nameOf (m .entry)) (rec t e) ≡ true) (sym (d .place)) (rw (d .name) (there .1)))))
+        (subst (λ (x : Holder). bears boxed x (nameOf boxed (m .entry)) (rec t e) ≡ true) (sym (d .place)) (rw (d .name) (there .1)))))
       where
-        there : (e < rooms t) × (bears (m .directory .holder) (m .name) (rec t e) ≡ true)
+        there : (e < rooms t) × (bears boxed (m .directory .holder) (m .name) (rec t e) ≡ true)
         there = found-bears t (m .directory .holder) (m .name) e b
 
 -- ---- the entries of CRD, WRS, CPY and DUP
@@ -105,7 +106,7 @@ pub record Entered (t : List ℕ) (d : Holder) (code : ℕ) (name : List ℕ) : 
 
 module _ (t : List ℕ) (d : Holder) (code heading : ℕ) (name : List ℕ) (x : Entered t d code name) where
   abbrev r : List ℕ
-  r = entryRecord code (d .heading) heading (d .user) name
+  r = entryRecord boxed code (d .heading) heading (d .user) name
 
   at-heading : holderOf r ≡ d .heading
   at-heading = entry-holder code (d .heading) heading (d .user) name (x .fields .holders)
@@ -116,8 +117,8 @@ module _ (t : List ℕ) (d : Holder) (code heading : ℕ) (name : List ℕ) (x :
   entry-place : holder r ≡ d
   entry-place = λ i. record { heading = at-heading i; user = at-user i }
 
-  entry-named : nameOf r ≡ name
-  entry-named = entry-name code (d .heading) heading (d .user) name (link-short name (x .fields .legal) .1)
+  entry-named : nameOf boxed r ≡ name
+  entry-named = entry-name code (d .heading) heading (d .user) name (x .fields .legal)
 
   entry-held : holderThere t 0 r ≡ true
   entry-held = go (x .there)
@@ -131,7 +132,7 @@ module _ (t : List ℕ) (d : Holder) (code heading : ℕ) (name : List ℕ) (x :
   entry-fits o f c g l k n =
       let e : headingNamed r ≡ heading = entry-heading code (d .heading) heading (d .user) name l in
       record {
-        size = length-entry code (d .heading) heading (d .user) name (link-short name (x .fields .legal) .1);
+        size = length-entry code (d .heading) heading (d .user) name;
         kind = entry-record-kind code (d .heading) heading (d .user) name;
         own = own-entry code (d .heading) heading (d .user) name (x .fields);
         held = grown-holder t f c g 0 r entry-held;
@@ -152,7 +153,7 @@ new-file t type lev code life text h l =
 
 -- CRD, WRS, CPY: a new file and its entry
 pub filing-made : (t : List ℕ) (place : ℕ) (w : Word) (d : State) (code : ℕ) (heading text : List ℕ) → Sound t → NewFile t heading text
-    → Entered t (d .holder) code (lastName (chainOf w)) → Made (room t 0) t (filing t place w d code heading text)
+    → Entered t (d .holder) code (lastName (chainOf w)) → Made (room t 0) t (filing boxed t place w d code heading text)
 filing-made t place w d code heading text c n x =
     let b = before-file t heading text c n in
     record {
@@ -167,7 +168,7 @@ filing-made t place w d code heading text c n x =
 -- DUP: an entry for a heading that is there
 pub linking-made : (t : List ℕ) (f d : State) (new : Word) (code : Part) → Sound t → byte (rec t (file t f)) 0 ≡ 1
     → Entered t (d .holder) (joined (entryCode (rec t (f .entry))) (orElse code 0)) (lastName (chainOf new))
-    → Made 65535 t (linking t f d new code)
+    → Made 65535 t (linking boxed t f d new code)
 unfolding run
 linking-made t f d new code c k x =
     let heading : ℕ = file t f in

@@ -9,7 +9,8 @@ use native.Mathlib.Omega.{arith}
 use native.Mathlib.Decide.{ℕ-discrete}
 use lib.ListN.{length}
 use Rattle.paper.specs.Scan.{nowhere, countBelow}
-use Rattle.paper.specs.Record.{byte, headingType, textLength, headingNamed, nameOf, headingOf, textAt, names}
+use Rattle.paper.specs.Record.{byte, headingType, textLength, headingNamed, headingOf, textAt, names}
+use Rattle.paper.specs.Layout.{nameOf, boxed}
 use Rattle.paper.specs.Table.{rooms, rec, lay}
 use Rattle.paper.specs.Entry.{Holder, holder, stands, bears, find, crowd, limit, named}
 use Rattle.paper.specs.Block.{blocks}
@@ -36,7 +37,7 @@ pub record Placing (o o′ : ℕ) (t : List ℕ) (e : ℕ) (r : List ℕ) : Type
   pub fits : Fits o t r
   pub inside : e < rooms t
   pub before : (byte (rec t e) 0 ≡ 0) ⊎ (byte (rec t e) 0 ≡ 2)
-  pub alone : (j : ℕ) → j < rooms t → j ≢ e → bears (holder r) (nameOf r) (rec t j) ≡ true → ⊥
+  pub alone : (j : ℕ) → j < rooms t → j ≢ e → bears boxed (holder r) (nameOf boxed r) (rec t j) ≡ true → ⊥
   pub roomy : (d : Holder) → crowd (lay t e r) d ≤ limit d
   pub left : (h : ℕ) → names h (rec t e) ≡ true → h ≡ o′
 
@@ -86,7 +87,7 @@ module _ (o o′ : ℕ) (t : List ℕ) (e : ℕ) (r : List ℕ) (c : SoundBut o 
   placed-targets i l k =
       at-entry i l (λ _ q. rw q (target-stays _ (p .fits .target))) (λ _ q. rw q (target-stays _ (c .targets i l (rw q at k))))
 
-  placed-apart : (i j : ℕ) → i < rooms t → j < rooms t → byte (rec f i) 0 ≡ 2 → bears (holder (rec f i)) (nameOf (rec f i)) (rec f j) ≡ true → i ≡ j
+  placed-apart : (i j : ℕ) → i < rooms t → j < rooms t → byte (rec f i) 0 ≡ 2 → bears boxed (holder (rec f i)) (nameOf boxed (rec f i)) (rec f j) ≡ true → i ≡ j
   placed-apart i j l m k b =
       at-entry i l
       (λ x q. at-entry j m (λ y _. x ∙ sym y) (λ y s. absurd (p .alone j m y (rw (q, s) at b))))
@@ -195,28 +196,28 @@ crowd-over t e r d l s k a =
 
 -- a new entry in a free record: the table is sound
 pub placed-free : (o : ℕ) (t : List ℕ) (e : ℕ) (r : List ℕ) → SoundBut o t → Fits o t r → e < rooms t → byte (rec t e) 0 ≡ 0
-    → find t (holder r) (nameOf r) ≡ nowhere → crowd t (holder r) < limit (holder r) → Sound (lay t e r)
+    → find boxed t (holder r) (nameOf boxed r) ≡ nowhere → crowd t (holder r) < limit (holder r) → Sound (lay t e r)
 unfolding find
 placed-free o t e r c x l k f m =
     placed o 65535 t e r c (record {
       fits = x;
       inside = l;
       before = inl k;
-      alone = λ j b _ y. not-both y (any-false (λ i. bears (holder r) (nameOf r) (rec t i)) (rooms t) j b (first-nowhere _ (rooms t) f));
+      alone = λ j b _ y. not-both y (any-false (λ i. bears boxed (holder r) (nameOf boxed r) (rec t i)) (rooms t) j b (first-nowhere _ (rooms t) f));
       roomy = crowd-free t e r l (x .size) k m (c .crowds);
       left = λ h y. let z : byte (rec t e) 0 ≡ 2 = names-kind h (rec t e) y in let w : ⊥ = omega arith in absurd w;
     })
 
 -- an entry overwritten by one of its name: the table is sound, but for the file that it named
 pub placed-over : (o : ℕ) (t : List ℕ) (e : ℕ) (r : List ℕ) → SoundBut o t → Fits o t r → e < rooms t
-    → bears (holder r) (nameOf r) (rec t e) ≡ true → SoundBut (headingNamed (rec t e)) (lay t e r)
+    → bears boxed (holder r) (nameOf boxed r) (rec t e) ≡ true → SoundBut (headingNamed (rec t e)) (lay t e r)
 placed-over o t e r c x l b =
-    let a : Stands (holder r) (rec t e) = bears-stands (holder r) (nameOf r) (rec t e) b in
+    let a : Stands (holder r) (rec t e) = bears-stands (holder r) (nameOf boxed r) (rec t e) b in
     placed o (headingNamed (rec t e)) t e r c (record {
       fits = x;
       inside = l;
       before = inr (a .kind);
-      alone = λ j m d y. d (sym (c .apart e j l m (a .kind) (bears-both (holder r) (nameOf r) (rec t e) (rec t j) b y)));
+      alone = λ j m d y. d (sym (c .apart e j l m (a .kind) (bears-both (holder r) (nameOf boxed r) (rec t e) (rec t j) b y)));
       roomy = λ d. rw (crowd-over t e r d l (x .size) (x .kind) a) (c .crowds d);
       left = λ h y. sym (names-heading h (rec t e) y);
     })

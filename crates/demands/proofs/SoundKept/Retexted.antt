@@ -10,7 +10,8 @@ use native.Mathlib.Decide.{ℕ-discrete, decLt}
 use lib.ListN.{length}
 use borrow.Author.Tests.{eqb-true, eq-eqb, ne-eqb}
 use Rattle.paper.specs.Scan.{countBelow}
-use Rattle.paper.specs.Record.{byte, isKind, headingType, textLength, holderOf, headingNamed, nameOf, names, headingOf, textAt, blank}
+use Rattle.paper.specs.Record.{byte, isKind, headingType, textLength, holderOf, headingNamed, names, headingOf, textAt, blank}
+use Rattle.paper.specs.Layout.{nameOf, boxed}
 use Rattle.paper.specs.Table.{rooms, rec}
 use Rattle.paper.specs.Entry.{Holder, holder, stands, bears, crowd, limit, named}
 use Rattle.paper.specs.Block.{blocks}
@@ -121,10 +122,10 @@ module _ (t f : List ℕ) (h : ℕ) (c : Sound t) (d : Retexted t f h) where
       let e = entry-kept i k in
       rw e (heading-too (headingNamed (rec t i)) (c .targets i l (rw e at k)))
 
-  apart-f : (i j : ℕ) → i < rooms t → j < rooms t → byte (rec f i) 0 ≡ 2 → bears (holder (rec f i)) (nameOf (rec f i)) (rec f j) ≡ true → i ≡ j
+  apart-f : (i j : ℕ) → i < rooms t → j < rooms t → byte (rec f i) 0 ≡ 2 → bears boxed (holder (rec f i)) (nameOf boxed (rec f i)) (rec f j) ≡ true → i ≡ j
   apart-f i j l m k b =
       let e = entry-kept i k in
-      let q = entry-kept j (bears-stands (holder (rec f i)) (nameOf (rec f i)) (rec f j) b .kind) in
+      let q = entry-kept j (bears-stands (holder (rec f i)) (nameOf boxed (rec f i)) (rec f j) b .kind) in
       c .apart i j l m (rw e at k) (rw (e, q) at b)
 
   pub named-same : (i : ℕ) → named f i ≡ named t i

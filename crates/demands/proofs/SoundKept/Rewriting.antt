@@ -9,6 +9,7 @@ use native.Mathlib.Omega.{arith}
 use lib.ListN.{length, length-append}
 use borrow.Author.Tests.{eq-eqb, not-false, eqb-false, ltb-false}
 use Rattle.paper.specs.Record.{byte, isKind, lifetime, headingOf, rewritten, textRecord, blank}
+use Rattle.paper.specs.Layout.{boxed}
 use Rattle.paper.specs.Table.{rooms, rec, room, textRoom}
 use Rattle.paper.specs.Line.{Word}
 use Rattle.paper.specs.Check.{passed, verdict}
@@ -128,8 +129,8 @@ length-rewriting t h body =
 pub record Granted (t : List ℕ) (u : ℕ) (body : List ℕ) (name : Word) (p : Plan) : Type 0 where
   pub directory : State
   pub end : State
-  pub walked : toDirectory t 1 (start u) (chainOf name) ≡ reached directory
-  pub last : toLast t directory (chainOf name) ≡ reached end
+  pub walked : toDirectory boxed t 1 (start u) (chainOf name) ≡ reached directory
+  pub last : toLast boxed t directory (chainOf name) ≡ reached end
   pub write : noWrite (end .code) ≡ false
   pub fit : Rewrite t (file t end) body
   pub stores : p .stores ≡ rewriting t (file t end) body
@@ -139,7 +140,7 @@ Grants t u body name (plan p) = verdict (p .checks) ≡ passed → Granted t u b
 Grants t u body name (halted f) = Unit {0}
 
 module _ (t : List ℕ) (c : Sound t) (u : ℕ) (body : List ℕ) (name : Word) (short : length body ≤ 24000) where
-  pub rewrite-grants : Grants t u body name (rewritePlan t u body name)
+  pub rewrite-grants : Grants t u body name (rewritePlan boxed t u body name)
   unfolding rewritePlan
   rewrite-grants =
       end-by (Grants t u body name) 2 (λ _ _ _. tt) t u name _ (λ d f q r v.
@@ -166,11 +167,11 @@ module _ (t : List ℕ) (c : Sound t) (u : ℕ) (body : List ℕ) (name : Word) 
         stores = refl;
       })
 
-  pub rewrite-granted : (p : Plan) → Passed (rewritePlan t u body name) p → Granted t u body name p
+  pub rewrite-granted : (p : Plan) → Passed (rewritePlan boxed t u body name) p → Granted t u body name p
   rewrite-granted p v = let s : Grants t u body name (plan p) = rw (v .plan) at rewrite-grants in s (v .checks)
 
-  pub rewrite-keeps : countsTrue t ≡ true → Keeps t (rewritePlan t u body name)
-  rewrite-keeps e = go (rewritePlan t u body name) rewrite-grants
+  pub rewrite-keeps : countsTrue t ≡ true → Keeps t (rewritePlan boxed t u body name)
+  rewrite-keeps e = go (rewritePlan boxed t u body name) rewrite-grants
     where
       go : (x : Planned) → Grants t u body name x → Keeps t x
       go (plan p) h = λ v. let g = h v in rw (g .stores) (refilled-right t (file t (g .end)) body (record { clauses = c; counts = e }) (g .fit))

@@ -10,6 +10,7 @@ use native.Mathlib.Decide.{ℕ-discrete}
 use lib.ListN.{length}
 use Rattle.paper.specs.Scan.{Found, at, nowhere, firstBelow}
 use Rattle.paper.specs.Record.{byte, directory, headingNamed, holderOf, userOf, names, textAt, blank}
+use Rattle.paper.specs.Layout.{boxed}
 use Rattle.paper.specs.Table.{rooms, rec, lay, place, textRoom}
 use Rattle.paper.specs.Entry.{Holder, inDirectory, stands, find, named, peopled}
 use Rattle.paper.specs.Block.{blocksOf}
@@ -43,7 +44,7 @@ instead-entry a r s ka kr h u =
     }
 
 -- an entry of d in place of the one that bears its name
-pub instead-found : (t : List ℕ) (d : Holder) (n : List ℕ) (e : ℕ) (r : List ℕ) → find t d n ≡ at e → length r ≡ 32 → Stands d r → Instead (rec t e) r
+pub instead-found : (t : List ℕ) (d : Holder) (n : List ℕ) (e : ℕ) (r : List ℕ) → find boxed t d n ≡ at e → length r ≡ 32 → Stands d r → Instead (rec t e) r
 instead-found t d n e r q s x =
     let f = found-stands t d n e q .1 in
     instead-entry (rec t e) r s (f .kind) (x .kind) (x .heading ∙ sym (f .heading)) (x .user ∙ sym (f .user))

@@ -8,6 +8,7 @@ use Prim.Native.Nat.{ℕ, _≤_, _<_}
 use native.Mathlib.Omega.{arith}
 use lib.ListN.{length}
 use Rattle.paper.specs.Record.{byte, rewritten}
+use Rattle.paper.specs.Layout.{boxed}
 use Rattle.paper.specs.Table.{rooms, rec, lay}
 use Rattle.paper.specs.Sound.{countsTrue}
 use Rattle.paper.specs.Store.{run}
@@ -36,16 +37,16 @@ recoded-true t h code c k =
     (λ j m. byte-same (rec t h) code s k j (λ (q : j ≡ 3). omega arith)) (λ j m n. byte-same (rec t h) code s k j (λ (q : j ≡ 3). omega arith)))
 
 -- an entry with its new name
-pub renamed-true : (t : List ℕ) (e : ℕ) (name : List ℕ) → e < rooms t → byte (rec t e) 0 ≡ 2 → length name ≤ 10 → countsTrue t ≡ true
-    → countsTrue (lay t e (renamed (rec t e) name)) ≡ true
-renamed-true t e name l k b =
+pub renamed-true : (t : List ℕ) (e : ℕ) (name : List ℕ) → e < rooms t → byte (rec t e) 0 ≡ 2 → countsTrue t ≡ true
+    → countsTrue (lay t e (renamed boxed (rec t e) name)) ≡ true
+renamed-true t e name l k =
     let s : length (rec t e) ≡ 32 = length-rec t e l in
-    let like = renamed-like (rec t e) name s k b in
-    replaced-true t e (renamed (rec t e) name) l (length-renamed (rec t e) name s k b)
+    let like = renamed-like (rec t e) name s k in
+    replaced-true t e (renamed boxed (rec t e) name) l (length-renamed (rec t e) name s k)
     (record {
-      names = λ h. like-names h (rec t e) (renamed (rec t e) name) like;
-      stands = λ d. like-stands d (rec t e) (renamed (rec t e) name) like;
-      heading = λ (q : byte (renamed (rec t e) name) 0 ≡ 1). let z : ⊥ = omega (arith, like .kind) in absurd z;
+      names = λ h. like-names h (rec t e) (renamed boxed (rec t e) name) like;
+      stands = λ d. like-stands d (rec t e) (renamed boxed (rec t e) name) like;
+      heading = λ (q : byte (renamed boxed (rec t e) name) 0 ≡ 1). let z : ⊥ = omega (arith, like .kind) in absurd z;
     })
 
 -- the same heading with one mark and length, and with another

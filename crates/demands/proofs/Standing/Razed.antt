@@ -10,6 +10,7 @@ use native.Mathlib.Decide.{ℕ-discrete}
 use lib.ListN.{length, take}
 use borrow.Author.Tests.{ne-eqb}
 use Rattle.paper.specs.Record.{byte, headingNamed, blank}
+use Rattle.paper.specs.Layout.{boxed}
 use Rattle.paper.specs.Table.{rooms, rec}
 use Rattle.paper.specs.Line.{Word}
 use Rattle.paper.specs.Check.{passed, verdict}
@@ -148,7 +149,7 @@ Razes t (halted f) = Unit {0}
 pub passed-razes : (t : List ℕ) (x : Planned) (p : Plan) → Razes t x → Passed x p → (j : ℕ) → Destroys t (run t (take j (p .stores)))
 passed-razes t x p h v = let s : Razes t (plan p) = rw (v .plan) at h in s (v .checks)
 
-pub dst-razes : (t : List ℕ) → Sound t → (u place : ℕ) (name : Word) → Razes t (dstPlan t u place name)
+pub dst-razes : (t : List ℕ) → Sound t → (u place : ℕ) (name : Word) → Razes t (dstPlan boxed t u place name)
 unfolding dstPlan
 dst-razes t c u place name =
     end-by (Razes t) place (λ _ _ _. tt) t u name _ (λ d f _ q _.

@@ -4,6 +4,7 @@ use mathlib.Core.List.{List, []}
 use mathlib.Core.Path.{_≡_, sym, ap, _∙_}
 use Prim.Native.Nat.{ℕ}
 use borrow.Author.Needs.{needs}
+use Rattle.paper.specs.Layout.{boxed}
 use Rattle.paper.specs.Answer.{plain, mending}
 use Rattle.paper.specs.Check.{whole}
 use Rattle.mending.specs.Shown.{mendShown}
@@ -24,8 +25,8 @@ placeless-requires c κs = search needs
 same-length : tie.Need-same-length
 same-length c = search needs
 
-promised : (t : List ℕ) (k : ℕ) (m : Mended) (r : Answer) (u : List ℕ) → m ≡ mendShown (mending t k .answer) → u ≡ mending t k .table
-    → r ≡ shown (plain (m .number) (whole 0) 0 (m .stores)) → Promised (mending t k) r u []
+promised : (t : List ℕ) (k : ℕ) (m : Mended) (r : Answer) (u : List ℕ) → m ≡ mendShown (mending boxed t k .answer) → u ≡ mending boxed t k .table
+    → r ≡ shown (plain (m .number) (whole 0) 0 (m .stores)) → Promised (mending boxed t k) r u []
 promised t k m r u e f g =
     record { answer = g ∙ rw e (ap shown (sym (mend-answer t k))); table = f; reply = mend-reply t k }
 

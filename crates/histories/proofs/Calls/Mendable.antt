@@ -6,6 +6,7 @@ use mathlib.Core.Path.{_≡_}
 use Prim.Native.Nat.{ℕ}
 use native.Mathlib.Omega.{arith}
 use lib.ListN.{length}
+use Rattle.paper.specs.Layout.{boxed}
 use Rattle.paper.specs.Table.{sized}
 use Rattle.paper.specs.Sound.{sound}
 use Rattle.paper.specs.Mend.{mendStores, mended}
@@ -30,7 +31,7 @@ sound-mendable t c = rw (mended-sound t c) c
 
 -- a request is refused and changes nothing, or the table is sound
 pub data Asked (t line text reply : List ℕ) (u k : ℕ) : Type 0 where
-  refused : requested t line text reply u k .table ≡ t → Asked t line text reply u k
+  refused : requested boxed t line text reply u k .table ≡ t → Asked t line text reply u k
   entered : Right t → Asked t line text reply u k
 
 pub how-asked : (t line text reply : List ℕ) (u k : ℕ) → Asked t line text reply u k
@@ -45,16 +46,16 @@ called-mendable t (mends k) m = rw (mended-again t k) m
 called-mendable t (asks line text reply u k) m = go (course t line text reply u)
   where
     -- the end of a mend that is sound
-    ends : (s : List ℕ) → mending s (length (mendStores s)) ≡ mendedWhole s → Mendable s
+    ends : (s : List ℕ) → mending boxed s (length (mendStores s)) ≡ mendedWhole s → Mendable s
     ends s a =
         let b = mend-sound s (length (mendStores s)) (rw a) in
-        let d : (sized (mended s) ≡ true) × (sound (mended s) ≡ true) = rw a at b in
+        let d : (sized (mended s) ≡ true) × (sound boxed (mended s) ≡ true) = rw a at b in
         sound-right (mended s) (d .0) (d .1)
 
-    go : Course t line text reply u → Mendable (requested t line text reply u k .table)
+    go : Course t line text reply u → Mendable (requested boxed t line text reply u k .table)
     go (untried f h e) = rw (e k) m
     go (tried r h e) =
-        ends (requested t line text reply u k .table) (demand-three t line text reply u k (h .sized) (h .sound) .answers _ (omega arith))
+        ends (requested boxed t line text reply u k .table) (demand-three t line text reply u k (h .sized) (h .sound) .answers _ (omega arith))
 
 pub after-mendable : (t : List ℕ) (cs : List Call) → Mendable t → Mendable (after t cs)
 unfolding after

@@ -11,6 +11,7 @@ use lib.ListN.{length, take}
 use lib.Seq.{take-append-le, take-length}
 use borrow.Author.Tests.{eqb-true, not-true}
 use Rattle.paper.specs.Record.{byte, isKind, names, headingOf, simple}
+use Rattle.paper.specs.Layout.{boxed}
 use Rattle.paper.specs.Table.{rooms, rec}
 use Rattle.paper.specs.Entry.{named}
 use Rattle.paper.specs.Store.{run}
@@ -276,11 +277,11 @@ module _ (t : List ℕ) (w : Whole t) where
           ⊎-elim equal (λ a. a)
           (run-each (λ i r. Alike (rec (cleared t) i) r) (cleared t) (take j (recounts (cleared t))) (every-take _ j _ (counts-alike (cleared t))) i l)
 
-  pub mend-tidied : (k : ℕ) → Tidied t (mending t k .table)
+  pub mend-tidied : (k : ℕ) → Tidied t (mending boxed t k .table)
   unfolding mended
   mend-tidied k = go (mend-came t k)
     where
-      go : MendCame t k (mending t k) → Tidied t (mending t k .table)
+      go : MendCame t k (mending boxed t k) → Tidied t (mending boxed t k .table)
       go (unsized a e) = rw e (tidied-none t)
       go (unsound a b e) = rw e (tidied-none t)
       go (whole a b m e) = rw e (rw (take-length (mendStores t)) at (stores-tidied (length (mendStores t))))

@@ -10,6 +10,7 @@ use native.Mathlib.Decide.{ℕ-discrete}
 use lib.ListN.{length, take}
 use lib.Seq.{take-length}
 use Rattle.paper.specs.Record.{byte, headingCode, names, blank}
+use Rattle.paper.specs.Layout.{boxed}
 use Rattle.paper.specs.Table.{rooms, rec}
 use Rattle.paper.specs.Line.{Word}
 use Rattle.paper.specs.Request.{Read, request, unread, asked}
@@ -117,7 +118,7 @@ abbrev pub Falling : List ℕ → Planned → Type 0
 Falling t (halted f) = Unit {0}
 Falling t (plan p) = Falls t (p .stores)
 
-pub del-falls : (t : List ℕ) → Sound t → (u place : ℕ) (w : Word) → Falling t (delPlan t u place w)
+pub del-falls : (t : List ℕ) → Sound t → (u place : ℕ) (w : Word) → Falling t (delPlan boxed t u place w)
 unfolding delPlan settled
 del-falls t c u place w =
     end-by (Falling t) place (λ _ _ _. tt) t u w _ (λ d f _ q.
@@ -130,7 +131,7 @@ del-falls t c u place w =
     (clears-fall _ _ (rw (rooms-run t (withCounts t (clear e ∷ []))) (freed-clears t c _ (c .targets e (g .within) (g .stands .kind)))))
     (falls-none _)))
 
-pub dst-falls : (t : List ℕ) → Sound t → (u place : ℕ) (w : Word) → Falling t (dstPlan t u place w)
+pub dst-falls : (t : List ℕ) → Sound t → (u place : ℕ) (w : Word) → Falling t (dstPlan boxed t u place w)
 unfolding dstPlan destroying
 dst-falls t c u place w =
     end-by (Falling t) place (λ _ _ _. tt) t u w _ (λ d f _ q.
@@ -219,13 +220,13 @@ destroyingRead (unread f) = false
 abbrev pub isDestroying : List ℕ → List ℕ → Bool
 isDestroying line text = destroyingRead (asked line text)
 
-pub request-moved : (t line text reply : List ℕ) (u k : ℕ) → Sound t → Moved (isDestroying line text) t (requested t line text reply u k .table)
+pub request-moved : (t line text reply : List ℕ) (u k : ℕ) → Sound t → Moved (isDestroying line text) t (requested boxed t line text reply u k .table)
 request-moved t line text reply u k c = go (ways t line text reply u)
   where
     b : Bool
     b = isDestroying line text
 
-    go : Way t line text reply u → Moved b t (requested t line text reply u k .table)
+    go : Way t line text reply u → Moved b t (requested boxed t line text reply u k .table)
     go (lent e) = rw (e k) (moved-none t c)
     go (by-plan _ x h e) = calm b t _ (rw (e k) (single-moved t reply k c x h))
     go (by-names _ deletion names q e) = calm b t _ (rw (e k) (deleting-moved deletion names t u reply k 0 0 c .moved))

@@ -11,7 +11,8 @@ use lib.ListN.{length, take, length-set, List·getD-append}
 use lib.Seq.{getD-take, length-take-le}
 use borrow.Author.Tests.{ltb-false}
 use Rattle.paper.specs.Scan.{Found, at, nowhere, allBelow, anyBelow}
-use Rattle.paper.specs.Record.{byte, level, headingCode, lifetime, entryCode, headingNamed, names, blank, headingRecord, nameField}
+use Rattle.paper.specs.Record.{byte, level, headingCode, lifetime, entryCode, headingNamed, names, blank, headingRecord}
+use Rattle.paper.specs.Layout.{nameField, boxed}
 use Rattle.paper.specs.Table.{rooms, rec, lay, frees, room, textRoom}
 use Rattle.paper.specs.Declaration.{Part, orElse}
 use Rattle.paper.specs.Line.{Word}
@@ -70,11 +71,11 @@ own-code a b l m e =
     (implies-use (noWrite a) _ (all-true (λ b. implies (noWrite a) (noWrite (joined a b))) 8 b (omega arith)
     (all-true (λ a. allBelow (λ b. implies (noWrite a) (noWrite (joined a b))) 8) 8 a (omega arith) joins)) n) e)
 
-holder-shape : (t : List ℕ) (u place : ℕ) (w : Word) (f : State → Planned) → ((d : State) → Shape false t (f d)) → Shape false t (toHolder t u place w f)
+holder-shape : (t : List ℕ) (u place : ℕ) (w : Word) (f : State → Planned) → ((d : State) → Shape false t (f d)) → Shape false t (toHolder boxed t u place w f)
 holder-shape t u place w f h = holder-by (Shape false t) place (λ _ _ _. tt) t u w f (λ d _. h d)
 
 end-shape : (razes : Bool) (t : List ℕ) (u place : ℕ) (w : Word) (f : State → State → Planned)
-    → ((d s : State) → toLast t d (chainOf w) ≡ reached s → Shape razes t (f d s)) → Shape razes t (toEnd t u place w f)
+    → ((d s : State) → toLast boxed t d (chainOf w) ≡ reached s → Shape razes t (f d s)) → Shape razes t (toEnd boxed t u place w f)
 end-shape razes t u place w f h = end-by (Shape razes t) place (λ _ _ _. tt) t u w f (λ d s _. h d s)
 
 -- new records that are no entry
@@ -204,16 +205,16 @@ module _ (t : List ℕ) (c : Sound t) where
 
   -- a new entry, after new records
   making-shape : (m : Making) (thirteen fifteen late : List Check) → (length (m .first) ≤ length (frees t) → Every (News t) (m .first))
-      → length (m .entry) ≡ 32 → byte (m .entry) 0 ≡ 2 → Shape false t (making t m thirteen fifteen late)
+      → length (m .entry) ≡ 32 → byte (m .entry) 0 ≡ 2 → Shape false t (making boxed t m thirteen fifteen late)
   unfolding making
   making-shape m thirteen fifteen late news size kind v =
       let a = every-parts Idle (thirteen ++ writeInhibited (m .place) (m .directory) ∷ fifteen) _ (verdict-idle _ v) .1 in
-      go (borne t m) refl (ltb-false _ _ (a .1 .1 .0))
+      go (borne boxed t m) refl (ltb-false _ _ (a .1 .1 .0))
     where
       no-heading : byte (m .entry) 0 ≢ 1
       no-heading = λ (z : byte (m .entry) 0 ≡ 1). omega arith
 
-      go : (x : Found) → borne t m ≡ x → needed m x ≤ length (frees t) → Shaped false t (placing t m x)
+      go : (x : Found) → borne boxed t m ≡ x → needed m x ≤ length (frees t) → Shaped false t (placing t m x)
       go (at e) q enough =
           let f = found-stands t (m .directory .holder) (m .name) e q in
           over-shaped (m .first) (news enough) e (f .0) (m .entry) size no-heading (entry (inr (f .1 .kind)) kind) (f .1 .kind)
@@ -222,12 +223,11 @@ module _ (t : List ℕ) (c : Sound t) where
           (m .entry) size no-heading (entry (inl (room-kind t (length (m .first)) (omega arith))) kind))
 
   filing-shape : (place : ℕ) (w : Word) (d : State) (type lev code life n : ℕ) (body : List ℕ) (thirteen fifteen late : List Check)
-      → length (lastName (chainOf w)) ≤ 10
-      → Shape false t (making t (filing t place w d code (headingRecord type lev code life n) body) thirteen fifteen late)
-  filing-shape place w d type lev code life n body thirteen fifteen late l =
-      making-shape (filing t place w d code head body) thirteen fifteen late
+      → Shape false t (making boxed t (filing boxed t place w d code (headingRecord type lev code life n) body) thirteen fifteen late)
+  filing-shape place w d type lev code life n body thirteen fifteen late =
+      making-shape (filing boxed t place w d code head body) thirteen fifteen late
       (λ enough. file-news head body (roomy t type lev code life n body (omega (arith, length-file t head body, enough))))
-      (length-entry code (d .holder .heading) (room t 0) (d .holder .user) (lastName (chainOf w)) l)
+      (length-entry code (d .holder .heading) (room t 0) (d .holder .user) (lastName (chainOf w)))
       (entry-record-kind code (d .holder .heading) (room t 0) (d .holder .user) (lastName (chainOf w)))
     where
       head : List ℕ
@@ -235,38 +235,35 @@ module _ (t : List ℕ) (c : Sound t) where
 
   -- ---- each function
 
-  pub crd-shape : (u : ℕ) (name : Word) (lev code : Part) → length (lastName (chainOf name)) ≤ 10 → Shape false t (crdPlan t u name lev code)
+  pub crd-shape : (u : ℕ) (name : Word) (lev code : Part) → Shape false t (crdPlan boxed t u name lev code)
   unfolding crdPlan
-  crd-shape u name lev code l =
-      holder-shape t u 1 name _ (λ d. filing-shape 1 name d 0 (orElse lev 0) (orElse code 0) 1 0 [] [] [] [] l)
+  crd-shape u name lev code =
+      holder-shape t u 1 name _ (λ d. filing-shape 1 name d 0 (orElse lev 0) (orElse code 0) 1 0 [] [] [] [])
 
-  pub wrs-shape : (u : ℕ) (body : List ℕ) (life : ℕ) (lev code : Part) (name : Word) → length (lastName (chainOf name)) ≤ 10
-      → Shape false t (wrsPlan t u body life lev code name)
+  pub wrs-shape : (u : ℕ) (body : List ℕ) (life : ℕ) (lev code : Part) (name : Word) → Shape false t (wrsPlan boxed t u body life lev code name)
   unfolding wrsPlan
-  wrs-shape u body life lev code name l =
-      holder-shape t u 2 name _ (λ d. filing-shape 2 name d 1 (orElse lev 0) (orElse code 0) life (length body) body [] [] [] l)
+  wrs-shape u body life lev code name =
+      holder-shape t u 2 name _ (λ d. filing-shape 2 name d 1 (orElse lev 0) (orElse code 0) life (length body) body [] [] [])
 
-  pub cpy-shape : (v u : ℕ) (old new : Word) (life lev code : Part) → length (lastName (chainOf new)) ≤ 10
-      → Shape false t (cpyPlan t v u old new life lev code)
+  pub cpy-shape : (v u : ℕ) (old new : Word) (life lev code : Part) → Shape false t (cpyPlan boxed t v u old new life lev code)
   unfolding cpyPlan
-  cpy-shape v u old new life lev code l =
+  cpy-shape v u old new life lev code =
       end-shape false t v 1 old _ (λ _ f _. holder-shape t u 2 new _ (λ d.
       let source : List ℕ = rec t (file t f) in
       let body : List ℕ = fileText t (file t f) in
       filing-shape 2 new d 1 (orElse lev (level source)) (orElse code 0) (orElse life (lifetime source)) (length body) body
-      _ _ _ l))
+      _ _ _))
 
-  pub dup-shape : (v u : ℕ) (to : Begin) (old new : Word) (code : Part) → length (lastName (chainOf new)) ≤ 10
-      → Shape false t (dupPlan t v u to old new code)
+  pub dup-shape : (v u : ℕ) (to : Begin) (old new : Word) (code : Part) → Shape false t (dupPlan boxed t v u to old new code)
   unfolding dupPlan
-  dup-shape v u to old new code l =
+  dup-shape v u to old new code =
       end-shape false t v 1 old _ (λ _ f _. holder-shape t u 2 new _ (λ d.
-      making-shape (linking t f d new code) [] _ _ (λ _. tt) (length-entry _ (d .holder .heading) (file t f) (d .holder .user) (lastName (chainOf new)) l)
+      making-shape (linking boxed t f d new code) [] _ _ (λ _. tt) (length-entry _ (d .holder .heading) (file t f) (d .holder .user) (lastName (chainOf new)))
       (entry-record-kind _ (d .holder .heading) (file t f) (d .holder .user) (lastName (chainOf new)))))
 
-  pub chn-shape : (u : ℕ) (old link : Word) → length (lastName (link .names)) ≤ 10 → Shape false t (chnPlan t u old link)
+  pub chn-shape : (u : ℕ) (old link : Word) → Shape false t (chnPlan boxed t u old link)
   unfolding chnPlan
-  chn-shape u old link b =
+  chn-shape u old link =
       end-shape false t u 1 old _ (λ d f q _.
       let g = last-looked t d (chainOf old) f q in
       plain (
@@ -284,15 +281,15 @@ module _ (t : List ℕ) (c : Sound t) where
       front : (r : List ℕ) → length r ≡ 32 → length (take 9 r) ≡ 9
       front r s = length-take-le 9 r (omega arith)
 
-      length-renamed : (r : List ℕ) → length r ≡ 32 → length (renamed r name) ≡ 32
-      length-renamed r s = unfold renamed in name-total (take 9 r) name (front r s) b
+      length-renamed : (r : List ℕ) → length r ≡ 32 → length (renamed boxed r name) ≡ 32
+      length-renamed r s = unfold renamed in name-total (take 9 r) name (front r s)
 
-      kind-renamed : (r : List ℕ) → length r ≡ 32 → byte r 0 ≡ 2 → byte (renamed r name) 0 ≡ 2
+      kind-renamed : (r : List ℕ) → length r ≡ 32 → byte r 0 ≡ 2 → byte (renamed boxed r name) 0 ≡ 2
       kind-renamed r s k =
           unfold renamed in
-          List·getD-append (take 9 r) (nameField name) 0 0 (rw (front r s) (omega arith)) ∙ getD-take 9 r 0 0 (omega arith) ∙ k
+          List·getD-append (take 9 r) (nameField boxed name) 0 0 (rw (front r s) (omega arith)) ∙ getD-take 9 r 0 0 (omega arith) ∙ k
 
-  pub dpr-shape : (u : ℕ) (name : Word) (code : ℕ) → code ≤ 7 → Shape false t (dprPlan t u name code)
+  pub dpr-shape : (u : ℕ) (name : Word) (code : ℕ) → code ≤ 7 → Shape false t (dprPlan boxed t u name code)
   unfolding dprPlan applies
   dpr-shape u name code b =
       end-shape false t u 1 name _ (λ d f q v.
@@ -311,7 +308,7 @@ module _ (t : List ℕ) (c : Sound t) where
         tt,
       ))
 
-  pub del-shape : (u place : ℕ) (name : Word) → Shape false t (delPlan t u place name)
+  pub del-shape : (u place : ℕ) (name : Word) → Shape false t (delPlan boxed t u place name)
   unfolding delPlan
   del-shape u place name =
       end-shape false t u place name _ (λ d f q _.
@@ -351,7 +348,7 @@ module _ (t : List ℕ) (c : Sound t) where
           let q : ButCounts (rec n i) (x .bytes) = rw (l .holds .0) (but-recount n i (rec n i) (length-rec n i (l .within)) (l .holds .1 .0)) in
           record { within = b; size = l .size; holds = (y .0, inl (again (rw (y .1) at q))) }
 
-  pub dst-razes : (u place : ℕ) (name : Word) → Razes t (dstPlan t u place name)
+  pub dst-razes : (u place : ℕ) (name : Word) → Razes t (dstPlan boxed t u place name)
   unfolding dstPlan applies
   dst-razes u place name =
       end-by (Razes t) place (λ _ _ _. tt) t u name _ (λ d f _ q v.
@@ -366,35 +363,35 @@ module _ (t : List ℕ) (c : Sound t) where
         is = raze.stores-are t (file t f) c (g .heading);
       })
 
-  pub dst-shape : (u place : ℕ) (name : Word) → Shape true t (dstPlan t u place name)
-  dst-shape u place name = go (dstPlan t u place name) (dst-razes u place name)
+  pub dst-shape : (u place : ℕ) (name : Word) → Shape true t (dstPlan boxed t u place name)
+  dst-shape u place name = go (dstPlan boxed t u place name) (dst-razes u place name)
     where
       go : (x : Planned) → Razes t x → Shape true t x
       go (halted f) h = tt
       go (plan p) h = λ v. razing refl (h v)
 
-  pub rds-shape : (u : ℕ) (reply : List ℕ) (name : Word) (first count : Part) → Shape false t (rdsPlan t u reply name first count)
+  pub rds-shape : (u : ℕ) (reply : List ℕ) (name : Word) (first count : Part) → Shape false t (rdsPlan boxed t u reply name first count)
   unfolding rdsPlan
   rds-shape u reply name first count = end-shape false t u 1 name _ (λ d f _ _. plain tt)
 
-  pub lst-shape : (u : ℕ) (reply : List ℕ) (name : Word) → Shape false t (lstPlan t u reply name)
+  pub lst-shape : (u : ℕ) (reply : List ℕ) (name : Word) → Shape false t (lstPlan boxed t u reply name)
   unfolding lstPlan
   lst-shape u reply name = end-shape false t u 1 name _ (λ d f _ _. plain tt)
 
-  pub lst-base-shape : (u : ℕ) (reply : List ℕ) → Shape false t (lstBasePlan t u reply)
+  pub lst-base-shape : (u : ℕ) (reply : List ℕ) → Shape false t (lstBasePlan boxed t u reply)
   unfolding lstBasePlan
   lst-base-shape u reply _ = plain tt
 
-  pub lst-tree-shape : (u : ℕ) (reply : List ℕ) (name : Word) (depth : ℕ) → Shape false t (lstTreePlan t u reply name depth)
+  pub lst-tree-shape : (u : ℕ) (reply : List ℕ) (name : Word) (depth : ℕ) → Shape false t (lstTreePlan boxed t u reply name depth)
   unfolding lstTreePlan
   lst-tree-shape u reply name depth = end-shape false t u 1 name _ (λ d f _ _. plain tt)
 
-  pub lst-base-tree-shape : (u : ℕ) (reply : List ℕ) (depth : ℕ) → Shape false t (lstBaseTreePlan t u reply depth)
+  pub lst-base-tree-shape : (u : ℕ) (reply : List ℕ) (depth : ℕ) → Shape false t (lstBaseTreePlan boxed t u reply depth)
   unfolding lstBaseTreePlan
   lst-base-tree-shape u reply depth _ = plain tt
 
   -- a rewrite asks write of the joined code
-  writable : (d e : State) (name : Word) → toLast t d (chainOf name) ≡ reached e → noWrite (e .code) ≡ false
+  writable : (d e : State) (name : Word) → toLast boxed t d (chainOf name) ≡ reached e → noWrite (e .code) ≡ false
       → noWrite (headingCode (rec t (file t e))) ≡ false
   unfolding applies
   writable d e name q n =
@@ -402,8 +399,8 @@ module _ (t : List ℕ) (c : Sound t) where
       let w : noWrite (applies t (e .entry)) ≡ false = rw (g .looked .code) at n in
       own-code (headingCode (rec t (file t e))) (entryCode (rec t (e .entry))) (g .fields .code) (entry-code _ (g .own)) w
 
-  pub rewrite-shape : (u : ℕ) (body : List ℕ) (name : Word) → length body ≤ 24000 → Shape false t (rewritePlan t u body name)
-  rewrite-shape u body name short = go (rewritePlan t u body name) (rewrite-grants t c u body name short)
+  pub rewrite-shape : (u : ℕ) (body : List ℕ) (name : Word) → length body ≤ 24000 → Shape false t (rewritePlan boxed t u body name)
+  rewrite-shape u body name short = go (rewritePlan boxed t u body name) (rewrite-grants t c u body name short)
     where
       put : (h : ℕ) → Medium t h → noWrite (headingCode (rec t h)) ≡ false → (i : ℕ) (r : List ℕ) → Rewrites t h i r → Put t i r
       put h f w i r (head-again q mark n b z) = rewrites mark n b (rw q (f .kind)) (rw q w) (rw q z)

@@ -11,6 +11,7 @@ use lib.ListN.{length, take}
 use lib.Seq.{take-length}
 use borrow.Author.Tests.{eqb-true, not-false}
 use Rattle.paper.specs.Record.{byte, headingCode}
+use Rattle.paper.specs.Layout.{boxed}
 use Rattle.paper.specs.Table.{sized, rooms, rec}
 use Rattle.paper.specs.Line.{Word}
 use Rattle.paper.specs.Check.{Refusal, Verdict, passed, refused, verdict}
@@ -23,11 +24,9 @@ use Rattle.paper.specs.Mend.{mendStores, mended}
 use Rattle.paper.specs.Answer.{Outcome, refusing, ran, single, oneName, deleting, granted, entrance, acted, admitted, requested, mendable, mendRun, mending}
 use Rattle.laws.proofs.Tests.{truth, same-truth}
 use Rattle.laws.proofs.Lists.{every-take}
-use Rattle.laws.proofs.Entries.{link-short}
 use Rattle.laws.proofs.Runs.{length-run}
 use Rattle.demands.proofs.Sound.Clauses.{Sound, sound-clauses}
 use Rattle.demands.proofs.Sound.Right.{sound-right, right-sound}
-use Rattle.demands.proofs.Request.Formed.{named-last}
 use Rattle.demands.proofs.Request.Fair.{verdict-idle}
 use Rattle.demands.proofs.Request.Read.{Told, Right, read-right}
 use Rattle.demands.proofs.Request.Several.{Several, deletion, destruction, planOf}
@@ -118,58 +117,55 @@ module _ (h : ℕ) (t s text reply : List ℕ) (u j : ℕ) (v : Veil h t s) (c :
   by-plan : (x y : Planned) → Shape false t x → Same x y → Agree h (single t reply j (ran j x)) (single s reply j (ran j y))
   by-plan = single-agree h t s reply v c k n j
 
-  granted-agree : (r : Request) → Told text r → Agree h (granted t text reply u j r) (granted s text reply u j r)
+  granted-agree : (r : Request) → Told text r → Agree h (granted boxed t text reply u j r) (granted boxed s text reply u j r)
   unfolding granted
   granted-agree (crd name lev code) w =
-      let l = named-last name (w .name) .short in
-      by-plan (crdPlan t u name lev code) (crdPlan s u name lev code) (crd-shape t c u name lev code l) (crd-same h t s v c n u name lev code l)
+      by-plan (crdPlan boxed t u name lev code) (crdPlan boxed s u name lev code) (crd-shape t c u name lev code) (crd-same h t s v c n u name lev code)
   granted-agree (wrs life lev code name) w =
-      let l = named-last name (w .name) .short in
-      by-plan (wrsPlan t u text life lev code name) (wrsPlan s u text life lev code name)
-      (wrs-shape t c u text life lev code name l) (wrs-same h t s v c n u text life lev code name l)
+      by-plan (wrsPlan boxed t u text life lev code name) (wrsPlan boxed s u text life lev code name)
+      (wrs-shape t c u text life lev code name) (wrs-same h t s v c n u text life lev code name)
   granted-agree (rds from name first count) w =
       let a : ℕ = listOf u from in
       let b : Word = begun from name in
-      by-plan (rdsPlan t a reply b first count) (rdsPlan s a reply b first count) (rds-shape t c a reply b first count)
+      by-plan (rdsPlan boxed t a reply b first count) (rdsPlan boxed s a reply b first count) (rds-shape t c a reply b first count)
       (rds-same h t s v c n a reply b first count)
   granted-agree (cpy from old new life lev code) w =
-      let l = named-last new (w .new) .short in
       let a : ℕ = listOf u from in
       let b : Word = begun from old in
-      by-plan (cpyPlan t a u b new life lev code) (cpyPlan s a u b new life lev code)
-      (cpy-shape t c a u b new life lev code l) (cpy-same h t s v c n a u b new life lev code l)
+      by-plan (cpyPlan boxed t a u b new life lev code) (cpyPlan boxed s a u b new life lev code)
+      (cpy-shape t c a u b new life lev code) (cpy-same h t s v c n a u b new life lev code)
   granted-agree (dup from old to new code) w =
-      let l = named-last (begun to new) (w .new) .short in
       let a : ℕ = listOf u from in
       let b : Word = begun from old in
-      by-plan (dupPlan t a (listOf u to) to b (begun to new) code) (dupPlan s a (listOf u to) to b (begun to new) code)
-      (dup-shape t c a (listOf u to) to b (begun to new) code l) (dup-same h t s v c n a (listOf u to) to b (begun to new) code l)
+      by-plan (dupPlan boxed t a (listOf u to) to b (begun to new) code) (dupPlan boxed s a (listOf u to) to b (begun to new) code)
+      (dup-shape t c a (listOf u to) to b (begun to new) code) (dup-same h t s v c n a (listOf u to) to b (begun to new) code)
   granted-agree (chn old link) w =
-      by-plan (chnPlan t u old link) (chnPlan s u old link) (chn-shape t c u old link (link-short _ (w .link) .1)) (chn-same h t s v c n u old link)
+      by-plan (chnPlan boxed t u old link) (chnPlan boxed s u old link) (chn-shape t c u old link) (chn-same h t s v c n u old link)
   granted-agree (del names) w = del-agree deletion h names t s u reply j 0 0 c d (veiled v (λ _. n))
   granted-agree (dst names) w = del-agree destruction h names t s u reply j 0 0 c d (veiled v (λ _. n))
   granted-agree (dpr name code) w =
-      by-plan (dprPlan t u name code) (dprPlan s u name code) (dpr-shape t c u name code (w .code)) (dpr-same h t s v c n u name code)
+      by-plan (dprPlan boxed t u name code) (dprPlan boxed s u name code) (dpr-shape t c u name code (w .code)) (dpr-same h t s v c n u name code)
   granted-agree (lst from name) w =
       let a : ℕ = listOf u from in
       let b : Word = begun from name in
-      by-plan (lstPlan t a reply b) (lstPlan s a reply b) (lst-shape t c a reply b) (lst-same h t s v c n a reply b)
-  granted-agree lstBase w = by-plan (lstBasePlan t u reply) (lstBasePlan s u reply) (lst-base-shape t c u reply) (lst-base-same h t s v c n u reply)
+      by-plan (lstPlan boxed t a reply b) (lstPlan boxed s a reply b) (lst-shape t c a reply b) (lst-same h t s v c n a reply b)
+  granted-agree lstBase w = by-plan (lstBasePlan boxed t u reply) (lstBasePlan boxed s u reply) (lst-base-shape t c u reply) (lst-base-same h t s v c n u reply)
   granted-agree (lstTree from name depth) w =
       let a : ℕ = listOf u from in
       let b : Word = begun from name in
-      by-plan (lstTreePlan t a reply b depth) (lstTreePlan s a reply b depth) (lst-tree-shape t c a reply b depth)
+      by-plan (lstTreePlan boxed t a reply b depth) (lstTreePlan boxed s a reply b depth) (lst-tree-shape t c a reply b depth)
       (lst-tree-same h t s v c n a reply b depth)
   granted-agree (lstBaseTree depth) w =
-      by-plan (lstBaseTreePlan t u reply depth) (lstBaseTreePlan s u reply depth) (lst-base-tree-shape t c u reply depth)
+      by-plan (lstBaseTreePlan boxed t u reply depth) (lstBaseTreePlan boxed s u reply depth) (lst-base-tree-shape t c u reply depth)
       (lst-base-tree-same h t s v c n u reply depth)
   granted-agree (rewrite name) w =
-      by-plan (rewritePlan t u text name) (rewritePlan s u text name) (rewrite-shape t c u text name (w .text)) (rewrite-same h t s v c n u text name)
+      by-plan (rewritePlan boxed t u text name) (rewritePlan boxed s u text name)
+      (rewrite-shape t c u text name (w .text)) (rewrite-same h t s v c n u text name)
 
 -- ---- any table of a history
 
 -- nothing to clear: the table is its own end
-sound-end : (t : List ℕ) → Mendable t → mendStores t ≡ [] → sound t ≡ true
+sound-end : (t : List ℕ) → Mendable t → mendStores t ≡ [] → sound boxed t ≡ true
 unfolding mended run
 sound-end t m e = let z : mended t ≡ t = rw e in rw z at (right-sound (mended t) m .1)
 
@@ -182,13 +178,13 @@ module _ (h : ℕ) (t s : List ℕ) (v : Veil h t s) (m : Mendable t) (m₁ : Me
   sized-s = rw (v .long) sized-t
 
   -- both are sound, or neither
-  sound-veil : sound s ≡ sound t
+  sound-veil : sound boxed s ≡ sound boxed t
   sound-veil =
-      same-truth (sound s) (sound t)
+      same-truth (sound boxed s) (sound boxed t)
       (λ e. sound-end t m (sym (mend-veil h t s (mendable-whole t m) v) ∙ nothing-to-mend s (sound-keeps s (sound-right s sized-s e))))
       (λ e. sound-end s m₁ (mend-veil h t s (mendable-whole t m) v ∙ nothing-to-mend t (sound-keeps t (sound-right t sized-t e))))
 
-  entrance-veil : (u : ℕ) → entrance s u ≡ entrance t u
+  entrance-veil : (u : ℕ) → entrance boxed s u ≡ entrance boxed t u
   unfolding entrance
   entrance-veil u = rw (v .long, sound-veil)
 
@@ -198,25 +194,26 @@ module _ (h : ℕ) (t s : List ℕ) (v : Veil h t s) (m : Mendable t) (m₁ : Me
     refuse-agree reply f = record { answer = refl; reply = refl; tables = veiled v q }
 
     -- what was read, on sound tables
-    read-agree : (text reply : List ℕ) (u j : ℕ) → sound t ≡ true → (x : Read) → Right text x → Agree h (acted t text reply u j x) (acted s text reply u j x)
+    read-agree : (text reply : List ℕ) (u j : ℕ) → sound boxed t ≡ true → (x : Read) → Right text x
+        → Agree h (acted boxed t text reply u j x) (acted boxed s text reply u j x)
     read-agree text reply u j e (unread f) w = refuse-agree reply f
     read-agree text reply u j e (request r) w = go (truth (heads h t))
       where
         c : Sound t
         c = sound-clauses t sized-t e
 
-        go : (heads h t ≡ true) ⊎ (heads h t ≡ false) → Agree h (granted t text reply u j r) (granted s text reply u j r)
+        go : (heads h t ≡ true) ⊎ (heads h t ≡ false) → Agree h (granted boxed t text reply u j r) (granted boxed s text reply u j r)
         go (inl z) = granted-agree h t s text reply u j v c (sound-clauses s sized-s (sound-veil ∙ e)) (eqb-true _ _ z) (q z) r w
         go (inr z) = rw (gone-equal h t s v c z) (agree-refl h _)
 
-    request-agree : (line text reply : List ℕ) (u j : ℕ) → Agree h (requested t line text reply u j) (requested s line text reply u j)
+    request-agree : (line text reply : List ℕ) (u j : ℕ) → Agree h (requested boxed t line text reply u j) (requested boxed s line text reply u j)
     unfolding requested
-    request-agree line text reply u j = rw (entrance-veil u) (go (entrance t u) refl)
+    request-agree line text reply u j = rw (entrance-veil u) (go (entrance boxed t u) refl)
       where
-        go : (x : Verdict) → entrance t u ≡ x → Agree h (admitted t line text reply u j x) (admitted s line text reply u j x)
+        go : (x : Verdict) → entrance boxed t u ≡ x → Agree h (admitted boxed t line text reply u j x) (admitted boxed s line text reply u j x)
         go (refused f) e = refuse-agree reply f
         go passed e =
-            let i : sound t ≡ true = unfold entrance in not-false (sound t) (verdict-idle _ e .1 .0) in
+            let i : sound boxed t ≡ true = unfold entrance in not-false (sound boxed t) (verdict-idle _ e .1 .0) in
             read-agree text reply u j i (asked line text) (read-right line text)
 
     -- a mend makes the same stores on both, and every heading that is left keeps its code
@@ -237,15 +234,15 @@ module _ (h : ℕ) (t s : List ℕ) (v : Veil h t s) (m : Mendable t) (m₁ : Me
     all-cut : Hidden h (run t (mendStores t)) (run s (mendStores t))
     all-cut = rw (take-length (mendStores t)) at (cut-hidden (length (mendStores t)))
 
-    mends-t : mendable t ≡ passed
+    mends-t : mendable boxed t ≡ passed
     unfolding mendable verdict
     mends-t = rw (sized-t, right-sound (mended t) m .1)
 
-    mends-s : mendable s ≡ passed
+    mends-s : mendable boxed s ≡ passed
     unfolding mendable verdict
     mends-s = rw (sized-s, right-sound (mended s) m₁ .1)
 
-    mend-agree : (j : ℕ) → Agree h (mending t j) (mending s j)
+    mend-agree : (j : ℕ) → Agree h (mending boxed t j) (mending boxed s j)
     unfolding mending
     mend-agree j = rw (mends-t, mends-s, mend-veil h t s (mendable-whole t m) v) (go (truth (leb (length (mendStores t)) j)))
       where

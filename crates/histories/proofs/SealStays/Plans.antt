@@ -10,6 +10,7 @@ use native.Mathlib.Decide.{ℕ-discrete}
 use lib.ListN.{length}
 use Rattle.paper.specs.Scan.{Found, at, nowhere, allBelow}
 use Rattle.paper.specs.Record.{byte, level, headingCode, lifetime, entryCode, names, rewritten, blank}
+use Rattle.paper.specs.Layout.{boxed}
 use Rattle.paper.specs.Table.{rooms, rec, room}
 use Rattle.paper.specs.Declaration.{Part, orElse}
 use Rattle.paper.specs.Line.{Word}
@@ -60,26 +61,27 @@ module _ (h : ℕ) (t s : List ℕ) (v : Veil h t s) (c : Sound t) (seal : noRea
   -- ---- walks
 
   holder-same : (u place : ℕ) (w : Word) (f g : State → Planned)
-      → ((d : State) → toDirectory t 1 (start u) (chainOf w) ≡ reached d → Same (f d) (g d)) → Same (toHolder t u place w f) (toHolder s u place w g)
+      → ((d : State) → toDirectory boxed t 1 (start u) (chainOf w) ≡ reached d → Same (f d) (g d))
+      → Same (toHolder boxed t u place w f) (toHolder boxed s u place w g)
   holder-same u place w f g r =
-      rw (to-directory-veil h t s v 1 (start u) (chainOf w)) (go (toDirectory t 1 (start u) (chainOf w)) refl)
+      rw (to-directory-veil h t s v 1 (start u) (chainOf w)) (go (toDirectory boxed t 1 (start u) (chainOf w)) refl)
     where
-      go : (x : Walked) → toDirectory t 1 (start u) (chainOf w) ≡ x → Same (onward place x f) (onward place x g)
+      go : (x : Walked) → toDirectory boxed t 1 (start u) (chainOf w) ≡ x → Same (onward place x f) (onward place x g)
       go (reached d) e = r d e
       go (stopped n link) e = one refl
 
   end-same : (u place : ℕ) (w : Word) (f g : State → State → Planned)
-      → ((d e : State) → Reached t d (lastName (chainOf w)) e → Same (f d e) (g d e)) → Same (toEnd t u place w f) (toEnd s u place w g)
+      → ((d e : State) → Reached t d (lastName (chainOf w)) e → Same (f d e) (g d e)) → Same (toEnd boxed t u place w f) (toEnd boxed s u place w g)
   unfolding ended
   end-same u place w f g r =
-      rw (to-directory-veil h t s v 1 (start u) (chainOf w)) (go (toDirectory t 1 (start u) (chainOf w)))
+      rw (to-directory-veil h t s v 1 (start u) (chainOf w)) (go (toDirectory boxed t 1 (start u) (chainOf w)))
     where
-      last : (d : State) (x : Walked) → toLast t d (chainOf w) ≡ x → Same (inward place (lastFrom d x) f) (inward place (lastFrom d x) g)
+      last : (d : State) (x : Walked) → toLast boxed t d (chainOf w) ≡ x → Same (inward place (lastFrom d x) f) (inward place (lastFrom d x) g)
       last d (reached e) q = r d e (walk-reached 65535 t c d (chainOf w) e q)
       last d (stopped n link) q = one refl
 
-      go : (x : Walked) → Same (inward place (endFrom t (chainOf w) x) f) (inward place (endFrom s (chainOf w) x) g)
-      go (reached d) = rw (to-last-veil h t s v d (chainOf w)) (last d (toLast t d (chainOf w)) refl)
+      go : (x : Walked) → Same (inward place (endFrom boxed t (chainOf w) x) f) (inward place (endFrom boxed s (chainOf w) x) g)
+      go (reached d) = rw (to-last-veil h t s v d (chainOf w)) (last d (toLast boxed t d (chainOf w)) refl)
       go (stopped n link) = one refl
 
   -- what a walk to a file ends at is the same
@@ -109,24 +111,24 @@ module _ (h : ℕ) (t s : List ℕ) (v : Veil h t s) (c : Sound t) (seal : noRea
     counted-same : (e : ℕ) → withCounts s (m .first ++ puts e (m .entry) ∷ []) ≡ withCounts t (m .first ++ puts e (m .entry) ∷ [])
     counted-same e = rw (counts-veil h t s (c .whole) v (m .first ++ puts e (m .entry) ∷ []) (every-append Fits (m .first) _ fits (size, tt)))
 
-    kind-at : (e : ℕ) → borne t m ≡ at e → (e < rooms t) × (byte (rec t e) 0 ≡ 2)
+    kind-at : (e : ℕ) → borne boxed t m ≡ at e → (e < rooms t) × (byte (rec t e) 0 ≡ 2)
     kind-at e q = let f = found-stands t (m .directory .holder) (m .name) e q in (f .0, f .1 .kind)
 
-    displaced-same : displacing s (borne t m) (m .entry) ≡ displacing t (borne t m) (m .entry)
-    displaced-same = go (borne t m) refl
+    displaced-same : displacing s (borne boxed t m) (m .entry) ≡ displacing t (borne boxed t m) (m .entry)
+    displaced-same = go (borne boxed t m) refl
       where
-        go : (x : Found) → borne t m ≡ x → displacing s x (m .entry) ≡ displacing t x (m .entry)
+        go : (x : Found) → borne boxed t m ≡ x → displacing s x (m .entry) ≡ displacing t x (m .entry)
         go (at e) q = let k = kind-at e q in losing-veil h t s v c e (m .entry) (k .0) (k .1) size
         go nowhere q = refl
 
-    placing-same : placing s m (borne t m) ≡ placing t m (borne t m)
-    placing-same = go (borne t m) refl
+    placing-same : placing s m (borne boxed t m) ≡ placing t m (borne boxed t m)
+    placing-same = go (borne boxed t m) refl
       where
-        go : (x : Found) → borne t m ≡ x → placing s m x ≡ placing t m x
+        go : (x : Found) → borne boxed t m ≡ x → placing s m x ≡ placing t m x
         go (at e) q = let k = kind-at e q in rw (settled-veil h t s v c e (m .entry) (k .0) (k .1) size, counted-same e)
         go nowhere q = rw (room-same (length (m .first)), counted-same (room t (length (m .first))))
 
-    making-same : (a b e : List Check) → making s m a b e ≡ making t m a b e
+    making-same : (a b e : List Check) → making boxed s m a b e ≡ making boxed t m a b e
     unfolding making
     making-same a b e =
         rw (find-veil h t s v (m .directory .holder) (m .name), displaced-same, placing-same, full-veil h t s v (m .directory .holder), frees-veil h t s v)
@@ -135,51 +137,52 @@ module _ (h : ℕ) (t s : List ℕ) (v : Veil h t s) (c : Sound t) (seal : noRea
   unfolding newFile
   file-made head body = rw (frees-veil h t s v, rooms-veil h t s v)
 
-  -- a new file under a name that fits its field
+  -- a new file and its entry
   filing-same : (place : ℕ) (w : Word) (d : State) (code : ℕ) (head body : List ℕ) (a b e : List Check) → length head ≡ 32
-      → length (lastName (chainOf w)) ≤ 10 → making s (filing s place w d code head body) a b e ≡ making t (filing t place w d code head body) a b e
-  filing-same place w d code head body a b e n l =
+      → making boxed s (filing boxed s place w d code head body) a b e ≡ making boxed t (filing boxed t place w d code head body) a b e
+  filing-same place w d code head body a b e n =
       rw (file-made head body, room-same 0)
-      (making-same (filing t place w d code head body) (file-fits t head body n)
-      (length-entry code (d .holder .heading) (room t 0) (d .holder .user) (lastName (chainOf w)) l) a b e)
+      (making-same (filing boxed t place w d code head body) (file-fits t head body n)
+      (length-entry code (d .holder .heading) (room t 0) (d .holder .user) (lastName (chainOf w))) a b e)
 
   -- ---- each function
 
-  pub crd-same : (u : ℕ) (name : Word) (lev code : Part) → length (lastName (chainOf name)) ≤ 10 → Same (crdPlan t u name lev code) (crdPlan s u name lev code)
+  pub crd-same : (u : ℕ) (name : Word) (lev code : Part)
+      → Same (crdPlan boxed t u name lev code) (crdPlan boxed s u name lev code)
   unfolding crdPlan
-  crd-same u name lev code l = holder-same u 1 name _ _ (λ d _. one (filing-same 1 name d (orElse code 0) _ [] [] [] []
-      (length-heading 0 (orElse lev 0) (orElse code 0) 1 0) l))
+  crd-same u name lev code = holder-same u 1 name _ _ (λ d _. one (filing-same 1 name d (orElse code 0) _ [] [] [] []
+      (length-heading 0 (orElse lev 0) (orElse code 0) 1 0)))
 
-  pub wrs-same : (u : ℕ) (body : List ℕ) (life : ℕ) (lev code : Part) (name : Word) → length (lastName (chainOf name)) ≤ 10
-      → Same (wrsPlan t u body life lev code name) (wrsPlan s u body life lev code name)
+  pub wrs-same : (u : ℕ) (body : List ℕ) (life : ℕ) (lev code : Part) (name : Word)
+      → Same (wrsPlan boxed t u body life lev code name) (wrsPlan boxed s u body life lev code name)
   unfolding wrsPlan
-  wrs-same u body life lev code name l = holder-same u 2 name _ _ (λ d _. one (filing-same 2 name d (orElse code 0) _ body [] [] []
-      (length-heading 1 (orElse lev 0) (orElse code 0) life (length body)) l))
+  wrs-same u body life lev code name = holder-same u 2 name _ _ (λ d _. one (filing-same 2 name d (orElse code 0) _ body [] [] []
+      (length-heading 1 (orElse lev 0) (orElse code 0) life (length body))))
 
   -- a give's 16
-  taken-same : (to : Begin) (m : Making) → linkTaken s to m ≡ linkTaken t to m
+  taken-same : (to : Begin) (m : Making) → linkTaken boxed s to m ≡ linkTaken boxed t to m
   taken-same own m = refl
   taken-same (takeOf n) m = refl
   taken-same (giveTo n) m = rw (find-veil h t s v (m .directory .holder) (m .name))
 
-  pub dup-same : (a u : ℕ) (to : Begin) (old new : Word) (code : Part) → length (lastName (chainOf new)) ≤ 10
-      → Same (dupPlan t a u to old new code) (dupPlan s a u to old new code)
+  pub dup-same : (a u : ℕ) (to : Begin) (old new : Word) (code : Part)
+      → Same (dupPlan boxed t a u to old new code) (dupPlan boxed s a u to old new code)
   unfolding dupPlan
-  dup-same a u to old new code l =
+  dup-same a u to old new code =
       end-same a 1 old _ _ (λ o f r. holder-same u 2 new _ _ (λ d _.
-      one (rw (entry-same o f _ r, taken-same to (linking t f d new code))
-      (making-same _ tt (length-entry _ (d .holder .heading) (file t f) (d .holder .user) (lastName (chainOf new)) l) [] _ []))))
+      one (rw (entry-same o f _ r, taken-same to (linking boxed t f d new code))
+      (making-same _ tt (length-entry _ (d .holder .heading) (file t f) (d .holder .user) (lastName (chainOf new))) [] _ []))))
 
-  pub chn-same : (u : ℕ) (old link : Word) → Same (chnPlan t u old link) (chnPlan s u old link)
+  pub chn-same : (u : ℕ) (old link : Word) → Same (chnPlan boxed t u old link) (chnPlan boxed s u old link)
   unfolding chnPlan
   chn-same u old link =
       end-same u 1 old _ _ (λ d f r. one (rw (find-veil h t s v (d .holder) (lastName (link .names)), entry-same d f _ r)))
 
-  pub dpr-same : (u : ℕ) (name : Word) (code : ℕ) → Same (dprPlan t u name code) (dprPlan s u name code)
+  pub dpr-same : (u : ℕ) (name : Word) (code : ℕ) → Same (dprPlan boxed t u name code) (dprPlan boxed s u name code)
   unfolding dprPlan
   dpr-same u name code = end-same u 1 name _ _ (λ d f r. one (rw (file-same f, heading-same d f _ r)))
 
-  pub del-same : (u place : ℕ) (name : Word) → Same (delPlan t u place name) (delPlan s u place name)
+  pub del-same : (u place : ℕ) (name : Word) → Same (delPlan boxed t u place name) (delPlan boxed s u place name)
   unfolding delPlan
   del-same u place name =
       end-same u place name _ _ (λ d f r.
@@ -191,7 +194,7 @@ module _ (h : ℕ) (t s : List ℕ) (v : Veil h t s) (c : Sound t) (seal : noRea
         counts-veil h t s (c .whole) v (clear (f .entry) ∷ []) (length-blank, tt),
       )))
 
-  pub dst-same : (u place : ℕ) (name : Word) → Same (dstPlan t u place name) (dstPlan s u place name)
+  pub dst-same : (u place : ℕ) (name : Word) → Same (dstPlan boxed t u place name) (dstPlan boxed s u place name)
   unfolding dstPlan
   dst-same u place name =
       end-same u place name _ _ (λ d f r.
@@ -223,21 +226,22 @@ module _ (h : ℕ) (t s : List ℕ) (v : Veil h t s) (c : Sound t) (seal : noRea
   named-same deletion = del-same
   named-same destruction = dst-same
 
-  pub lst-same : (u : ℕ) (reply : List ℕ) (name : Word) → Same (lstPlan t u reply name) (lstPlan s u reply name)
+  pub lst-same : (u : ℕ) (reply : List ℕ) (name : Word) → Same (lstPlan boxed t u reply name) (lstPlan boxed s u reply name)
   unfolding lstPlan
   lst-same u reply name =
       end-same u 1 name _ _ (λ d f r. one (rw (file-same f, directory-veil h t s v (file t f), directory-lines-veil h t s v (file t f))))
 
-  pub lst-base-same : (u : ℕ) (reply : List ℕ) → Same (lstBasePlan t u reply) (lstBasePlan s u reply)
+  pub lst-base-same : (u : ℕ) (reply : List ℕ) → Same (lstBasePlan boxed t u reply) (lstBasePlan boxed s u reply)
   unfolding lstBasePlan
   lst-base-same u reply = one (rw (base-lines-veil h t s v u))
 
-  pub lst-tree-same : (u : ℕ) (reply : List ℕ) (name : Word) (depth : ℕ) → Same (lstTreePlan t u reply name depth) (lstTreePlan s u reply name depth)
+  pub lst-tree-same : (u : ℕ) (reply : List ℕ) (name : Word) (depth : ℕ)
+      → Same (lstTreePlan boxed t u reply name depth) (lstTreePlan boxed s u reply name depth)
   unfolding lstTreePlan
   lst-tree-same u reply name depth =
       end-same u 1 name _ _ (λ d f r. one (rw (file-same f, directory-veil h t s v (file t f), directory-tree-veil h t s v depth (file t f))))
 
-  pub lst-base-tree-same : (u : ℕ) (reply : List ℕ) (depth : ℕ) → Same (lstBaseTreePlan t u reply depth) (lstBaseTreePlan s u reply depth)
+  pub lst-base-tree-same : (u : ℕ) (reply : List ℕ) (depth : ℕ) → Same (lstBaseTreePlan boxed t u reply depth) (lstBaseTreePlan boxed s u reply depth)
   unfolding lstBaseTreePlan
   lst-base-tree-same u reply depth = one (rw (base-tree-veil h t s v depth u))
 
@@ -248,7 +252,7 @@ module _ (h : ℕ) (t s : List ℕ) (v : Veil h t s) (c : Sound t) (seal : noRea
   thirteen p f rest e = rw e
 
   pub rds-same : (u : ℕ) (reply : List ℕ) (name : Word) (first count : Part)
-      → Same (rdsPlan t u reply name first count) (rdsPlan s u reply name first count)
+      → Same (rdsPlan boxed t u reply name first count) (rdsPlan boxed s u reply name first count)
   unfolding rdsPlan
   rds-same u reply name first count =
       end-same u 1 name _ _ (λ d f r. by-cases (ℕ-discrete (file t f) h)
@@ -259,14 +263,14 @@ module _ (h : ℕ) (t s : List ℕ) (v : Veil h t s) (c : Sound t) (seal : noRea
 
   -- a plan whose first check is that of reading
   refused-making : (m : Making) (p : Place) (f : State) (a b e : List Check) (x : List ℕ) → noRead (f .code) ≡ true
-      → Refused (making x m (readInhibited p f ∷ a) b e) (no-reading p)
+      → Refused (making boxed x m (readInhibited p f ∷ a) b e) (no-reading p)
   unfolding making
   refused-making m p f a b e x z = checked _ refl (thirteen p f _ z)
 
-  pub cpy-same : (a u : ℕ) (old new : Word) (life lev code : Part) → length (lastName (chainOf new)) ≤ 10
-      → Same (cpyPlan t a u old new life lev code) (cpyPlan s a u old new life lev code)
+  pub cpy-same : (a u : ℕ) (old new : Word) (life lev code : Part)
+      → Same (cpyPlan boxed t a u old new life lev code) (cpyPlan boxed s a u old new life lev code)
   unfolding cpyPlan
-  cpy-same a u old new life lev code l =
+  cpy-same a u old new life lev code =
       end-same a 1 old _ _ (λ o f r. holder-same u 2 new _ _ (λ d _. by-cases (ℕ-discrete (file t f) h)
       (λ (q : file t f ≡ h).
       let z = sealed o f _ r q in
@@ -276,7 +280,7 @@ module _ (h : ℕ) (t s : List ℕ) (v : Veil h t s) (c : Sound t) (seal : noRea
       (let source : List ℕ = rec t (file t f) in
       let body : List ℕ = fileText t (file t f) in
       filing-same 2 new d (orElse code 0) _ body _ _ _
-      (length-heading 1 (orElse lev (level source)) (orElse code 0) (orElse life (lifetime source)) (length body)) l)))))
+      (length-heading 1 (orElse lev (level source)) (orElse code 0) (orElse life (lifetime source)) (length body)))))))
 
   -- a file emptied: the same records cleared, whatever they hold
   emptying-same : (g : ℕ) → byte (rec t g) 0 ≡ 1 → rec s g ≡ rec t g → emptying s g ≡ emptying t g
@@ -299,7 +303,7 @@ module _ (h : ℕ) (t s : List ℕ) (v : Veil h t s) (c : Sound t) (seal : noRea
   laying-same g k body = rw (frees-veil h _ _ (emptied-veil g k), rooms-veil h _ _ (emptied-veil g k))
 
   -- a rewrite: the same records cleared and laid
-  pub rewrite-same : (u : ℕ) (body : List ℕ) (name : Word) → Same (rewritePlan t u body name) (rewritePlan s u body name)
+  pub rewrite-same : (u : ℕ) (body : List ℕ) (name : Word) → Same (rewritePlan boxed t u body name) (rewritePlan boxed s u body name)
   unfolding rewritePlan
   rewrite-same u body name =
       end-same u 2 name _ _ (λ d f r.

@@ -13,6 +13,7 @@ use borrow.Author.Tests.{eqb-true}
 use Rattle.paper.specs.Number.{numberAt}
 use Rattle.paper.specs.Scan.{Found, at, nowhere, firstBelow, listBelow}
 use Rattle.paper.specs.Record.{byte, isKind, headingNamed, headingOf, directory, simple, names, textAt}
+use Rattle.paper.specs.Layout.{boxed}
 use Rattle.paper.specs.Table.{rooms, rec, lay, frees, place, textRoom}
 use Rattle.paper.specs.Entry.{Holder, stands, bears, find, crowd, full, named, inDirectory, peopled}
 use Rattle.paper.specs.Store.{Store, puts, fills, clears, run}
@@ -109,16 +110,16 @@ module _ (h : ℕ) (t s : List ℕ) (v : Veil h t s) where
   unfolding stands
   stands-veil d = test-veil (stands d) (λ r k. rw k)
 
-  pub bears-veil : (d : Holder) (n : List ℕ) (i : ℕ) → bears d n (rec s i) ≡ bears d n (rec t i)
+  pub bears-veil : (d : Holder) (n : List ℕ) (i : ℕ) → bears boxed d n (rec s i) ≡ bears boxed d n (rec t i)
   unfolding bears stands
-  bears-veil d n = test-veil (bears d n) (λ r k. rw k)
+  bears-veil d n = test-veil (bears boxed d n) (λ r k. rw k)
 
   pub names-veil : (g i : ℕ) → names g (rec s i) ≡ names g (rec t i)
   names-veil g = test-veil (names g) (λ r k. rw k)
 
   -- ---- scans
 
-  pub find-veil : (d : Holder) (n : List ℕ) → find s d n ≡ find t d n
+  pub find-veil : (d : Holder) (n : List ℕ) → find boxed s d n ≡ find boxed t d n
   unfolding find
   find-veil d n = rw rooms-veil (first-cong _ _ (rooms t) (λ i _. bears-veil d n i))
 

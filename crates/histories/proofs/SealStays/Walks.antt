@@ -8,7 +8,8 @@ use Prim.Native.Nat.{ℕ, zero, suc, _+_, _<_}
 use native.Mathlib.Omega.{arith}
 use lib.ListN.{length}
 use Rattle.paper.specs.Scan.{Found, at, nowhere, firstBelow, listBelow}
-use Rattle.paper.specs.Record.{byte, headingNamed, headingOf, nameOf, textAt, held}
+use Rattle.paper.specs.Record.{byte, headingNamed, headingOf, textAt, held}
+use Rattle.paper.specs.Layout.{nameOf, boxed}
 use Rattle.paper.specs.Table.{rooms, rec, lay, place, textRoom}
 use Rattle.paper.specs.Name.{same, dotW, before}
 use Rattle.paper.specs.Entry.{Holder, stands, find, inDirectory, baseList}
@@ -33,9 +34,9 @@ module _ (h : ℕ) (t s : List ℕ) (v : Veil h t s) where
   unfolding applies
   applies-veil e = rw (named-veil h t s v e, byte-veil h t s v (headingNamed (rec t e)) 3 (omega arith), byte-veil h t s v e 1 (omega arith))
 
-  look-veil : (d : State) (n : List ℕ) → look s d n ≡ look t d n
+  look-veil : (d : State) (n : List ℕ) → look boxed s d n ≡ look boxed t d n
   unfolding look
-  look-veil d n = rw (find-veil h t s v (d .holder) n) (go (find t (d .holder) n))
+  look-veil d n = rw (find-veil h t s v (d .holder) n) (go (find boxed t (d .holder) n))
     where
       go : (x : Found) → looked s d x ≡ looked t d x
       go (at e) = rw (applies-veil e)
@@ -45,18 +46,18 @@ module _ (h : ℕ) (t s : List ℕ) (v : Veil h t s) where
   unfolding enter
   enter-veil d = rw (named-veil h t s v (d .entry), directory-veil h t s v (file t d))
 
-  follow-veil : (d : State) (n : List ℕ) → follow s d n ≡ follow t d n
+  follow-veil : (d : State) (n : List ℕ) → follow boxed s d n ≡ follow boxed t d n
   unfolding follow
-  follow-veil d n = rw (look-veil d n) (go (look t d n))
+  follow-veil d n = rw (look-veil d n) (go (look boxed t d n))
     where
       go : (x : Step) → then x (enter s) ≡ then x (enter t)
       go (on y) = enter-veil y
       go (off number) = refl
 
-  pub to-directory-veil : (k : ℕ) (d : State) (ns : List (List ℕ)) → toDirectory s k d ns ≡ toDirectory t k d ns
+  pub to-directory-veil : (k : ℕ) (d : State) (ns : List (List ℕ)) → toDirectory boxed s k d ns ≡ toDirectory boxed t k d ns
   to-directory-veil = directory-same t s look-veil follow-veil
 
-  pub to-last-veil : (d : State) (ns : List (List ℕ)) → toLast s d ns ≡ toLast t d ns
+  pub to-last-veil : (d : State) (ns : List (List ℕ)) → toLast boxed s d ns ≡ toLast boxed t d ns
   to-last-veil = last-same t s look-veil follow-veil
 
   -- ---- an entry laid or cleared, and its file
@@ -106,36 +107,37 @@ module _ (h : ℕ) (t s : List ℕ) (v : Veil h t s) where
   entry-veil : (e : ℕ) → byte (rec t e) 0 ≡ 2 → rec s e ≡ rec t e
   entry-veil e k = rec-veil h t s v e (λ (z : byte (rec t e) 0 ≡ 3). omega arith)
 
-  insert-veil : (e : ℕ) (es : List ℕ) → byte (rec t e) 0 ≡ 2 → Entries es → insert s e es ≡ insert t e es
+  insert-veil : (e : ℕ) (es : List ℕ) → byte (rec t e) 0 ≡ 2 → Entries es → insert boxed s e es ≡ insert boxed t e es
   unfolding insert
   insert-veil e [] k q = refl
   insert-veil e (i ∷ es) k q = rw (entry-veil e k, entry-veil i (q .0), insert-veil e es k (q .1))
 
-  entries-insert : (e : ℕ) (es : List ℕ) → byte (rec t e) 0 ≡ 2 → Entries es → Entries (insert t e es)
+  entries-insert : (e : ℕ) (es : List ℕ) → byte (rec t e) 0 ≡ 2 → Entries es → Entries (insert boxed t e es)
   unfolding insert
   entries-insert e [] k q = (k, tt)
-  entries-insert e (i ∷ es) k q = either Entries (before (nameOf (rec t e)) (nameOf (rec t i))) _ _ (k, q) (q .0, entries-insert e es k (q .1))
+  entries-insert e (i ∷ es) k q = either Entries (before (nameOf boxed (rec t e)) (nameOf boxed (rec t i))) _ _ (k, q) (q .0, entries-insert e es k (q .1))
 
-  order-veil : (es : List ℕ) → Entries es → (inOrder s es ≡ inOrder t es) × Entries (inOrder t es)
+  order-veil : (es : List ℕ) → Entries es → (inOrder boxed s es ≡ inOrder boxed t es) × Entries (inOrder boxed t es)
   unfolding inOrder
   order-veil [] q = (refl, tt)
   order-veil (e ∷ es) q =
       let r = order-veil es (q .1) in
-      (rw (r .0) (insert-veil e (inOrder t es) (q .0) (r .1)), entries-insert e (inOrder t es) (q .0) (r .1))
+      (rw (r .0) (insert-veil e (inOrder boxed t es) (q .0) (r .1)), entries-insert e (inOrder boxed t es) (q .0) (r .1))
 
-  line-veil : (e : ℕ) → byte (rec t e) 0 ≡ 2 → lineOf s e ≡ lineOf t e
+  line-veil : (e : ℕ) → byte (rec t e) 0 ≡ 2 → lineOf boxed s e ≡ lineOf boxed t e
   unfolding line
   line-veil e k =
       let g : ℕ = headingNamed (rec t e) in
       rw (entry-veil e k, byte-veil h t s v g 1 (omega arith), byte-veil h t s v g 2 (omega arith), byte-veil h t s v g 4 (omega arith))
 
-  lines-veil : (es : List ℕ) → Entries es → lines s es ≡ lines t es
+  lines-veil : (es : List ℕ) → Entries es → lines boxed s es ≡ lines boxed t es
   unfolding lines
   lines-veil [] q = refl
   lines-veil (e ∷ es) q = rw (line-veil e (q .0), lines-veil es (q .1))
 
   -- the entries that pass a test which text does not
-  listed-veil : (test : List ℕ → Bool) → ((r : List ℕ) → test r ≡ true → byte r 0 ≡ 2) → (listed s test ≡ listed t test) × Entries (listed t test)
+  listed-veil : (test : List ℕ → Bool) → ((r : List ℕ) → test r ≡ true → byte r 0 ≡ 2)
+      → (listed boxed s test ≡ listed boxed t test) × Entries (listed boxed t test)
   unfolding listed
   listed-veil test k =
       let e : listBelow (λ i. test (rec s i)) (rooms s) ≡ listBelow (λ i. test (rec t i)) (rooms t) =
@@ -152,20 +154,21 @@ module _ (h : ℕ) (t s : List ℕ) (v : Veil h t s) where
       no-text : (r : List ℕ) → byte r 0 ≡ 3 → test r ≡ false
       no-text r q = false-by (test r) (λ x. omega (arith, k r x))
 
-  listed-lines : (test : List ℕ → Bool) → ((r : List ℕ) → test r ≡ true → byte r 0 ≡ 2) → lines s (listed s test) ≡ lines t (listed t test)
-  listed-lines test k = let o = listed-veil test k in rw (o .0) (lines-veil (listed t test) (o .1))
+  listed-lines : (test : List ℕ → Bool) → ((r : List ℕ) → test r ≡ true → byte r 0 ≡ 2)
+      → lines boxed s (listed boxed s test) ≡ lines boxed t (listed boxed t test)
+  listed-lines test k = let o = listed-veil test k in rw (o .0) (lines-veil (listed boxed t test) (o .1))
 
   stands-entry : (d : Holder) (r : List ℕ) → stands d r ≡ true → byte r 0 ≡ 2
   stands-entry d r x = stands-true d r x .kind
 
-  notW-entry : (u : ℕ) (r : List ℕ) → (stands (baseList u) r && not (same dotW (nameOf r))) ≡ true → byte r 0 ≡ 2
+  notW-entry : (u : ℕ) (r : List ℕ) → (stands (baseList u) r && not (same dotW (nameOf boxed r))) ≡ true → byte r 0 ≡ 2
   notW-entry u r x = stands-entry (baseList u) r (and-left (stands (baseList u) r) _ x)
 
-  pub directory-lines-veil : (g : ℕ) → directoryLines s g ≡ directoryLines t g
+  pub directory-lines-veil : (g : ℕ) → directoryLines boxed s g ≡ directoryLines boxed t g
   directory-lines-veil g = listed-lines (stands (inDirectory g)) (stands-entry (inDirectory g))
 
-  pub base-lines-veil : (u : ℕ) → baseLines s u ≡ baseLines t u
-  base-lines-veil u = listed-lines (λ r. stands (baseList u) r && not (same dotW (nameOf r))) (notW-entry u)
+  pub base-lines-veil : (u : ℕ) → baseLines boxed s u ≡ baseLines boxed t u
+  base-lines-veil u = listed-lines (λ r. stands (baseList u) r && not (same dotW (nameOf boxed r))) (notW-entry u)
 
   -- ---- the tree
 
@@ -174,22 +177,23 @@ module _ (h : ℕ) (t s : List ℕ) (v : Veil h t s) where
   opens-veil e = rw (named-veil h t s v e, directory-veil h t s v (headingNamed (rec t e)), applies-veil e)
 
   by-veil : (f g : ℕ → List ℕ) (blanks : ℕ) → ((i : ℕ) → f i ≡ g i) → (es : List ℕ) → Entries es
-      → linesBy (entryBy f s blanks) es ≡ linesBy (entryBy g t blanks) es
+      → linesBy (entryBy boxed f s blanks) es ≡ linesBy (entryBy boxed g t blanks) es
   unfolding linesBy entryBy
   by-veil f g blanks x [] q = refl
   by-veil f g blanks x (e ∷ es) q =
       rw (line-veil e (q .0), opens-veil e, named-veil h t s v e, x (headingNamed (rec t e)), by-veil f g blanks x es (q .1))
 
-  tree-veil : (depth blanks : ℕ) (test : List ℕ → Bool) → ((r : List ℕ) → test r ≡ true → byte r 0 ≡ 2) → tree s depth blanks test ≡ tree t depth blanks test
+  tree-veil : (depth blanks : ℕ) (test : List ℕ → Bool) → ((r : List ℕ) → test r ≡ true → byte r 0 ≡ 2)
+      → tree boxed s depth blanks test ≡ tree boxed t depth blanks test
   unfolding tree
   tree-veil zero blanks test k = refl
   tree-veil (suc depth) blanks test k =
       let o = listed-veil test k in
       rw (o .0)
-      (by-veil _ _ blanks (λ g. tree-veil depth (blanks + 2) (stands (inDirectory g)) (stands-entry (inDirectory g))) (listed t test) (o .1))
+      (by-veil _ _ blanks (λ g. tree-veil depth (blanks + 2) (stands (inDirectory g)) (stands-entry (inDirectory g))) (listed boxed t test) (o .1))
 
-  pub directory-tree-veil : (depth g : ℕ) → directoryTree s depth 0 g ≡ directoryTree t depth 0 g
+  pub directory-tree-veil : (depth g : ℕ) → directoryTree boxed s depth 0 g ≡ directoryTree boxed t depth 0 g
   directory-tree-veil depth g = tree-veil depth 0 (stands (inDirectory g)) (stands-entry (inDirectory g))
 
-  pub base-tree-veil : (depth u : ℕ) → baseTree s depth u ≡ baseTree t depth u
-  base-tree-veil depth u = tree-veil depth 0 (λ r. stands (baseList u) r && not (same dotW (nameOf r))) (notW-entry u)
+  pub base-tree-veil : (depth u : ℕ) → baseTree boxed s depth u ≡ baseTree boxed t depth u
+  base-tree-veil depth u = tree-veil depth 0 (λ r. stands (baseList u) r && not (same dotW (nameOf boxed r))) (notW-entry u)

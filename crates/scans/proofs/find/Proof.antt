@@ -1,82 +1,44 @@
--- No record below i bears the name there: so the first that does is the one found,
--- and none is where the scan comes to the end.
-use mathlib.Core.Bool.{Bool, false}
-use mathlib.Core.Path.{_≡_, sym, ap, _∙_}
-use Prim.Native.Nat.{ℕ, _-_, _≤_}
-use native.Mathlib.Omega.{arith}
+-- A name that comes back from its number is that number's name, and is looked for by it;
+-- another is borne by no entry.
+use mathlib.Core.List.{List}
+use mathlib.Core.Path.{sym, ap, _∙_}
+use Prim.Native.Nat.{ℕ}
 use borrow.Author.Needs.{needs}
-use Rattle.paper.specs.Scan.{anyBelow}
-use Rattle.paper.specs.Table.{rooms, rec}
-use Rattle.paper.specs.Entry.{bears, find}
-use Rattle.laws.proofs.Scans.{first-here, first-none}
+use Rattle.paper.specs.Layout.{boxed}
+use Rattle.paper.specs.Entry.{find}
+use Rattle.laws.proofs.Entries.{same-true}
 use Rattle.records.specs.Shown.{holderShown}
 use Rattle.scans.specs.Shown.{foundShown}
-use Rattle.scans.proofs.Turns.{any-start, any-still, any-shorter}
+use Rattle.scans.proofs.Borne.{find-none}
 use Rattle.scans.proofs.find.Statement.{statement}
 use Rattle.scans.proofs.find.Tie as tie
 
-abbrev Inv-loop : tie.InvT-loop
-Inv-loop table d name n i₀ i =
-    (anyBelow (λ j. bears (holderShown d) name (rec table j)) i ≡ false) × (i ≤ n) × (n ≡ rooms table)
+pack-requires : tie.Need-pack-requires
+pack-requires c κs = search needs
 
-abbrev μ-loop : tie.MeasureT-loop
-μ-loop table d name n i₀ i = n - i
+is-unpacked-requires : tie.Need-is-unpacked-requires
+is-unpacked-requires c κs = search needs
 
-rooms-requires : tie.Need-rooms-requires Inv-loop μ-loop
-rooms-requires c κs = search needs
+find-number-requires : tie.Need-find-number-requires
+find-number-requires c κs = search needs
 
-loop-holds : tie.Need-loop-holds Inv-loop μ-loop
-loop-holds c =
-    let c3 = c .before .before .before in (
-      any-start (λ j. bears (holderShown (c3 .args .d)) (c3 .args .name .now) (rec (c3 .args .table .now) j)),
-      omega arith,
-      c .rooms .ensures,
-    )
-
-bears-here-requires : tie.Need-bears-here-requires Inv-loop μ-loop
-bears-here-requires c κs = omega arith
-
-returns : tie.Need-returns Inv-loop μ-loop
-unfolding find
+returns : tie.Need-returns
 returns c =
-    let k = c .before .before .before in
-    let s = k .before .before .before .before in
-    let p : ℕ → Bool = λ j. bears (holderShown (s .args .d)) (s .args .name .now) (rec (s .args .table .now) j) in
-    let here = sym (c .before .bears-here .ensures) ∙ c .if1 .taken in
-    sym (ap foundShown (first-here p (rooms (s .args .table .now)) (k .loop .i) (omega arith) here (k .loop .inv .0)))
+    let u = c .before .before .is-unpacked in
+    let a = c .before .before .before .before .before .before .args in
+    c .find-number .ensures
+    ∙ ap (λ (n : List ℕ). foundShown (find boxed (a .table .now) (holderShown (a .d)) n))
+    (sym (same-true (a .name .now) _ (sym (u .ensures) ∙ c .before .if1 .taken)))
 
-add-i : tie.Need-add-i Inv-loop μ-loop
-add-i c = omega arith
-
-loop-less : tie.Need-loop-less Inv-loop μ-loop
-loop-less c = omega arith
-
-loop-again : tie.Need-loop-again Inv-loop μ-loop
-loop-again c =
-    let k = c .before .before .before in
-    let s = k .before .before .before .before in
-    let p : ℕ → Bool = λ j. bears (holderShown (s .args .d)) (s .args .name .now) (rec (s .args .table .now) j) in
-    (any-still p (k .loop .i) (sym (c .before .bears-here .ensures) ∙ c .if1 .left) (k .loop .inv .0), omega arith, k .loop .inv .2)
-
-returns-2 : tie.Need-returns-2 Inv-loop μ-loop
-unfolding find
+returns-2 : tie.Need-returns-2
 returns-2 c =
-    let s = c .before .before .before .before .before in
-    let p : ℕ → Bool = λ j. bears (holderShown (s .args .d)) (s .args .name .now) (rec (s .args .table .now) j) in
-    let n : ℕ = rooms (s .args .table .now) in
-    sym (ap foundShown (first-none p n (any-shorter p n (c .before .loop .i) (omega arith) (c .before .loop .inv .0))))
+    let u = c .before .is-unpacked in
+    let p = c .before .before .pack in
+    let a = c .before .before .before .before .before .args in
+    sym (ap foundShown
+    (find-none (a .table .now) (holderShown (a .d)) (a .name .now) _ (p .ensures .0) (sym (u .ensures) ∙ c .if1 .left)))
 
 pub find-spec : {M : Type 1} → statement M
 find-spec =
     tie.close
-    (tie.spec
-    Inv-loop
-    μ-loop
-    rooms-requires
-    loop-holds
-    bears-here-requires
-    returns
-    add-i
-    loop-less
-    loop-again
-    returns-2)
+    (tie.spec pack-requires is-unpacked-requires find-number-requires returns returns-2)

@@ -1,10 +1,10 @@
-//! What the tests share: calls made by the second program and by the proved library at once, hand-made records, a bench to
-//! ask requests at, and a generator of numbers.
+//! What the tests share: calls made by the second program, on the old table too, and by the proved library at once, hand-made
+//! records, a bench to ask requests at, and a generator of numbers.
 #![allow(dead_code)]
 
 pub mod told;
 
-use beside::Answer;
+use beside::{converted, Answer, Layout};
 
 /// The byte that fills a reply buffer before each request.
 pub const UNTOUCHED: u8 = 0xEE;
@@ -24,7 +24,8 @@ pub fn answer(numbers: [u32; 7]) -> Answer {
     }
 }
 
-/// A request, made by the second program and by the proved library: answer, table and reply must agree.
+/// A request, made by the second program and by the proved library: answer, table and reply must agree. "every request answers as
+/// on the old table, with the converted table after it".
 pub fn request(
     table: &mut [u8],
     line: &[u8],
@@ -35,8 +36,15 @@ pub fn request(
 ) -> Answer {
     let (mut proved_table, mut proved_reply) = (table.to_vec(), reply.to_vec());
     let proved = filebox::request(&mut proved_table, line, text, &mut proved_reply, user, stop);
+    let (old, mut old_reply) = (converted(Layout::Six, table), reply.to_vec());
     let answer = beside::request(table, line, text, reply, user, stop);
     let shown = String::from_utf8_lossy(line);
+    as_on_the_old_table(&shown, old, answer, table, |old| {
+        let old_reply = &mut old_reply;
+        let answer = beside::request_in(Layout::Old, old, line, text, old_reply, user, stop);
+        assert!(old_reply == reply, "the old table's reply: {shown}");
+        answer
+    });
     assert_eq!(proved.numbers(), answer.numbers(), "the library: {shown}");
     assert!(proved_table == table, "the library's table: {shown}");
     assert!(proved_reply == reply, "the library's reply: {shown}");
@@ -47,10 +55,29 @@ pub fn request(
 pub fn mend(table: &mut [u8], stop: u32) -> Answer {
     let mut proved_table = table.to_vec();
     let proved = filebox::mend(&mut proved_table, stop);
+    let old = converted(Layout::Six, table);
     let answer = beside::mend(table, stop);
+    as_on_the_old_table("mending", old, answer, table, |old| {
+        beside::mend_in(Layout::Old, old, stop)
+    });
     assert_eq!(proved.numbers(), answer.numbers(), "the library: mending");
     assert!(proved_table == table, "the library's table: mending");
     answer
+}
+
+/// The same call on the old table, if there is one, has this answer, and this is its table, converted.
+fn as_on_the_old_table(
+    shown: &str,
+    old: Option<Vec<u8>>,
+    answer: Answer,
+    after: &[u8],
+    call: impl FnOnce(&mut [u8]) -> Answer,
+) {
+    if let Some(mut old) = old {
+        assert_eq!(call(&mut old), answer, "the old table: {shown}");
+        let six = converted(Layout::Old, &old);
+        assert!(six.as_deref() == Some(after), "the old table: {shown}");
+    }
 }
 
 /// Is the table sound? The second program's test, and the library's, which an empty line shows: 1, 2, or past both 5.
@@ -120,15 +147,50 @@ pub fn counted(records: &[[u8; 32]]) -> Vec<[u8; 32]> {
     counted
 }
 
+/// A name as a number: its characters less 32 as the digits of base 64, ten of them.
+pub fn number(name: &str) -> u64 {
+    let digit = |byte: u8| u64::from(byte.checked_sub(32).expect("a character from 32 on"));
+    let padded = format!("{name:<10}");
+    padded.bytes().fold(0, |number, byte| {
+        assert!(digit(byte) < 64, "a character up to 95");
+        number * 64 + digit(byte)
+    })
+}
+
+/// The name that an entry bears.
+pub fn name_of(entry: &[u8]) -> String {
+    let bytes = entry[10..18].iter().rev();
+    let mut number = bytes.fold(0, |number, byte| number * 256 + u64::from(*byte));
+    let mut name = Vec::new();
+    for _ in 0..10 {
+        name.insert(0, (number % 64) as u8 + 32);
+        number /= 64;
+    }
+    String::from_utf8_lossy(&name).trim_end().to_string()
+}
+
 /// An entry record: code, directory, heading, user, name.
 pub fn entry(code: u8, directory: u16, heading: u16, user: u32, name: &str) -> [u8; 32] {
+    let mut record = nameless(code, directory, heading, user);
+    record[10..18].copy_from_slice(&number(name).to_le_bytes());
+    record
+}
+
+/// An entry record as it was before: the length of the name, and the name.
+pub fn old_entry(code: u8, directory: u16, heading: u16, user: u32, name: &str) -> [u8; 32] {
+    let mut record = nameless(code, directory, heading, user);
+    record[9] = name.len() as u8;
+    record[10..10 + name.len()].copy_from_slice(name.as_bytes());
+    record
+}
+
+/// An entry record without its name: code, directory, heading, user.
+fn nameless(code: u8, directory: u16, heading: u16, user: u32) -> [u8; 32] {
     let mut record = [0; 32];
     record[..2].copy_from_slice(&[2, code]);
     record[2..4].copy_from_slice(&directory.to_le_bytes());
     record[4..6].copy_from_slice(&heading.to_le_bytes());
     record[6..9].copy_from_slice(&user.to_le_bytes()[..3]);
-    record[9] = name.len() as u8;
-    record[10..10 + name.len()].copy_from_slice(name.as_bytes());
     record
 }
 

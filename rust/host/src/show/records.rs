@@ -70,10 +70,15 @@ impl Record {
     }
 }
 
-/// The name in an entry.
+/// The name in an entry: ten codes of six bits in one number, bytes 10-17, the first character highest, blanks after the last.
 fn name(record: &[u8]) -> String {
-    let length = usize::from(record[9]).min(10);
-    String::from_utf8_lossy(&record[10..10 + length]).into_owned()
+    let bytes = record[10..18].iter().rev();
+    let number = bytes.fold(0, |number: u64, byte| number << 8 | u64::from(*byte));
+    let codes = (0..10)
+        .rev()
+        .map(|place| (number >> (6 * place) & 63) as u8);
+    let name: String = codes.map(|code| char::from(code + 32)).collect();
+    name.trim_end().to_string()
 }
 
 /// All records of a table.

@@ -5,6 +5,7 @@ use mathlib.Core.Path.{_∙_}
 use Prim.Native.Nat.{_≤_}
 use native.Mathlib.Omega.{arith}
 use lib.ListN.{length}
+use Rattle.paper.specs.Layout.{boxed}
 use Rattle.paper.specs.Listing.{listed, lines}
 use Rattle.listing.specs.Shown.{isListed}
 use Rattle.listing.proofs.Promised.{reply-after}
@@ -26,7 +27,7 @@ returns c =
     let a = start .args in
     let t = a .table .now in
     rw (c .refused-whole .ensures)
-    (wrote-short t (a .reply .now) (lines t (listed t (isListed (a .which)))) [] (omega (arith, c .before .before .listed-length .ensures)))
+    (wrote-short t (a .reply .now) (lines boxed t (listed boxed t (isListed (a .which)))) [] (omega (arith, c .before .before .listed-length .ensures)))
 
 write-lines-requires : tie.Need-write-lines-requires
 write-lines-requires c κs = search needs
@@ -44,10 +45,10 @@ returns-2 c =
     let a = start .args in
     let t = a .table .now in
     let n = at-listed-length .listed-length .ensures in
-    let l : length (lines t (listed t (isListed (a .which)))) ≤ length (a .reply .now) = omega (arith, n) in
+    let l : length (lines boxed t (listed boxed t (isListed (a .which)))) ≤ length (a .reply .now) = omega (arith, n) in
     let w = c .before .before .before .write-lines .ensures ∙ reply-after (a .which) t (a .reply .now) (sized-most t (start .pre .sized))
     (start .pre .sound) l in
-    rw (c .granted .ensures, n) (wrote-out t (a .reply .now) (lines t (listed t (isListed (a .which)))) [] _ l none-left w)
+    rw (c .granted .ensures, n) (wrote-out t (a .reply .now) (lines boxed t (listed boxed t (isListed (a .which)))) [] _ l none-left w)
 
 pub list-spec : {M : Type 1} → statement M
 list-spec =

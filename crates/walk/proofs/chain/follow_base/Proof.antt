@@ -2,6 +2,7 @@
 -- So the walk is of that name and those.
 use mathlib.Core.Path.{_∙_}
 use borrow.Author.Needs.{needs}
+use Rattle.paper.specs.Layout.{boxed}
 use Rattle.paper.specs.Walk.{follow}
 use Rattle.walk.specs.Shown.{meant}
 use Rattle.walk.proofs.Chains.{link-shown, walk-off, walk-on}
@@ -26,7 +27,7 @@ returns c =
     let a = c3 .before .before .before .before .args in
     let w = c .before .before .at-link in
     walk-off (a .table .now) 1 (a .start) (a .line .now) (a .p) (a .base .now) (w .result)
-    (w .ensures ∙ link-shown _ _ (follow (a .table .now) (meant (a .start)) (a .base .now)) (c3 .follow .ensures)) _ _ (c .enum-told .given .1)
+    (w .ensures ∙ link-shown _ _ (follow boxed (a .table .now) (meant (a .start)) (a .base .now)) (c3 .follow .ensures)) _ _ (c .enum-told .given .1)
 
 follow-names-requires : tie.Need-follow-names-requires
 follow-names-requires c κs = search needs
@@ -38,7 +39,7 @@ returns-2 c =
     let a = c5 .before .before .before .before .args in
     let l = c4 .at-link in
     let s = c .before .before .walked .given in
-    let f = follow (a .table .now) (meant (a .start)) (a .base .now) in
+    let f = follow boxed (a .table .now) (meant (a .start)) (a .base .now) in
     let shown = l .ensures ∙ link-shown _ _ f (c5 .follow .ensures) in
     let w = walk-on (a .table .now) 1 (a .start) (a .line .now) (a .p) (a .base .now) (l .result) shown (s .0 .0) (s .1) in
     rw (← w) (c .follow-names .ensures)

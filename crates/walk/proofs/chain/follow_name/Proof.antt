@@ -2,6 +2,7 @@
 -- So what is done at a link is what the definition does there.
 use mathlib.Core.Path.{_∙_}
 use borrow.Author.Needs.{needs}
+use Rattle.paper.specs.Layout.{boxed}
 use Rattle.paper.specs.Walk.{follow}
 use Rattle.walk.specs.Shown.{meant}
 use Rattle.walk.proofs.Chains.{link-shown}
@@ -21,7 +22,7 @@ returns : tie.Need-returns
 returns c =
     let a = c .before .before .before .before .before .args in
     let n = c .before .before .name in
-    rw (← n .ensures) (c .at-link .ensures ∙ link-shown _ _ (follow (a .table .now) (meant (a .state)) (n .result .now)) (c .before .follow .ensures))
+    rw (← n .ensures) (c .at-link .ensures ∙ link-shown _ _ (follow boxed (a .table .now) (meant (a .state)) (n .result .now)) (c .before .follow .ensures))
 
 pub follow-name-spec : {M : Type 1} → statement M
 follow-name-spec = tie.close (tie.spec name-requires follow-requires at-link-requires returns)

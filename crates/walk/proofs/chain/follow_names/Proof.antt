@@ -5,6 +5,7 @@ use Prim.Native.Nat.{_+_, _-_, _≤_}
 use native.Mathlib.Omega.{arith}
 use lib.ListN.{length}
 use borrow.Author.Needs.{needs}
+use Rattle.paper.specs.Layout.{boxed}
 use Rattle.paper.specs.Walk.{toDirectory}
 use Rattle.words.specs.Place.{namesFrom}
 use Rattle.words.proofs.Names.{next-there, next-none, names-more}
@@ -15,7 +16,7 @@ use Rattle.walk.proofs.chain.follow_names.Tie as tie
 
 abbrev Inv-loop : tie.InvT-loop
 Inv-loop table line p link state₀ k₀ i₀ state k i =
-    (toDirectory table k (meant state) (namesFrom line i) ≡ toDirectory table link (meant state₀) (namesFrom line p)) × (k ≤ i + 2)
+    (toDirectory boxed table k (meant state) (namesFrom line i) ≡ toDirectory boxed table link (meant state₀) (namesFrom line p)) × (k ≤ i + 2)
 
 abbrev μ-loop : tie.MeasureT-loop
 μ-loop table line p link state₀ k₀ i₀ state k i = length line - i

@@ -2,6 +2,7 @@
 -- There are as many links as names.
 use mathlib.Core.Path.{sym, _∙_}
 use borrow.Author.Needs.{needs}
+use Rattle.paper.specs.Layout.{boxed}
 use Rattle.paper.specs.Walk.{look}
 use Rattle.words.proofs.Names.{next-there, next-none}
 use Rattle.walk.specs.Shown.{meant}
@@ -30,7 +31,7 @@ returns c =
     let a = c4 .before .before .before .before .args in
     let j = next-none (a .line .now) (a .p) (sym (c4 .next-name .ensures) ∙ c .before .before .enum-told2 .given .1) in
     rw (rest-one (a .line .now) (a .p) j, last-alone (a .base .now))
-    (c .at-link .ensures ∙ link-shown _ _ (look (a .table .now) (meant (a .d)) (a .base .now)) (c .before .look .ensures))
+    (c .at-link .ensures ∙ link-shown _ _ (look boxed (a .table .now) (meant (a .d)) (a .base .now)) (c .before .look .ensures))
 
 last-name-requires : tie.Need-last-name-requires
 last-name-requires c κs = search needs
@@ -52,7 +53,7 @@ returns-2 c =
     let n = next-there (a .line .now) (a .p) _ (sym (c6 .next-name .ensures) ∙ c3 .before .enum-told .given .1) in
     let l = last-instead (a .line .now) (a .p) (a .base .now) (n .0) in
     rw (rest-length (a .line .now) (a .p) (a .base .now), l, ← c3 .last-name .ensures, ← c .before .count-names .ensures)
-    (c .at-link2 .ensures ∙ link-shown _ _ (look (a .table .now) (meant (a .d)) (c3 .last-name .result .now)) (c .before .before .look2 .ensures))
+    (c .at-link2 .ensures ∙ link-shown _ _ (look boxed (a .table .now) (meant (a .d)) (c3 .last-name .result .now)) (c .before .before .look2 .ensures))
 
 pub instead-last-spec : {M : Type 1} → statement M
 instead-last-spec =

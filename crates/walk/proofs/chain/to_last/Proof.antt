@@ -2,6 +2,7 @@
 -- Of the other two beginnings a base name stands in place of the first name.
 use mathlib.Core.Path.{_∙_}
 use borrow.Author.Needs.{needs}
+use Rattle.paper.specs.Layout.{boxed}
 use Rattle.paper.specs.Name.{pointed, chain}
 use Rattle.paper.specs.Walk.{look}
 use Rattle.walk.specs.Shown.{meant}
@@ -48,7 +49,7 @@ returns c =
     let a = c4 .before .before .before .before .args in
     let n = c .before .before .before .last-name in
     rw (c4 .enum-told .given .1, ← n .ensures, ← c .before .count-links .ensures)
-    (c .at-link .ensures ∙ link-shown _ _ (look (a .table .now) (meant (a .d)) (n .result .now)) (c .before .before .look .ensures))
+    (c .at-link .ensures ∙ link-shown _ _ (look boxed (a .table .now) (meant (a .d)) (n .result .now)) (c .before .before .look .ensures))
 
 returns-2 : tie.Need-returns-2
 unfolding chain pointed

@@ -1,0 +1,4 @@
+pub mod Names
+pub mod Passes
+pub mod Looked
+pub mod Conversions

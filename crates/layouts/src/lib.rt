@@ -1,0 +1,1 @@
+// Two layouts of names answer alike: every request and every mend, store by store, and the conversion between them, in proofs/.
