@@ -14,9 +14,15 @@
 #define USER 7u
 #define MOST_SHEETS 8u
 
-static uint8_t table[64 * FILEBOX_RECORD];
-static uint8_t before[sizeof table];
-static uint8_t after[sizeof table];
+#define RECORDS 64u
+
+/* A table, and its index beside it. */
+struct kept {
+    uint8_t table[RECORDS * FILEBOX_RECORD];
+    uint16_t index[RECORDS];
+};
+
+static struct kept box, before, after;
 static uint8_t back[64];
 
 /* A sheet: the link under which it is filed, at most ten characters, and its text. */
@@ -34,7 +40,8 @@ static int wrong(const char *what)
 static struct filebox_answer ask(const char *line)
 {
     const uint8_t *bytes = (const uint8_t *)line;
-    return filebox_request(table, sizeof table, bytes, strlen(line), bytes, 0, back, sizeof back, USER, FILEBOX_NO_STOP);
+    return filebox_request(box.table, sizeof box.table, box.index, RECORDS, bytes, strlen(line), bytes, 0, back, sizeof back, USER,
+                           FILEBOX_NO_STOP);
 }
 
 /* A granted request: so many bytes written and stores made. */
@@ -63,9 +70,10 @@ static struct filebox_lamp light(const struct sheet *job, size_t count, uint32_t
         memcpy(texts + length, job[i].text, strlen(job[i].text));
         length += strlen(job[i].text);
     }
-    memcpy(before, table, sizeof table);
+    before = box;
     memset(back, '?', sizeof back);
-    return filebox_lamp(table, sizeof table, sheets, count * FILEBOX_SHEET, texts, length, back, sizeof back, (const uint8_t *)".R", 2, USER, stop);
+    return filebox_lamp(box.table, sizeof box.table, box.index, RECORDS, sheets, count * FILEBOX_SHEET, texts, length, back, sizeof back,
+                        (const uint8_t *)".R", 2, USER, stop);
 }
 
 static void tell(const char *job, struct filebox_lamp lamp)
@@ -96,18 +104,21 @@ static int back_is(const char *text)
     return 1;
 }
 
-static int table_as_before(void)
+/* Table and index are these. */
+static int box_is(const struct kept *kept)
 {
-    return memcmp(table, before, sizeof table) == 0;
+    return memcmp(box.table, kept->table, sizeof box.table) == 0 && memcmp(box.index, kept->index, sizeof box.index) == 0;
 }
 
-/* The sheet stands in .R with this text. */
+/* The sheet stands in .R, whose heading is in record 0, with this text. */
 static int filed(struct sheet sheet)
 {
     char line[32];
+    const uint8_t *name = (const uint8_t *)sheet.name;
+    struct filebox_found found = filebox_look_up(box.table, sizeof box.table, box.index, RECORDS, 0, USER, name, strlen(sheet.name));
     snprintf(line, sizeof line, "RDS .R:%s", sheet.name);
     memset(back, '?', sizeof back);
-    return granted(ask(line), (uint32_t)strlen(sheet.text), 0) && back_is(sheet.text);
+    return found.found == 1 && found.count <= 12 && granted(ask(line), strlen(sheet.text), 0) && back_is(sheet.text);
 }
 
 static const struct sheet board[] = {{"LIMITS", "MIN 4.9 V MAX 5.1 V 10 MA"}, {"KEYS", "A7 3F"}, {"SETTINGS", "FAST"}};
@@ -136,23 +147,27 @@ static int refused(void)
     const struct sheet job[] = {{"KEYS", "1"}, {"LIMITS", "2"}, {"KEYS", "3"}};
     struct filebox_lamp lamp = light(job, 3, FILEBOX_NO_STOP);
     tell("a name twice", lamp);
-    return shows(lamp, FILEBOX_REFUSED, 3, 0, FILEBOX_SHEET_TWICE, 0) && back_is("") && table_as_before();
+    return shows(lamp, FILEBOX_REFUSED, 3, 0, FILEBOX_SHEET_TWICE, 0) && back_is("") && box_is(&before);
 }
 
-/* The power goes in the middle of the second sheet: mended, the first is filed and nothing of the second. Then the same job again. */
+/*
+ * The power goes in the middle of the second sheet: mended, the first is filed and nothing of the second. The index is as after the first from
+ * the cut on. Then the same job again.
+ */
 static int cut(void)
 {
     const struct sheet job[] = {{"LIMITS", "MIN 4.7 V"}, {"KEYS", "B8 40"}};
     struct filebox_lamp first = light(job, 1, FILEBOX_NO_STOP);
-    memcpy(after, table, sizeof table);
-    memcpy(table, before, sizeof table);
+    after = box;
+    box = before;
     struct filebox_lamp lamp = light(job, 2, first.stores + 2);
     tell("the power cut", lamp);
-    if (!shows(lamp, FILEBOX_RED, 2, FILEBOX_FILING, FILEBOX_STOPPED, first.stores + 2) || !back_is("") || memcmp(table, after, sizeof table) == 0)
+    if (!shows(lamp, FILEBOX_RED, 2, FILEBOX_FILING, FILEBOX_STOPPED, first.stores + 2) || !back_is("") ||
+        memcmp(box.table, after.table, sizeof box.table) == 0 || memcmp(box.index, after.index, sizeof box.index) != 0)
         return 0;
-    struct filebox_answer mended = filebox_mend(table, sizeof table, FILEBOX_NO_STOP);
+    struct filebox_answer mended = filebox_mend(box.table, sizeof box.table, box.index, RECORDS, FILEBOX_NO_STOP);
     printf("mended: %u, %u stores\n", mended.number, mended.stores);
-    if (mended.number != FILEBOX_DONE || memcmp(table, after, sizeof table) != 0 || !filed(job[0]) || !filed(board[1]))
+    if (mended.number != FILEBOX_DONE || !box_is(&after) || !filed(job[0]) || !filed(board[1]))
         return 0;
     lamp = light(job, 2, FILEBOX_NO_STOP);
     tell("the same job again", lamp);
@@ -161,6 +176,9 @@ static int cut(void)
 
 int main(void)
 {
+    /* a table of free records, and the index of one */
+    for (size_t i = 0; i < RECORDS; i++)
+        box.index[i] = FILEBOX_PADDING;
     if (!granted(ask("CRD .R"), 0, 3) || !granted(ask("CRD .R:OLD"), 0, 4) || !granted(ask("CRD .R:OLD:BOARD6"), 0, 4))
         return wrong("three directories");
     if (!green())

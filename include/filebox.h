@@ -1,18 +1,19 @@
 /*
  * The file box: requests and mending over a table that the caller lends (document 01, "Records, requests and replies of the file box"),
- * with parts of a sheet, trees, rewrites, gives and takes, files destroyed everywhere, counts in the headings and names of six bits a
- * character in the entries (document 02), and the lamp, which files the sheets of a job and reads each back (its request m). Link with
- * libfilebox_c.a, which `rt staticlib filebox_c` writes for x86-64; it keeps nothing between calls, allocates nothing, and needs of the C
- * library at most memcpy, memmove and memset.
+ * with parts of a sheet, trees, rewrites, gives and takes, files destroyed everywhere, counts in the headings, names of six bits a
+ * character in the entries and a sorted index beside the table (document 02), and the lamp, which files the sheets of a job and reads each
+ * back (its request m). Link with libfilebox_c.a, which `rt staticlib filebox_c` writes for x86-64; it keeps nothing between calls,
+ * allocates nothing, and needs of the C library at most memcpy, memmove and memset.
  *
- * The functions are proved for every table, line, text, reply buffer, sheets, texts, read-back buffer, chain, user and stop number:
- * whatever the bytes are, a call returns, with one of the numbers below. The proof begins where C hands its arguments over, so these the
- * caller owes:
+ * The functions are proved for every table, index, line, text, reply buffer, sheets, texts, read-back buffer, chain, name, user and stop
+ * number: whatever the bytes are, a call returns, with one of the numbers below. The proof begins where C hands its arguments over, so
+ * these the caller owes:
  *
- *  - each pointer is not null, also where its length is 0 (any address will do there), and leads to as many bytes as its length says;
- *  - table, reply and back may be written; they overlap neither each other nor anything else lent to the call (line and text, and sheets,
- *    texts and chain, are only read, and may overlap each other);
- *  - no other thread writes anything lent, or reads table, reply or back, before the call returns.
+ *  - each pointer is not null, also where its length is 0 (any address will do there, for index an even one), and leads to as many bytes as
+ *    its length says; index_length counts numbers of two bytes, and index leads to as many of these;
+ *  - table, index, reply and back may be written; they overlap neither each other nor anything else lent to the call (line and text, and
+ *    sheets, texts and chain, are only read, and may overlap each other; so may all that filebox_look_up is lent);
+ *  - no other thread writes anything lent, or reads table, index, reply or back, before the call returns.
  */
 #ifndef FILEBOX_H
 #define FILEBOX_H
@@ -33,6 +34,14 @@ extern "C" {
  */
 #define FILEBOX_RECORD 32u
 #define FILEBOX_MOST_RECORDS 2048u
+/*
+ * The index is a list of two-byte numbers that the caller keeps beside the table, one place for each record. It is true if it has the record
+ * numbers of the table's entries, ordered by directory (bytes 2 and 3, a base file's 65,535 last), then user (bytes 6 to 8), then name, and
+ * FILEBOX_PADDING in every place after the last. A table of free records begins with FILEBOX_PADDING in every place; for any other table one
+ * mend builds the index, whatever stands in the list (at stop number 0 it does so for a sound table, and never stores). From then on each
+ * call keeps it true, until one is stopped (22); then the mend builds it afresh. It need not be kept on a disk.
+ */
+#define FILEBOX_PADDING 65535u
 /* The longest request line and the longest text, in bytes. Of RDS and LST no reply has more bytes than such a text. */
 #define FILEBOX_MOST_LINE 256u
 #define FILEBOX_MOST_TEXT 24000u
@@ -69,6 +78,7 @@ enum filebox_number {
     FILEBOX_MARKED = 23,         /* RDS, CPY: marked, since a rewrite of it was cut */
     FILEBOX_LIFETIME = 24,       /* WRS*: lifetime L */
     FILEBOX_LEVEL = 25,          /* CPY: level too low, below the source's */
+    FILEBOX_INDEX = 26,          /* index not true: length or content; mending: length */
     FILEBOX_NUMBER = 27,         /* RDS: bad number: not one to six octal digits, or a count of 0 */
     FILEBOX_BEYOND = 28          /* RDS: first beyond the end */
 };
@@ -76,7 +86,7 @@ enum filebox_number {
 /* An answer. On any number but 0, displaced and bytes are 0. */
 struct filebox_answer {
     uint32_t number;    /* one of the numbers above */
-    uint32_t place;     /* the argument that was refused, from 1; 0 for the numbers 0..6, 10, 19, 20 and 22 */
+    uint32_t place;     /* the argument that was refused, from 1; 0 for the numbers 0..6, 10, 19, 20, 22 and 26 */
     uint32_t link;      /* which link of that argument's chain, from 1, a supplied .W counted as link 1: for 7 and 8 the first wrong name,
                            on the way down (11, 12, 13) the link refused, at its end (13 to 18, 23, 24) the last; 0 where place is 0, for a lone
                            dash, a chain that is only too long, and an argument that is no chain (a declaration, CHN's link, the numbers of
@@ -123,25 +133,50 @@ struct filebox_answer {
  * needs write on the file, and asks nothing of the directories, nor of those who hold the other entries. A directory with entries, its own
  * included, gets 18. A name of a file that a name before it destroyed gets 11.
  *
- * Granted (0): the whole job is done, exactly as the documents have it, in table and reply.
- * Refused (1 to 21, 23 to 25, 27, 28): table and reply are as lent, byte for byte. Only a DEL or a DST of several names keeps what the names
- *   before the refused one did: names says how many, stores how many stores that took.
- * Stopped (22): exactly the first stop stores of the request were made, and reply is as lent. filebox_mend then gives, byte for byte, the
- *   table before the request or the table after it (for a DEL or a DST: after some first part of its names; for a WRS* cut between its first
- *   and its last store: the table after it with that one file marked and empty). So a stop number stands for a power cut between two stores.
+ * Granted (0): the whole job is done, exactly as the documents have it, in table and reply, and index is true of table as it is now.
+ * Refused (1 to 21, 23 to 28): table, index and reply are as lent, byte for byte. Only a DEL or a DST of several names keeps what the names
+ *   before the refused one did: names says how many, stores how many stores that took, and index is true of the table that they left.
+ *   26 comes straight after 2: table is sound, and index is not its true index, in its length or in any place.
+ * Stopped (22): exactly the first stop stores of the request were made, and reply and index are as lent. filebox_mend then gives, byte for
+ *   byte, the table before the request or the table after it (for a DEL or a DST: after some first part of its names; for a WRS* cut between
+ *   its first and its last store: the table after it with that one file marked and empty), and its index. So a stop number stands for a power
+ *   cut between two stores. Even where what was left is sound, as of a DEL stopped between two names, it gets 26 until it is mended.
  */
-struct filebox_answer filebox_request(uint8_t *table, size_t table_length, const uint8_t *line, size_t line_length, const uint8_t *text,
-                                      size_t text_length, uint8_t *reply, size_t reply_length, uint32_t user, uint32_t stop);
+struct filebox_answer filebox_request(uint8_t *table, size_t table_length, uint16_t *index, size_t index_length, const uint8_t *line,
+                                      size_t line_length, const uint8_t *text, size_t text_length, uint8_t *reply, size_t reply_length,
+                                      uint32_t user, uint32_t stop);
 
 /*
  * Mending, after a power cut: clears every entry that names no heading, then every heading that no entry names, then every text record whose
  * heading is not a simple file's, or is marked; then corrects the counts of the headings that are left, a store for each that has an untrue
  * one. A mark stays. A sound table is left as it is. A table without counts is brought up to date by one mend.
  *
- * Done (0): the table is sound. Refused (1, 2): it is as lent. Stopped (22): the first stop stores stand, and a mend cut anywhere and run
- * again ends as an uncut one. place, link, names, displaced and bytes are 0.
+ * Done (0): the table is sound, and index is its true index, built afresh. Refused (1, 2, 26): both are as lent; 26 is tried last, and of
+ * index the length alone is judged, on a sound table too. Stopped (22): the first stop stores stand, index is as lent, and a mend cut
+ * anywhere and run again ends as an uncut one. place, link, names, displaced and bytes are 0.
  */
-struct filebox_answer filebox_mend(uint8_t *table, size_t table_length, uint32_t stop);
+struct filebox_answer filebox_mend(uint8_t *table, size_t table_length, uint16_t *index, size_t index_length, uint32_t stop);
+
+/* The directory of base files, which belong to a user. */
+#define FILEBOX_BASE 65535u
+
+/* What looking a name up came to. */
+struct filebox_found {
+    uint32_t found; /* 1 if an entry bears the name there, else 0 */
+    uint32_t entry; /* that entry's record number, from 0; 65,535 where there is none */
+    uint32_t count; /* entries looked at, a comparison each; at most 12 in an index of up to 2,048 numbers */
+};
+
+/*
+ * Look a name up by the index: the entry that bears it in the directory whose heading is in record heading, or, with FILEBOX_BASE, among the
+ * base files of user (with a directory, user is not looked at). name is one link name, as "LIMITS" or ".R"; bytes that are none are borne by
+ * no entry, and none is looked at. The list is halved, the lower middle first, until an entry equal to what is sought is met.
+ *
+ * On a sound table with a true index it is what looking at every record would find. It judges neither: on any others it returns all the
+ * same, with whatever the halving meets. All that is lent is only read.
+ */
+struct filebox_found filebox_look_up(const uint8_t *table, size_t table_length, const uint16_t *index, size_t index_length, uint32_t heading,
+                                     uint32_t user, const uint8_t *name, size_t name_length);
 
 /*
  * Conversion of a table of the old layout, in which an entry has the length of its name in byte 9 and its characters in bytes 10 to 19, to names
@@ -204,27 +239,27 @@ struct filebox_lamp {
  * then each is read back, as RDS chain:link, into back. It needs no more of back than the longest text, and texts may be longer than
  * all lengths together. chain stands in both lines as it is, so a blank in it counts, or not, as in any request line.
  *
- * Green: the whole job is done: table is what the filings, asked one by one, leave; each text was read to the front of back, over what the
- *   last one left there. A job without sheets is green on any table, and stores nothing.
- * Red in filing: sheet got number (one of 1 to 14, 17 to 19 and 22), and no sheet after it was filed. The sheets before it are filed,
- *   and back is as lent. What is wrong with table, user, chain or directory shows here, at sheet 1; a line that only its link makes too
- *   long (4), at the sheet with that link.
+ * Green: the whole job is done: table and index are what the filings, asked one by one, leave; each text was read to the front of back, over
+ *   what the last one left there. A job without sheets is green on any table with any index, and stores nothing.
+ * Red in filing: sheet got number (one of 1 to 14, 17 to 19, 22 and 26), and no sheet after it was filed. The sheets before it are filed,
+ *   index is what they leave, and back is as lent. What is wrong with table, index, user, chain or directory shows here, at sheet 1; a line
+ *   that only its link makes too long (4), at the sheet with that link.
  * Red in reading: every sheet is filed; it is sheet 1, with 12, and back is as lent: the last sheet displaced a link of the chain itself,
  *   so that the chain no longer leads to the directory.
- * Refused: table and back are as lent, byte for byte.
- * Stopped (red in filing, 22): exactly the first stop stores of the job were made. filebox_mend then gives, byte for byte, the table after
- *   the sheets before sheet, or after sheet too: the first sheets filed, and no half of any.
+ * Refused: table, index and back are as lent, byte for byte.
+ * Stopped (red in filing, 22): exactly the first stop stores of the job were made, and index is as after the sheet before sheet. filebox_mend
+ *   then gives, byte for byte, the table after the sheets before sheet, or after sheet too: the first sheets filed, and no half of any.
  *
  * After a red light the sheets filed so far stay. To try again, mend if it was stopped, and give the same job: a sheet displaces the file
  * of its name, and needs its room beside that file's.
  */
-struct filebox_lamp filebox_lamp(uint8_t *table, size_t table_length, const uint8_t *sheets, size_t sheets_length, const uint8_t *texts,
-                                 size_t texts_length, uint8_t *back, size_t back_length, const uint8_t *chain, size_t chain_length,
-                                 uint32_t user, uint32_t stop);
+struct filebox_lamp filebox_lamp(uint8_t *table, size_t table_length, uint16_t *index, size_t index_length, const uint8_t *sheets,
+                                 size_t sheets_length, const uint8_t *texts, size_t texts_length, uint8_t *back, size_t back_length,
+                                 const uint8_t *chain, size_t chain_length, uint32_t user, uint32_t stop);
 
 /*
  * The table on a disk that keeps writes back until it is flushed, and may make them in any order: when to write which record. Lend a
- * request a copy of the table, and if it is granted (0) write the records that differ by their phases:
+ * request a copy of the table and of its index, and if it is granted (0) write the records that differ by their phases:
  *
  *   every record of phase 1, a flush, the record of phase 2 (there is at most one), a flush, every record of phase 3, a flush.
  *

@@ -2,3 +2,4 @@ pub mod FirstWord
 pub mod Keeping
 pub mod Steps
 pub mod Spelling
+pub mod TrueIndex

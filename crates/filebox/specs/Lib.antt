@@ -2,3 +2,4 @@ pub mod FirstWord
 pub mod Box
 pub mod Shows
 pub mod Spelled
+pub mod Uncut

@@ -16,9 +16,10 @@ pub record Holds (most : ℕ) (s : List ℕ) (n : ℕ) (whole : List ℕ) : Type
   pub count : n ≡ length (take most whole)
   pub bytes : take n s ≡ take most whole
 
--- the table, the line, the text and the reply as they are lent, and what is held, show the box x
-pub record Shows (x : Box) (t l m r : List ℕ) (h : Held) : Type 0 where
+-- the table, its index, the line, the text and the reply as they are lent, and what is held, show the box x
+pub record Shows (x : Box) (t d l m r : List ℕ) (h : Held) : Type 0 where
   pub table : t ≡ x .table
+  pub index : d ≡ x .index
   pub reply : r ≡ x .reply
   pub line : Holds 257 l (h .line) (x .line)
   pub stage : h .stage ≡ stages Blanks (x .line)
@@ -26,27 +27,28 @@ pub record Shows (x : Box) (t l m r : List ℕ) (h : Held) : Type 0 where
   pub text : Holds 24001 m (h .text) (x .text)
 
 -- whatever box is shown before, what f makes of it is shown after
-pub record Follows (f : Box → Box) (t l m r : List ℕ) (h : Held) (t' l' m' r' : List ℕ) (h' : Held) : Type 0 where
-  pub shows : (x : Box) → Shows x t l m r h → Shows (f x) t' l' m' r' h'
+pub record Follows (f : Box → Box) (t d l m r : List ℕ) (h : Held) (t' d' l' m' r' : List ℕ) (h' : Held) : Type 0 where
+  pub shows : (x : Box) → Shows x t d l m r h → Shows (f x) t' d' l' m' r' h'
 
--- a byte more is shown, whatever the table and the reply are
+-- a byte more is shown, whatever the table, its index and the reply are
 pub record Grows (b : ℕ) (l m : List ℕ) (h : Held) (l' m' : List ℕ) (h' : Held) : Type 0 where
-  pub shows : (t r : List ℕ) → Follows (λ x. grown x b) t l m r h t l' m' r h'
+  pub shows : (t d r : List ℕ) → Follows (λ x. grown x b) t d l m r h t d l' m' r h'
 
--- some input, which no contract can name, has led from a table and a reply to what is shown
-pub record Came (t₀ r₀ t l m r : List ℕ) (h : Held) : Type 0 where
+-- some input, which no contract can name, has led from a table, its index and a reply to what is shown
+pub record Came (t₀ d₀ r₀ t d l m r : List ℕ) (h : Held) : Type 0 where
   pub input : List ℕ
-  pub shows : Shows (fed (between t₀ r₀) input) t l m r h
+  pub shows : Shows (fed (between t₀ d₀ r₀) input) t d l m r h
 
 -- .. and to its end
-pub record Over (t₀ r₀ t r : List ℕ) : Type 0 where
+pub record Over (t₀ d₀ r₀ t d r : List ℕ) : Type 0 where
   pub input : List ℕ
-  pub table : t ≡ finished (fed (between t₀ r₀) input) .table
-  pub reply : r ≡ finished (fed (between t₀ r₀) input) .reply
+  pub table : t ≡ finished (fed (between t₀ d₀ r₀) input) .table
+  pub index : d ≡ finished (fed (between t₀ d₀ r₀) input) .index
+  pub reply : r ≡ finished (fed (between t₀ d₀ r₀) input) .reply
 
 -- one read further
-pub record Further (t l m r : List ℕ) (h : Held) (t' l' m' r' : List ℕ) (h' : Held) : Type 0 where
-  pub came : (t₀ r₀ : List ℕ) → Came t₀ r₀ t l m r h → Came t₀ r₀ t' l' m' r' h'
+pub record Further (t d l m r : List ℕ) (h : Held) (t' d' l' m' r' : List ℕ) (h' : Held) : Type 0 where
+  pub came : (t₀ d₀ r₀ : List ℕ) → Came t₀ d₀ r₀ t d l m r h → Came t₀ d₀ r₀ t' d' l' m' r' h'
 
 -- nothing is held of a line
 abbrev pub fresh : Bool → Held

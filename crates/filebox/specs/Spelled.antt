@@ -6,7 +6,7 @@ use lib.ListN.{take}
 use Rattle.io.specs.Digits.{digits, Fewest}
 use Rattle.answers.specs.declared.Answer.{Answer}
 use Rattle.answers.specs.Shown.{shown}
-use Rattle.filebox.specs.Box.{Box, outcome}
+use Rattle.filebox.specs.Box.{Box, kept, outcome}
 use Rattle.filebox.specs.Shows.{Shows}
 use Rattle.filebox.specs.declared.held.Held.{Held}
 use Rattle.filebox.specs.declared.output.Answered.{Answered}
@@ -46,12 +46,13 @@ pub record Line (a : Answer) (s : List ℕ) : Type 0 where
   pub stores-is : Decimal (a .stores) stores
   pub text : s ≡ put (put (put (put (put (put (put [] number 32) place 32) link 32) names 32) displaced 32) bytes 32) stores 10
 
--- what a request made of a box comes to: the table and the reply after it, its line in o, and how many bytes of both are to be written
-pub record Told (x : Box) (t r o : List ℕ) (w : Answered) : Type 0 where
+-- what a request made of a box comes to: the table, its index and the reply after it, its line in o, and how many bytes of both are to be written
+pub record Told (x : Box) (t d r o : List ℕ) (w : Answered) : Type 0 where
   pub table : t ≡ outcome x .table
+  pub index : d ≡ kept x .index
   pub reply : r ≡ outcome x .reply
   pub line : Line (shown (outcome x .answer)) (take (w .line) o)
   pub bytes : w .reply ≡ outcome x .answer .bytes
 
-pub record Asks (t l m r : List ℕ) (h : Held) (t' r' o : List ℕ) (w : Answered) : Type 0 where
-  pub tells : (x : Box) → Shows x t l m r h → Told x t' r' o w
+pub record Asks (t d l m r : List ℕ) (h : Held) (t' d' r' o : List ℕ) (w : Answered) : Type 0 where
+  pub tells : (x : Box) → Shows x t d l m r h → Told x t' d' r' o w

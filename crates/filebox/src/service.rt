@@ -19,6 +19,7 @@ const STOP: u32 = 65535;
 // The request that is held is made, and its answer put into words.
 fn ask(
     table: &mut [u8],
+    index: &mut [u16],
     line: &[u8],
     text: &[u8],
     reply: &mut [u8],
@@ -26,12 +27,20 @@ fn ask(
     out: &mut [u8],
 ) -> Answered
     requires { ⌜ length (now out) ≡ 147 ⌝ }
-    ensures { λ r. ⌜ Asks (now (table .entry)) (now (line .entry)) (now (text .entry)) (now (reply .entry))
-        held (now (table .exit)) (now (reply .exit)) (now (out .exit)) r ⌝ }
+    ensures { λ r. ⌜ Asks (now (table .entry)) (now (index .entry)) (now (line .entry)) (now (text .entry)) (now (reply .entry))
+        held (now (table .exit)) (now (index .exit)) (now (reply .exit)) (now (out .exit)) r ⌝ }
 {
     let n = held.line;
     let m = held.text;
-    let answer = elephant::request(table, first(line, n), first(text, m), reply, USER, STOP);
+    let answer = indexed::request(
+        table,
+        index,
+        first(line, n),
+        first(text, m),
+        reply,
+        USER,
+        STOP,
+    );
     Answered {
         line: spell_answer(answer, out),
         reply: answer.bytes,
@@ -39,12 +48,19 @@ fn ask(
 }
 
 // .. and written, unless an earlier one could not be.
-fn answer(table: &mut [u8], line: &[u8], text: &[u8], reply: &mut [u8], held: Held) -> Held
-    ensures { λ r. ⌜ Follows answered (now (table .entry)) (now (line .entry)) (now (text .entry)) (now (reply .entry))
-        held (now (table .exit)) (now (line .entry)) (now (text .entry)) (now (reply .exit)) r ⌝ }
+fn answer(
+    table: &mut [u8],
+    index: &mut [u16],
+    line: &[u8],
+    text: &[u8],
+    reply: &mut [u8],
+    held: Held,
+) -> Held
+    ensures { λ r. ⌜ Follows answered (now (table .entry)) (now (index .entry)) (now (line .entry)) (now (text .entry)) (now (reply .entry))
+        held (now (table .exit)) (now (index .exit)) (now (line .entry)) (now (text .entry)) (now (reply .exit)) r ⌝ }
 {
     let mut out = [0u8; 147];
-    let told = ask(table, line, text, reply, held, &mut out);
+    let told = ask(table, index, line, text, reply, held, &mut out);
     let n = told.line;
     let m = told.reply;
     if held.heard {
@@ -79,13 +95,20 @@ fn grow(line: &mut [u8], text: &mut [u8], held: Held, b: u8) -> Held
 }
 
 // "takes the line after a WRS, refused or not, as its text", and that after a WRS*
-fn end(table: &mut [u8], line: &[u8], text: &[u8], reply: &mut [u8], held: Held) -> Held
-    ensures { λ r. ⌜ Follows ended (now (table .entry)) (now (line .entry)) (now (text .entry)) (now (reply .entry))
-        held (now (table .exit)) (now (line .entry)) (now (text .entry)) (now (reply .exit)) r ⌝ }
+fn end(
+    table: &mut [u8],
+    index: &mut [u16],
+    line: &[u8],
+    text: &[u8],
+    reply: &mut [u8],
+    held: Held,
+) -> Held
+    ensures { λ r. ⌜ Follows ended (now (table .entry)) (now (index .entry)) (now (line .entry)) (now (text .entry)) (now (reply .entry))
+        held (now (table .exit)) (now (index .exit)) (now (line .entry)) (now (text .entry)) (now (reply .exit)) r ⌝ }
 {
     let stage = held.stage;
     if held.asked {
-        return answer(table, line, text, reply, held);
+        return answer(table, index, line, text, reply, held);
     }
     if stage.takes_text() {
         return Held {
@@ -96,23 +119,24 @@ fn end(table: &mut [u8], line: &[u8], text: &[u8], reply: &mut [u8], held: Held)
             heard: held.heard,
         };
     }
-    answer(table, line, text, reply, held)
+    answer(table, index, line, text, reply, held)
 }
 
 // A byte of the input: byte 10 ends a line or a text.
 fn step(
     table: &mut [u8],
+    index: &mut [u16],
     line: &mut [u8],
     text: &mut [u8],
     reply: &mut [u8],
     held: Held,
     b: u8,
 ) -> Held
-    ensures { λ r. ⌜ Follows (λ x. stepped x b) (now (table .entry)) (now (line .entry)) (now (text .entry)) (now (reply .entry))
-        held (now (table .exit)) (now (line .exit)) (now (text .exit)) (now (reply .exit)) r ⌝ }
+    ensures { λ r. ⌜ Follows (λ x. stepped x b) (now (table .entry)) (now (index .entry)) (now (line .entry)) (now (text .entry)) (now (reply .entry))
+        held (now (table .exit)) (now (index .exit)) (now (line .exit)) (now (text .exit)) (now (reply .exit)) r ⌝ }
 {
     if b == b'\n' {
-        return end(table, line, text, reply, held);
+        return end(table, index, line, text, reply, held);
     }
     grow(line, text, held, b)
 }
@@ -120,19 +144,20 @@ fn step(
 // What was read.
 pub(crate) fn feed(
     table: &mut [u8],
+    index: &mut [u16],
     line: &mut [u8],
     text: &mut [u8],
     reply: &mut [u8],
     held: Held,
     input: &[u8],
 ) -> Held
-    ensures { λ r. ⌜ Follows (λ x. fed x (now (input .entry))) (now (table .entry)) (now (line .entry)) (now (text .entry)) (now (reply .entry))
-        held (now (table .exit)) (now (line .exit)) (now (text .exit)) (now (reply .exit)) r ⌝ }
+    ensures { λ r. ⌜ Follows (λ x. fed x (now (input .entry))) (now (table .entry)) (now (index .entry)) (now (line .entry)) (now (text .entry)) (now (reply .entry))
+        held (now (table .exit)) (now (index .exit)) (now (line .exit)) (now (text .exit)) (now (reply .exit)) r ⌝ }
 {
     let mut now = held;
     let mut i = 0;
     while i < input.len() {
-        now = step(table, line, text, reply, now, input[i]);
+        now = step(table, index, line, text, reply, now, input[i]);
         i += 1;
     }
     now
@@ -141,19 +166,20 @@ pub(crate) fn feed(
 // At the end of the input: a line with no byte 10, or a WRS or a WRS* with no text line.
 pub(crate) fn finish(
     table: &mut [u8],
+    index: &mut [u16],
     line: &[u8],
     text: &[u8],
     reply: &mut [u8],
     held: Held,
 ) -> Held
-    ensures { λ r. ⌜ Follows finished (now (table .entry)) (now (line .entry)) (now (text .entry)) (now (reply .entry))
-        held (now (table .exit)) (now (line .entry)) (now (text .entry)) (now (reply .exit)) r ⌝ }
+    ensures { λ r. ⌜ Follows finished (now (table .entry)) (now (index .entry)) (now (line .entry)) (now (text .entry)) (now (reply .entry))
+        held (now (table .exit)) (now (index .exit)) (now (line .entry)) (now (text .entry)) (now (reply .exit)) r ⌝ }
 {
     if held.asked {
-        return answer(table, line, text, reply, held);
+        return answer(table, index, line, text, reply, held);
     }
     if 0 < held.line {
-        return answer(table, line, text, reply, held);
+        return answer(table, index, line, text, reply, held);
     }
     held
 }

@@ -21,9 +21,9 @@ use Rattle.paper.specs.Answer.{Outcome, requested, mending}
 use Rattle.job.specs.Sheet.{Sheet, job}
 use Rattle.job.specs.Refusal.{admission}
 use Rattle.job.specs.Filing as F
-use Rattle.job.specs.Filing.{wrsLine, filed, Filing, afterFiled, filing}
+use Rattle.job.specs.Filing.{wrsLine, filed, Filing, afterFiled, filingBy, filing}
 use Rattle.job.specs.Reading as R
-use Rattle.job.specs.Reading.{rdsLine, readBack, brought, Reading, afterRead, reading}
+use Rattle.job.specs.Reading.{rdsLine, readBack, brought, Reading, afterRead, readingBy, reading}
 use Rattle.job.specs.Lamp.{Lit, admitted, afterFiling, afterReading, lit}
 use Rattle.laws.proofs.Tests.{truth, either, clash}
 use Rattle.laws.proofs.Lists.{Every, every-imp}
@@ -104,7 +104,7 @@ module _ (chain : List ℕ) (u : ℕ) where
   -- every filing on a sound table
   first-filed : (t : List ℕ) (k i made : ℕ) (xs : List Sheet) → Every (λ x. linkName (x .link) ≡ true) xs → sized t ≡ true → sound boxed t ≡ true
       → FirstFiled chain u t xs (tableOf (filing t chain u k i made xs))
-  unfolding filing filed
+  unfolding filingBy filed
   first-filed t k i made [] l s e = first-none t [] s e
   first-filed t k i made (x ∷ xs) l s e =
       go (filed t chain u k x) refl (truth (eqb (filed t chain u k x .answer .number) 0)) (λ t₁ k₁ m. first-filed t₁ k₁ (suc i) m xs (l .1))
@@ -128,13 +128,13 @@ module _ (chain : List ℕ) (u : ℕ) where
 -- ---- the lamp
 
 -- the table that a reading leaves
-abbrev readTable : Reading → List ℕ
+abbrev pub readTable : Reading → List ℕ
 readTable (R.whole t back) = t
 readTable (R.failed i number t back) = t
 
 -- reading stores nothing
 pub reading-still : (t chain back : List ℕ) (u i : ℕ) (xs : List Sheet) → readTable (reading t chain back u i xs) ≡ t
-unfolding reading readBack
+unfolding readingBy readBack
 reading-still t chain back u i [] = refl
 reading-still t chain back u i (x ∷ xs) =
     go (readBack t chain back u x) (still t (rdsLine chain (x .link)) [] back u) (λ b. reading-still t chain b u (suc i) xs)
@@ -171,7 +171,7 @@ job-cut t sheets texts back chain u k s e = go (admission sheets texts back) ref
 module _ (chain : List ℕ) (u : ℕ) where
   filing-stopped : (t : List ℕ) (k i made : ℕ) (xs : List Sheet) (j number : ℕ) (z : List ℕ) (n : ℕ) → Every (λ x. linkName (x .link) ≡ true) xs
       → filing t chain u k i made xs ≡ F.failed j number z n → number ≢ 22 → (i ≤ j) × Filed chain u t (take (j - i) xs) z
-  unfolding filing filed
+  unfolding filingBy filed
   filing-stopped t k i made [] j number z n l q m = let y : _≡_ {A = ℕ} 0 1 = cc in clash y
   filing-stopped t k i made (x ∷ xs) j number z n l q m =
       go (filed t chain u k x) refl (truth (eqb (filed t chain u k x .answer .number) 0)) q (λ t₁ k₁ m₁. filing-stopped t₁ k₁ (suc i) m₁ xs j number z n (l .1))

@@ -14,8 +14,8 @@ use Rattle.laws.proofs.Scans.{any-false}
 use Rattle.demands.proofs.Parts.{bringing}
 use Rattle.job.specs.Sheet.{count, sheet, job}
 use Rattle.job.specs.Refusal.{each, admission}
-use Rattle.job.specs.Filing.{Filing, filing}
-use Rattle.job.specs.Reading.{Reading, rdsLine, readBack, reading}
+use Rattle.job.specs.Filing.{Filing, filingBy, filing}
+use Rattle.job.specs.Reading.{Reading, rdsLine, readBack, readingBy, reading}
 use Rattle.job.specs.Lamp.{Lit, green, red, refusal, afterReading, afterFiling, lit}
 use Rattle.job_demands.proofs.Bringing.{read-again}
 use Rattle.job_demands.proofs.Admitting as A
@@ -129,5 +129,5 @@ module _ (t sheets texts back chain : List ℕ) (u k : ℕ) where
 
 -- "A job without sheets is green and stores nothing."
 pub no-sheets : (t texts back chain : List ℕ) (u k : ℕ) → lit t [] texts back chain u k ≡ record { answer = green 0; table = t; back = back }
-unfolding lit admission each joinBelow verdict job filing reading
+unfolding lit admission each joinBelow verdict job filingBy readingBy
 no-sheets t texts back chain u k = refl

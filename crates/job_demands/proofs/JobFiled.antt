@@ -12,7 +12,7 @@ use Rattle.paper.specs.Request.{Request, request, asked}
 use Rattle.paper.specs.Walk.{State, start, Walked, reached, stopped, toDirectory}
 use Rattle.paper.specs.Answer.{Outcome}
 use Rattle.job.specs.Sheet.{Sheet}
-use Rattle.job.specs.Filing.{wrsLine, filed, whole, failed, afterFiled, filing}
+use Rattle.job.specs.Filing.{wrsLine, filed, whole, failed, afterFiled, filingBy, filing}
 use Rattle.laws.proofs.Tests.{truth, clash}
 use Rattle.laws.proofs.Lists.{Every, every-both}
 use Rattle.demands.proofs.Sound.Clauses.{Sound}
@@ -84,7 +84,7 @@ module _ (chain : List ℕ) (u : ℕ) where
       → (filed t chain u k x .answer .number ≡ 0)
       × (filing (filed t chain u k x .table) chain u (k - filed t chain u k x .answer .stores) (suc i) (made + filed t chain u k x .answer .stores) xs
       ≡ whole f n)
-  unfolding filing
+  unfolding filingBy
   whole-first k i made x xs t f n e = go (filed t chain u k x) (truth (eqb (filed t chain u k x .answer .number) 0)) e
     where
       go : (o : Outcome) → (eqb (o .answer .number) 0 ≡ true) ⊎ (eqb (o .answer .number) 0 ≡ false)
@@ -97,7 +97,7 @@ module _ (chain : List ℕ) (u : ℕ) where
 
   rest-held : (m : ℕ) (xs : List Sheet) (t : List ℕ) (d : State) (ys : List Sheet) (k i made : ℕ) (f : List ℕ) (n : ℕ) → Held t chain u d ys
       → Apart ys xs → Every (Proper m) xs → filing t chain u k i made xs ≡ whole f n → Held f chain u d ys × Every (Standing f chain d) xs
-  unfolding filing
+  unfolding filingBy
   rest-held m [] t d ys k i made f n h a p e = let z : t ≡ f = cc in (subst (λ (y : List ℕ). Held y chain u d ys) z h, tt)
   rest-held m (x ∷ xs) t d ys k i made f n h a p e =
       let w = whole-first k i made x xs t f n e in

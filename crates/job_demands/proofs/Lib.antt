@@ -24,3 +24,7 @@ pub mod ReadBack
 pub mod Twelve
 -- a cut, mended
 pub mod Cut
+-- with an index: one request, the job
+pub mod Asked
+pub mod Indexed
+pub mod Untrue

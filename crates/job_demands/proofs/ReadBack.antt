@@ -24,7 +24,7 @@ use Rattle.job.specs.Refusal.{admission}
 use Rattle.job.specs.Filing as F
 use Rattle.job.specs.Filing.{wrsLine, Filing, filing}
 use Rattle.job.specs.Reading as R
-use Rattle.job.specs.Reading.{rdsLine, readBack, brought, Reading, afterRead, reading}
+use Rattle.job.specs.Reading.{rdsLine, readBack, brought, Reading, afterRead, readingBy, reading}
 use Rattle.job.specs.Lamp.{Lit, admitted, afterFiling, afterReading, lit}
 use Rattle.laws.proofs.Tests.{clash}
 use Rattle.laws.proofs.Entries.{same-refl}
@@ -87,7 +87,7 @@ ReadsBack t i r = ((b : List ℕ) × (r ≡ R.whole t b)) ⊎ ((b : List ℕ) ×
 module _ (t chain : List ℕ) (u : ℕ) (d : State) (c : Right t) (l : u ≤ 999999) where
   all-read : (m : ℕ) → walk t chain u ≡ reached d → (xs : List Sheet) (back : List ℕ) (i : ℕ) → length back ≡ m → Every (Proper m) xs
       → Every (Standing t chain d) xs → (b : List ℕ) × (reading t chain back u i xs ≡ R.whole t b)
-  unfolding reading
+  unfolding readingBy
   all-read m w [] back i e p s = (back, refl)
   all-read m w (x ∷ xs) back i e p s =
       let n = readable chain (x .link) (x .text) (s .0 .read .0) (p .0 .legal) (s .0 .read .1) in
@@ -107,13 +107,13 @@ module _ (t chain : List ℕ) (u : ℕ) (d : State) (c : Right t) (l : u ≤ 999
 
   first-fails : (link : ℕ) → walk t chain u ≡ stopped 12 link → (x : Sheet) (xs : List Sheet) (back : List ℕ) (i : ℕ) → Readable chain (x .link)
       → reading t chain back u i (x ∷ xs) ≡ R.failed i 12 t back
-  unfolding reading brought
+  unfolding readingBy brought
   first-fails link w x xs back i n = rw (read-stopped t chain back u x c l n 12 link w)
 
 -- the sheets of a job, filed whole, are read back whole, or the first reading fails with 12
 pub read-back : (m : ℕ) (xs : List Sheet) (t chain back : List ℕ) (u k i made : ℕ) (f : List ℕ) (n : ℕ) → Sound t → length back ≡ m → Apart [] xs
     → Every (Proper m) xs → filing t chain u k i made xs ≡ F.whole f n → ReadsBack f 1 (reading f chain back u 1 xs)
-unfolding reading
+unfolding readingBy
 read-back m [] t chain back u k i made f n c q a p e = inl (back, refl)
 read-back m (x ∷ xs) t chain back u k i made f n c q a p e =
     let h = job-held chain u m x xs t k i made f n c a p e in

@@ -19,9 +19,9 @@ use Rattle.demands.proofs.Answered.{answered}
 use Rattle.laws.proofs.Lists.{length-each, getD-each}
 use Rattle.job.specs.Sheet.{Sheet, count, sheet, job}
 use Rattle.job.specs.Filing as F
-use Rattle.job.specs.Filing.{Filing, filed, filing}
+use Rattle.job.specs.Filing.{Filing, filed, filingBy, filing}
 use Rattle.job.specs.Reading as R
-use Rattle.job.specs.Reading.{Reading, rdsLine, readBack, brought, reading}
+use Rattle.job.specs.Reading.{Reading, rdsLine, readBack, brought, readingBy, reading}
 use Rattle.job_demands.proofs.Still.{still}
 use Rattle.job_demands.proofs.Bringing.{Alike, buffer-length}
 
@@ -82,7 +82,7 @@ module _ (t sheets texts chain : List ℕ) (u k : ℕ) where
   filedFrom i = filing (turn i .table) chain u (k - turn i .made) (suc i) (turn i .made) (drop i (job sheets texts))
 
   filing-from : (m i : ℕ) → i + m ≡ count sheets → Below i Files → FilingEnds (filedFrom i)
-  unfolding filing turn
+  unfolding filingBy turn
   filing-from zero i e h = let q : i ≡ count sheets = omega arith in rw (q, left-none sheets texts) (whole (rw q at h) refl)
   filing-from (suc m) i e h = go (eqb (filedAt i .answer .number) 0) refl (λ g. filing-from m (suc i) (omega arith) g)
     where
@@ -140,7 +140,7 @@ module _ (t sheets texts back chain : List ℕ) (u : ℕ) where
   readFrom i b = reading t chain b u (suc i) (drop i (job sheets texts))
 
   reading-from : (m i : ℕ) (b : List ℕ) → length b ≡ length back → i + m ≡ count sheets → Below i Brings → ReadingEnds (readFrom i b)
-  unfolding reading readBack
+  unfolding readingBy readBack
   reading-from zero i b n e h =
       let q : i ≡ count sheets = omega arith in
       rw (q, left-none sheets texts) (whole (rw q at h) b refl)

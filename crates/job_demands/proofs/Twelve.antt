@@ -9,8 +9,8 @@ use Rattle.paper.specs.Layout.{entryRecord, boxed}
 use Rattle.paper.proofs.Cases.{hold}
 use Rattle.job.specs.Sheet.{unpadded, linkOf, formed, start, sheet, job}
 use Rattle.job.specs.Refusal.{each, admission}
-use Rattle.job.specs.Filing.{wrsLine, filed, filing}
-use Rattle.job.specs.Reading.{rdsLine, readBack, brought, reading}
+use Rattle.job.specs.Filing.{wrsLine, filed, filingBy, filing}
+use Rattle.job.specs.Reading.{rdsLine, readBack, brought, readingBy, reading}
 use Rattle.job.specs.Lamp.{red, lit}
 
 -- `CRD .R`, `DUP .R .R:A`: a directory, named by two entries and with one, its base entry of user 1, and its own entry A; and one free record
@@ -28,5 +28,5 @@ abbrev chainRA : List ℕ
 chainRA = 46 ∷ 82 ∷ 58 ∷ 65 ∷ []
 
 pub twelve-comes : lit looped sheetA [] [] chainRA 1 9 .answer ≡ red 2 1 12 4
-unfolding hold unpadded linkOf formed start sheet job each admission wrsLine filed filing rdsLine readBack brought reading lit
+unfolding hold unpadded linkOf formed start sheet job each admission wrsLine filed filingBy rdsLine readBack brought readingBy lit
 twelve-comes = refl

@@ -17,8 +17,9 @@ use Rattle.laws.proofs.Tests.{clash}
 use Rattle.laws.proofs.Scans.{first-here, first-none, first-at, first-nowhere, any-false}
 use Rattle.scans.proofs.Turns.{any-still}
 use Rattle.job.specs.Sheet.{count, lengthOf, start}
+use Rattle.job.specs.Told.{beside}
 use Rattle.job.specs.Refusal.{malformed, twice, missing, tooLong, each, admission}
-use Rattle.job.specs.Lamp.{refusal, ran, admitted, lit}
+use Rattle.job.specs.Lamp.{refusal, judgedEnds, LitKept, leavingKept, keptRan, litKept}
 use Rattle.job_demands.proofs.Admitting.{each-none, each-first, Admitted, admits, refuses}
 use Rattle.job_demands.proofs.Admitting as admitting
 use Rattle.lamp.specs.Refused.{numbered, firstSheet, admissionShown}
@@ -141,22 +142,25 @@ module _ (sheets texts : List ℕ) where
 
 -- ---- the promise
 
-module _ (t sheets texts back chain : List ℕ) (u k : ℕ) where
+module _ (t x sheets texts back chain : List ℕ) (u k : ℕ) where
+  abbrev judged : Verdict → LitKept
+  judged = judgedEnds leavingKept (beside t x) back (keptRan (beside t x) sheets texts back chain u k)
+
   pub lit-refused : (number sheet : ℕ) → Refused number sheet ≡ admissionShown (admission sheets texts back)
-      → lit t sheets texts back chain u k ≡ record { answer = refusal sheet number; table = t; back = back }
-  unfolding lit
+      → litKept t x sheets texts back chain u k ≡ leavingKept (refusal sheet number) (beside t x) back
+  unfolding litKept
   lit-refused number sheet = go (admission sheets texts back)
     where
       go : (v : Verdict) → Refused number sheet ≡ admissionShown v
-          → admitted t sheets texts back chain u k v ≡ record { answer = refusal sheet number; table = t; back = back }
+          → judged v ≡ leavingKept (refusal sheet number) (beside t x) back
       go passed e = let z : _≡_ {A = ℕ} 0 1 = cc in clash z
       go (refused f) e = cc
 
-  pub lit-passed : Passed ≡ admissionShown (admission sheets texts back) → lit t sheets texts back chain u k ≡ ran t sheets texts back chain u k
-  unfolding lit
+  pub lit-passed : Passed ≡ admissionShown (admission sheets texts back) → litKept t x sheets texts back chain u k ≡ keptRan (beside t x) sheets texts back chain u k
+  unfolding litKept
   lit-passed = go (admission sheets texts back)
     where
-      go : (v : Verdict) → Passed ≡ admissionShown v → admitted t sheets texts back chain u k v ≡ ran t sheets texts back chain u k
+      go : (v : Verdict) → Passed ≡ admissionShown v → judged v ≡ keptRan (beside t x) sheets texts back chain u k
       go passed e = refl
       go (refused f) e = let z : _≡_ {A = ℕ} 0 1 = cc in clash z
 

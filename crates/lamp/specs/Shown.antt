@@ -1,11 +1,11 @@
--- What the lamp promises: the answer, the table after and the read-back buffer after of `lit`, for every input.
+-- What the lamp promises: the answer, and table, index and read-back buffer after it, of `litKept`, for every input.
 use mathlib.Core.Bool.{cond}
 use mathlib.Core.List.{List}
 use mathlib.Core.Path.{_≡_}
 use Prim.Native.Nat.{ℕ}
 use lib.Dec.{ltb}
 use Rattle.job.specs.Lamp as job
-use Rattle.job.specs.Lamp.{Lit}
+use Rattle.job.specs.Lamp.{LitKept}
 use Rattle.lamp.specs.declared.Light.{Light}
 
 -- a sheet's number in four bytes: 4,294,967,295 stands for every later sheet too
@@ -17,8 +17,9 @@ abbrev pub shown : job.Light → Light
 shown a =
     record { light = a .light; sheet = sheetShown (a .sheet); phase = a .phase; number = a .number; stores = a .stores }
 
--- the code's answer r, the table v and the buffer w after it are those that the job leaves
-pub record Lighted (o : Lit) (r : Light) (v w : List ℕ) : Type 0 where
-  pub answer : r ≡ shown (o .answer)
-  pub table : v ≡ o .table
-  pub back : w ≡ o .back
+-- the code's answer r, the table v, the index x and the buffer w after it are those that the job leaves
+pub record Lighted (o : LitKept) (r : Light) (v x w : List ℕ) : Type 0 where
+  pub answer : r ≡ shown (o .lit .answer)
+  pub table : v ≡ o .lit .table
+  pub index : x ≡ o .index
+  pub back : w ≡ o .lit .back

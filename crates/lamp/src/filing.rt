@@ -11,7 +11,8 @@ ghost use mathlib.Core.Path.{_≡_};
 ghost use Prim.Native.Nat.{_≤_};
 ghost use lib.ListN.{length};
 ghost use Rattle.job.specs.Sheet.{count, start, job};
-ghost use Rattle.job.specs.Filing.{filed, filing};
+ghost use Rattle.job.specs.Told.{beside};
+ghost use Rattle.job.specs.Filing.{keptFiled, keptFiling};
 ghost use Rattle.lamp.specs.Runs.{sheetOf, Asked, filingMeant};
 
 // How the filing ended: all the stores made; or the first sheet that failed too, from 1, and its reply number.
@@ -29,24 +30,26 @@ pub enum Filing {
 // `WRS M chain:link`, with a text and so many stores left.
 fn file_one(
     table: &mut [u8],
+    index: &mut [u16],
     chain: &[u8],
     link: &[u8],
     text: &[u8],
     user: u32,
     left: u32,
 ) -> Answer
-    ensures { λ r. ⌜ Asked (filed (now (table .entry)) (now (chain .entry)) user left (sheetOf (now (link .entry)) (now (text .entry))))
-        left r (now (table .exit)) ⌝ }
+    ensures { λ r. ⌜ Asked (keptFiled (beside (now (table .entry)) (now (index .entry))) (now (chain .entry)) user left
+        (sheetOf (now (link .entry)) (now (text .entry)))) left r (now (table .exit)) (now (index .exit)) ⌝ }
 {
     let mut line = [0u8; Line::HELD];
     let n = compose(&mut line, b"WRS M ", chain, link);
     let mut none = [0u8; 0];
-    elephant::request(table, &line[..n], text, &mut none, user, left)
+    indexed::request(table, index, &line[..n], text, &mut none, user, left)
 }
 
 // Every sheet filed, up to the first that is not answered 0.
 pub fn file_all(
     table: &mut [u8],
+    index: &mut [u16],
     sheets: &[u8],
     texts: &[u8],
     chain: &[u8],
@@ -54,8 +57,8 @@ pub fn file_all(
     stop: u32,
 ) -> Filing
     requires { ⌜ start (now sheets) (count (now sheets)) ≤ length (now texts) ⌝ }
-    ensures { λ r. ⌜ filing (now (table .entry)) (now (chain .entry)) user stop 1 0 (job (now (sheets .entry)) (now (texts .entry)))
-        ≡ filingMeant r (now (table .exit)) ⌝ }
+    ensures { λ r. ⌜ keptFiling (beside (now (table .entry)) (now (index .entry))) (now (chain .entry)) user stop 1 0
+        (job (now (sheets .entry)) (now (texts .entry))) ≡ filingMeant r (beside (now (table .exit)) (now (index .exit))) ⌝ }
 {
     let n = count_sheets(sheets);
     let mut left = stop;
@@ -65,6 +68,7 @@ pub fn file_all(
         let length = length_of(sheets, i);
         let answer = file_one(
             table,
+            index,
             chain,
             link_of(sheets, i),
             part(texts, at, Bytes(length)),

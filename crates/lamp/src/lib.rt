@@ -16,8 +16,9 @@ ghost use mathlib.Core.Path.{_≡_};
 ghost use Prim.Native.Nat.{_≤_};
 ghost use lib.ListN.{length};
 ghost use Rattle.job.specs.Sheet.{count, start, job};
-ghost use Rattle.job.specs.Reading.{reading};
-ghost use Rattle.job.specs.Lamp.{green, red, refusal, afterReading, ran, lit};
+ghost use Rattle.job.specs.Told.{beside};
+ghost use Rattle.job.specs.Reading.{keptReading};
+ghost use Rattle.job.specs.Lamp.{green, red, refusal, readEnds, leavingKept, keptRan, litKept};
 ghost use Rattle.lamp.specs.Shown.{sheetShown, shown, Lighted};
 
 // The answer: light 0 green, 1 red, 2 refused; the sheet that failed, from 1, or 0; phase 1 filing, 2 reading, or 0; the reply number
@@ -85,6 +86,7 @@ fn sheet_shown(sheet: usize) -> u32
 // The sheets read back: green, or red at the first that fails.
 fn light_of_reading(
     table: &mut [u8],
+    index: &mut [u16],
     sheets: &[u8],
     texts: &[u8],
     back: &mut [u8],
@@ -93,11 +95,11 @@ fn light_of_reading(
     stores: u32,
 ) -> Light
     requires { ⌜ start (now sheets) (count (now sheets)) ≤ length (now texts) ⌝ }
-    ensures { λ r. ⌜ Lighted (afterReading stores
-        (reading (now (table .entry)) (now (chain .entry)) (now (back .entry)) user 1 (job (now (sheets .entry)) (now (texts .entry)))))
-        r (now (table .exit)) (now (back .exit)) ⌝ }
+    ensures { λ r. ⌜ Lighted (readEnds leavingKept stores
+        (keptReading (beside (now (table .entry)) (now (index .entry))) (now (chain .entry)) (now (back .entry)) user 1
+        (job (now (sheets .entry)) (now (texts .entry))))) r (now (table .exit)) (now (index .exit)) (now (back .exit)) ⌝ }
 {
-    let read = read_all(table, sheets, texts, back, chain, user);
+    let read = read_all(table, index, sheets, texts, back, chain, user);
     match read {
         Reading::Failed { sheet, number } => Light::red(2, sheet, number, stores),
         Reading::Whole => Light::green(stores),
@@ -107,6 +109,7 @@ fn light_of_reading(
 // The sheets filed and, if none failed, read back.
 fn light_of_job(
     table: &mut [u8],
+    index: &mut [u16],
     sheets: &[u8],
     texts: &[u8],
     back: &mut [u8],
@@ -115,10 +118,10 @@ fn light_of_job(
     stop: u32,
 ) -> Light
     requires { ⌜ start (now sheets) (count (now sheets)) ≤ length (now texts) ⌝ }
-    ensures { λ r. ⌜ Lighted (ran (now (table .entry)) (now (sheets .entry)) (now (texts .entry)) (now (back .entry)) (now (chain .entry)) user stop)
-        r (now (table .exit)) (now (back .exit)) ⌝ }
+    ensures { λ r. ⌜ Lighted (keptRan (beside (now (table .entry)) (now (index .entry))) (now (sheets .entry)) (now (texts .entry))
+        (now (back .entry)) (now (chain .entry)) user stop) r (now (table .exit)) (now (index .exit)) (now (back .exit)) ⌝ }
 {
-    let filed = file_all(table, sheets, texts, chain, user, stop);
+    let filed = file_all(table, index, sheets, texts, chain, user, stop);
     match filed {
         Filing::Failed {
             sheet,
@@ -126,14 +129,16 @@ fn light_of_job(
             stores,
         } => Light::red(1, sheet, number, stores),
         Filing::Whole { stores } => {
-            light_of_reading(table, sheets, texts, back, chain, user, stores)
+            light_of_reading(table, index, sheets, texts, back, chain, user, stores)
         }
     }
 }
 
-// A job: its sheets and their texts filed in the directory that a chain names, and read back, for a user, with one stop number.
+// A job: its sheets and their texts filed in the directory that a chain names, and read back, for a user, with one stop number; each
+// filing and each reading is a request with the index.
 pub fn run_job(
     table: &mut [u8],
+    index: &mut [u16],
     sheets: &[u8],
     texts: &[u8],
     back: &mut [u8],
@@ -141,12 +146,12 @@ pub fn run_job(
     user: u32,
     stop: u32,
 ) -> Light
-    ensures { λ r. ⌜ Lighted (lit (now (table .entry)) (now (sheets .entry)) (now (texts .entry)) (now (back .entry)) (now (chain .entry)) user stop)
-        r (now (table .exit)) (now (back .exit)) ⌝ }
+    ensures { λ r. ⌜ Lighted (litKept (now (table .entry)) (now (index .entry)) (now (sheets .entry)) (now (texts .entry))
+        (now (back .entry)) (now (chain .entry)) user stop) r (now (table .exit)) (now (index .exit)) (now (back .exit)) ⌝ }
 {
     let admission = admit(sheets, texts, back);
     match admission {
         Admission::Refused { number, sheet } => Light::refused(sheet, number),
-        Admission::Passed => light_of_job(table, sheets, texts, back, chain, user, stop),
+        Admission::Passed => light_of_job(table, index, sheets, texts, back, chain, user, stop),
     }
 }

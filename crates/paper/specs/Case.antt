@@ -11,7 +11,9 @@ use Rattle.paper.specs.Declaration.{Declared, right, wrong, declared}
 use Rattle.paper.specs.Check.{atLink}
 use Rattle.paper.specs.Code.{joined}
 use Rattle.paper.specs.Block.{blocks}
+use Rattle.paper.specs.Entry.{Holder, baseList, inDirectory}
 use Rattle.paper.specs.Answer.{Answer, Outcome, yesNo, requested, mending}
+use Rattle.paper.specs.Index.{trueIndex, Met, lookedUp, Kept, keeping, mendKeeping}
 
 pub data Case : Type 0 where
   -- a code joined with another is this code
@@ -24,6 +26,14 @@ pub data Case : Type 0 where
   asks : (table line text reply : List ℕ) (user stop : ℕ) (answer : Answer) (after replied : List ℕ) → Case
   -- mending with this stop number; then the answer and the table after
   mends : (table : List ℕ) (stop : ℕ) (answer : Answer) (after : List ℕ) → Case
+  -- the true index of a table
+  orders : (table index : List ℕ) → Case
+  -- a look-up by a table and a list, of a name in a directory or a base list; then whether it is found, the entry and the count
+  looks : (table index : List ℕ) (d : Holder) (name : List ℕ) (found : Bool) (entry count : ℕ) → Case
+  -- a request's table, index, line, user and stop number; then the number, the table after and the index after
+  keeps : (table index line : List ℕ) (user stop number : ℕ) (after kept : List ℕ) → Case
+  -- .. and mending's
+  mendsKept : (table index : List ℕ) (stop number : ℕ) (after kept : List ℕ) → Case
 
 abbrev pub isRight : Declared → Bool
 isRight (right p) = true
@@ -43,6 +53,16 @@ sameAnswer a b =
 abbrev pub comesTo : Answer → List ℕ → List ℕ → Outcome → Bool
 comesTo a after replied o = sameAnswer (o .answer) a && same (o .table) after && same (o .reply) replied
 
+-- the look-up answers so
+abbrev pub meets : Bool → ℕ → ℕ → Met → Bool
+meets true entry count m = m .found && eqb (m .entry) entry && eqb (m .count) count
+meets false entry count m = not (m .found) && eqb (m .entry) entry && eqb (m .count) count
+
+-- the number, the table after and the index after are these
+abbrev pub leaves : ℕ → List ℕ → List ℕ → Kept → Bool
+leaves number after kept o =
+    eqb (o .outcome .answer .number) number && same (o .outcome .table) after && same (o .index) kept
+
 unfoldable pub holds : Case → Bool
 holds (joins one other both) = eqb (joined one other) both
 holds (takes bytes records) = eqb (blocks bytes) records
@@ -51,6 +71,11 @@ holds (declares word false) = not (isRight (declared (word ∷ [])))
 holds (asks table line text reply user stop a after replied) =
     comesTo a after replied (requested boxed table line text reply user stop)
 holds (mends table stop a after) = comesTo a after [] (mending boxed table stop)
+holds (orders table index) = same (trueIndex table) index
+holds (looks table index d name found entry count) = meets found entry count (lookedUp table index d name)
+holds (keeps table index line user stop number after kept) =
+    leaves number after kept (keeping table index line [] [] user stop)
+holds (mendsKept table index stop number after kept) = leaves number after kept (mendKeeping table index stop)
 
 unfoldable pub holdAll : List Case → Bool
 holdAll [] = true
@@ -281,6 +306,10 @@ three = box 1 3 ++ entryR ++ sheetOf 0 3 ++ within 0 66 2 0 ++ but 16 97 (within
 -- a table that is refused
 abbrev pub unsound : List ℕ → Case
 unsound table = asks table delR [] [] 1 9 (answer 2 0 0 0 0 0 0) table []
+
+-- places after the last entry
+abbrev pub padding : ℕ → List ℕ
+padding n = replicate n 65535
 
 unfoldable pub cases : List Case
 cases =
@@ -539,4 +568,42 @@ cases =
     ∷ unsound (bearing 0 0 0)
     -- a table of document 01, a name length in byte 9 and the name after it
     ∷ unsound (headingR ++ take 9 entryR ++ 2 ∷ 46 ∷ 82 ∷ replicate 20 0)
+    -- document 02: "ordered by directory, then user, then name"; "places after the last entry hold 65,535": A of record 2 before the base files
+    -- of user 1 and user 777; A, AA and B of record 0 before `.R`; and, which no sound table has, users in two directories
+    ∷ orders (replicate 96 0) (padding 3)
+    ∷ orders (given entryR entryA) (4 ∷ 1 ∷ 3 ∷ padding 2)
+    ∷ orders three (5 ∷ 4 ∷ 3 ∷ 1 ∷ padding 2)
+    ∷ orders (within 1 65 0 0 ++ but 6 9 (within 0 65 0 0)) (1 ∷ 0 ∷ [])
+    -- "a halving search that takes the lower middle and stops at equal": of four entries the second is looked at first
+    ∷ looks three (5 ∷ 4 ∷ 3 ∷ 1 ∷ padding 2) (inDirectory 0) (65 ∷ 65 ∷ []) true 4 1
+    ∷ looks three (5 ∷ 4 ∷ 3 ∷ 1 ∷ padding 2) (inDirectory 0) (65 ∷ []) true 5 2
+    ∷ looks three (5 ∷ 4 ∷ 3 ∷ 1 ∷ padding 2) (inDirectory 0) (66 ∷ []) true 3 2
+    ∷ looks three (5 ∷ 4 ∷ 3 ∷ 1 ∷ padding 2) (baseList 1) dotR true 1 3
+    -- not there: a name between two, another user's; with a directory the user is not looked at; a name that no entry can bear; no list
+    ∷ looks three (5 ∷ 4 ∷ 3 ∷ 1 ∷ padding 2) (inDirectory 0) (67 ∷ []) false 65535 3
+    ∷ looks three (5 ∷ 4 ∷ 3 ∷ 1 ∷ padding 2) (baseList 2) dotR false 65535 3
+    ∷ looks three (5 ∷ 4 ∷ 3 ∷ 1 ∷ padding 2) (record { heading = 0; user = 9 }) (65 ∷ []) true 5 2
+    ∷ looks three (5 ∷ 4 ∷ 3 ∷ 1 ∷ padding 2) (inDirectory 0) (97 ∷ []) false 65535 0
+    ∷ looks three [] (inDirectory 0) (65 ∷ []) false 65535 0
+    -- "Every request keeps the index true"
+    ∷ keeps pair (padding 2) crdR 1 9 0 (headingR ++ entryR) (1 ∷ padding 1)
+    ∷ keeps (shelf ++ blank) (1 ∷ 3 ∷ padding 3) (dup dotR (night ++ link)) 1 9 0 (given entryR entryA) (4 ∷ 1 ∷ 3 ∷ padding 2)
+    -- ".. a delete refused midway included": `DEL .R .W`
+    ∷ keeps (headingR ++ entryR) (1 ∷ padding 1) (delR ++ 32 ∷ 46 ∷ 87 ∷ []) 1 9 11 pair (padding 2)
+    -- "26, exactly when the list's length or content differs from this": order, padding, length
+    ∷ keeps shelf (3 ∷ 1 ∷ padding 2) delR 1 9 26 shelf (3 ∷ 1 ∷ padding 2)
+    ∷ keeps shelf (1 ∷ 3 ∷ 65535 ∷ 0 ∷ []) delR 1 9 26 shelf (1 ∷ 3 ∷ 65535 ∷ 0 ∷ [])
+    ∷ keeps shelf (1 ∷ 3 ∷ padding 1) delR 1 9 26 shelf (1 ∷ 3 ∷ padding 1)
+    -- "straight after 2": before 3
+    ∷ keeps shelf (padding 4) delR 1000000 9 26 shelf (padding 4)
+    ∷ keeps shelf (1 ∷ 3 ∷ padding 2) delR 1000000 9 3 shelf (1 ∷ 3 ∷ padding 2)
+    ∷ keeps (headingR ++ blank) (1 ∷ []) delR 1 9 2 (headingR ++ blank) (1 ∷ [])
+    -- "A run that answers 22 leaves the index as it was lent, and the mend that follows builds it afresh."
+    ∷ keeps pair (padding 2) crdR 1 2 22 (box 0 0 ++ entryR) (padding 2)
+    ∷ mendsKept (box 0 0 ++ entryR) (padding 2) 9 0 (headingR ++ entryR) (1 ∷ padding 1)
+    ∷ mendsKept (box 0 0 ++ entryR) (padding 2) 0 22 (box 0 0 ++ entryR) (padding 2)
+    -- "mending judges only the length", after 2
+    ∷ mendsKept shelf (7 ∷ 7 ∷ 7 ∷ 7 ∷ []) 9 0 shelf (1 ∷ 3 ∷ padding 2)
+    ∷ mendsKept shelf (1 ∷ 3 ∷ padding 1) 9 26 shelf (1 ∷ 3 ∷ padding 1)
+    ∷ mendsKept (headingR ++ headingR ++ but 19 1 entryR) [] 9 2 (headingR ++ headingR ++ but 19 1 entryR) []
     ∷ []

@@ -21,4 +21,5 @@ pub mod Effect
 pub mod Mend
 pub mod Answer
 pub mod Convert
+pub mod Index
 pub mod Case

@@ -3,7 +3,7 @@
 use filebox::{light, request, Number, NO_STOP};
 use turns::nanoseconds;
 
-use crate::tables::{hundred, USER};
+use crate::tables::{hundred, index, USER};
 
 const RECORDS: usize = 2_048;
 const SHEETS: usize = 25;
@@ -15,7 +15,9 @@ const BAR: f64 = 1.2;
 /// The job, as the lamp takes it and as lines, on a table that is set right before each turn.
 struct Job {
     before: Vec<u8>,
+    index_before: Vec<u16>,
     table: Vec<u8>,
+    index: Vec<u16>,
     sheets: Vec<u8>,
     texts: Vec<u8>,
     back: Vec<u8>,
@@ -37,9 +39,12 @@ impl Job {
             names.iter().map(line).collect()
         };
         let before = hundred(RECORDS);
+        let index_before = index(&before);
         Job {
             table: before.clone(),
             before,
+            index: index_before.clone(),
+            index_before,
             sheets: names.iter().flat_map(record).collect(),
             texts: (0..SHEETS * BYTES).map(|at| (at % 251) as u8).collect(),
             back: vec![0; BYTES],
@@ -50,13 +55,14 @@ impl Job {
 
     fn set_right(&mut self) {
         self.table.copy_from_slice(&self.before);
+        self.index.copy_from_slice(&self.index_before);
     }
 
     /// The lamp, which must be green.
     fn light(&mut self) {
-        let (table, back) = (&mut self.table, &mut self.back);
-        let (sheets, texts) = (&self.sheets, &self.texts);
-        let lamp = light(table, sheets, texts, back, CHAIN.as_bytes(), USER, NO_STOP);
+        let (table, index, back) = (&mut self.table, &mut self.index, &mut self.back);
+        let (sheets, texts, chain) = (&self.sheets, &self.texts, CHAIN.as_bytes());
+        let lamp = light(table, index, sheets, texts, back, chain, USER, NO_STOP);
         assert_eq!(
             lamp.numbers(),
             [0, 0, 0, 0, (SHEETS * (BYTES / 24 + 4)) as u32]
@@ -68,8 +74,8 @@ impl Job {
         let filings = self.filings.iter().zip(self.texts.chunks(BYTES));
         let readings = self.readings.iter().map(|line| (line, &[][..]));
         for (line, text) in filings.chain(readings) {
-            let (table, reply) = (&mut self.table, &mut self.back);
-            let answer = request(table, line.as_bytes(), text, reply, USER, NO_STOP);
+            let (table, index, reply) = (&mut self.table, &mut self.index, &mut self.back);
+            let answer = request(table, index, line.as_bytes(), text, reply, USER, NO_STOP);
             assert_eq!(answer.number, Number::Done);
         }
     }
@@ -100,11 +106,12 @@ mod tests {
     fn the_job_and_its_requests_leave_the_same() {
         let mut job = Job::new();
         job.light();
-        let (table, back) = (job.table.clone(), job.back.clone());
+        let (table, index, back) = (job.table.clone(), job.index.clone(), job.back.clone());
         job.set_right();
         job.back.fill(0);
         job.requests();
         assert!(job.table == table && job.table != job.before);
+        assert!(job.index == index && job.index != job.index_before);
         assert_eq!(job.back, back);
         assert_eq!(back, job.texts[(SHEETS - 1) * BYTES..]);
     }

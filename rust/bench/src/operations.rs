@@ -1,4 +1,4 @@
-//! What is timed: calls on a table, which is set right before each turn.
+//! What is timed: calls on a table with its index, which are set right before each turn.
 
 use filebox::{mend, request, Number, LONGEST_TEXT, NO_STOP};
 use turns::nanoseconds;
@@ -6,7 +6,7 @@ use turns::nanoseconds;
 use crate::names::{of_one_length, of_other_lengths, ONE_LENGTH, OTHER_LENGTHS};
 use crate::parts::part_of_long;
 use crate::tables::{
-    crowded, cut, hundred, long_text, with_long_file, with_room_for_another, USER,
+    crowded, cut, hundred, index, long_text, with_long_file, with_room_for_another, USER,
 };
 use crate::trees::{full_of_loops, tree};
 
@@ -180,7 +180,9 @@ pub fn named(name: &str) -> Option<&'static Operation> {
 /// An operation, ready to be timed again and again.
 pub struct Ready {
     pub before: Vec<u8>,
+    index_before: Vec<u16>,
     table: Vec<u8>,
+    index: Vec<u16>,
     reply: Vec<u8>,
     calls: Vec<Call>,
 }
@@ -188,9 +190,12 @@ pub struct Ready {
 impl Operation {
     pub fn ready(&self, records: usize) -> Ready {
         let before = (self.table)(records);
+        let index_before = index(&before);
         Ready {
             table: before.clone(),
             before,
+            index: index_before.clone(),
+            index_before,
             reply: vec![0; LONGEST_TEXT],
             calls: (self.calls)(records),
         }
@@ -203,10 +208,10 @@ impl Ready {
     pub fn timed(&mut self) {
         for call in &self.calls {
             let answer = match call {
-                Call::Mend => mend(&mut self.table, NO_STOP),
+                Call::Mend => mend(&mut self.table, &mut self.index, NO_STOP),
                 Call::Request { line, text } => {
-                    let (table, reply) = (&mut self.table, &mut self.reply);
-                    request(table, line.as_bytes(), text, reply, USER, NO_STOP)
+                    let (table, index, reply) = (&mut self.table, &mut self.index, &mut self.reply);
+                    request(table, index, line.as_bytes(), text, reply, USER, NO_STOP)
                 }
             };
             assert_eq!(answer.number, Number::Done);
@@ -216,6 +221,7 @@ impl Ready {
     /// The table as it was, outside the timed part.
     pub fn set_right(&mut self) {
         self.table.copy_from_slice(&self.before);
+        self.index.copy_from_slice(&self.index_before);
     }
 }
 

@@ -1,11 +1,11 @@
 //! A part of a sheet beside a sheet of its length: 24 bytes near the end of the long file, out of two blocks, beside a file of 24
-//! bytes in the same table, which the judge takes the same time for.
+//! bytes in the same table, for which judging table and index takes the same time.
 
 use filebox::{request, Number, NO_STOP};
 use turns::nanoseconds;
 
 use crate::operations::times;
-use crate::tables::{long_text, with_long_file, USER};
+use crate::tables::{index, long_text, with_long_file, USER};
 
 const RECORDS: usize = 2_048;
 const BYTES: usize = 24;
@@ -20,11 +20,13 @@ pub fn part_of_long(records: usize) -> String {
     format!("RDS .R:LONG {first:o} {BYTES:o}")
 }
 
-/// The least microseconds of a line that is refused before its name is looked up: the judge's.
+/// The least microseconds of a line that is refused before its name is looked up: the judge's, of table and index.
 fn judged(turns: usize) -> f64 {
     let mut table = with_long_file(RECORDS);
+    let mut index = index(&table);
     let mut refused = || {
-        let answer = request(&mut table, b"RDS", &[], &mut [], USER, NO_STOP);
+        let (table, index) = (&mut table, &mut index);
+        let answer = request(table, index, b"RDS", &[], &mut [], USER, NO_STOP);
         assert_eq!(answer.number, Number::WrongCount);
     };
     let times = (0..turns).map(|_| nanoseconds(&mut refused));

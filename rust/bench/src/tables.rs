@@ -1,6 +1,6 @@
 //! The tables of the bench: four directories, files of 24 bytes in them, and perhaps one long file.
 
-use filebox::Table;
+use filebox::{index_of, Table, PADDING, RECORD_BYTES};
 
 /// The base names of the four directories.
 const DIRECTORIES: [&str; 4] = [".R", ".W", ".G", ".T"];
@@ -71,8 +71,13 @@ pub fn crowded(records: usize) -> Vec<u8> {
 
 /// A hundred files, and a WRS that was cut in its text.
 pub fn cut(records: usize) -> Vec<u8> {
-    let mut table = hundred(records);
-    let answer = filebox::request(&mut table, b"WRS M .R:CUT", &[b'C'; 240], &mut [], USER, 8);
+    let mut table = Table::of(hundred(records));
+    let answer = table.stopped(USER, "WRS M .R:CUT", &[b'C'; 240], &mut [], 8);
     assert_eq!(answer.number, filebox::Number::Stopped);
-    table
+    table.into_bytes()
+}
+
+/// The index of a table; of one that is cut, a list that mending has yet to build.
+pub fn index(table: &[u8]) -> Vec<u16> {
+    index_of(table).unwrap_or_else(|_| vec![PADDING; table.len() / RECORD_BYTES])
 }

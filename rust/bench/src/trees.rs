@@ -4,7 +4,7 @@
 use filebox::{request, Number, LONGEST_TEXT, NO_STOP};
 use turns::nanoseconds;
 
-use crate::tables::{grown, USER};
+use crate::tables::{grown, index, USER};
 
 const RECORDS: usize = 2_048;
 const IN_DIRECTORY: usize = 112;
@@ -46,8 +46,10 @@ fn knotted(records: usize) -> Vec<u8> {
 /// The least time of the refusal; is it within the bar?
 pub fn bench(turns: usize) -> bool {
     let (mut table, mut reply) = (knotted(RECORDS), vec![0; LONGEST_TEXT]);
+    let mut index = index(&table);
     let mut refused = || {
-        let answer = request(&mut table, b"LST* .R 8", &[], &mut reply, USER, NO_STOP);
+        let (table, index) = (&mut table, &mut index);
+        let answer = request(table, index, b"LST* .R 8", &[], &mut reply, USER, NO_STOP);
         assert_eq!(answer.number, Number::ReplyTooShort);
     };
     let times = (0..turns).map(|_| nanoseconds(&mut refused));

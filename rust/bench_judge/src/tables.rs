@@ -1,6 +1,6 @@
 //! Sound tables without a free record, in several shapes.
 
-use random::names::laid;
+use random::names::{laid, laid_before, name};
 
 const RECORD: usize = 32;
 const IN_DIRECTORY: usize = 112;
@@ -201,22 +201,19 @@ fn in_bucket_0(records: usize, bucket: fn(usize, &str) -> u64) -> Vec<u8> {
     })
 }
 
-/// The bucket of an entry without a user, as the judge computes it: from its directory and from its bytes 9-19.
+/// The bucket of an entry without a user, as the judge computes it: from its directory and from the halves of its name's number.
 fn bucket(directory: usize, name: &str) -> u64 {
     let bytes = laid(name);
-    let four = |j: usize| {
+    let half = |j: usize| {
         let four = [bytes[j], bytes[j + 1], bytes[j + 2], bytes[j + 3]];
         u64::from(u32::from_le_bytes(four))
     };
-    let sum = directory as u64 * 926071635
-        + four(0) * 374761393
-        + four(4) * 1013904223
-        + four(7) * 962287919;
-    sum / 1048576 % 2048
+    let sum = directory as u64 * 926071635 + half(5) * 374761393 + half(1) * 1013904223;
+    sum / 16777216 % 2048
 }
 
 fn bucket_before(directory: usize, name: &str) -> u64 {
-    let bytes = padded(name);
+    let bytes = laid_before(name.as_bytes());
     let two = |j: usize| u64::from(u16::from_le_bytes([bytes[j], bytes[j + 1]]));
     let sum = directory as u64 * 237074338683
         + u64::from(bytes[0]) * 225825020121
@@ -226,14 +223,6 @@ fn bucket_before(directory: usize, name: &str) -> u64 {
         + two(7) * 266225641653
         + two(9) * 260119046801;
     sum / 16777216 % 2048
-}
-
-/// A name as it lay before it was a number: its length before it, and zeros after.
-fn padded(name: &str) -> [u8; 11] {
-    let mut bytes = [0u8; 11];
-    bytes[0] = name.len() as u8;
-    bytes[1..=name.len()].copy_from_slice(name.as_bytes());
-    bytes
 }
 
 /// Four base files for each user, all of one directory; `fit` says which users.
@@ -254,6 +243,24 @@ pub fn base_files(records: usize, fit: fn(u32) -> bool) -> Vec<u8> {
 /// Whether the base files of the user fall into one bucket of the crowds' chains.
 pub fn is_in_one_bucket(user: u32) -> bool {
     (65535 * 237074338683 + u64::from(user) * 159217510859) / 16777216 % 2048 == 5
+}
+
+/// The same table with its names as they lay before they were numbers.
+pub fn with_old_names(table: &[u8]) -> Vec<u8> {
+    let mut old = table.to_vec();
+    for entry in old.chunks_mut(RECORD).filter(|record| record[0] == 2) {
+        let laid = laid_before(name(entry).as_bytes());
+        entry[9..20].copy_from_slice(&laid);
+    }
+    old
+}
+
+/// .. and with no counts in its headings.
+pub fn without_counts(table: &[u8]) -> Vec<u8> {
+    let mut bare = table.to_vec();
+    let headings = bare.chunks_mut(RECORD).filter(|record| record[0] == 1);
+    headings.for_each(|heading| heading[12..16].fill(0));
+    bare
 }
 
 /// The same table with its records in another order.

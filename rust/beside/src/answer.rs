@@ -1,6 +1,7 @@
 //! The two calls, `request` and `mend`, and their answer.
 
 use crate::effects::{outcome, Asked, Outcome};
+use crate::index::{build, has_a_place_for_each, is_true};
 use crate::layout::Layout;
 use crate::mend::{make, stores};
 use crate::records::RECORD_BYTES;
@@ -8,11 +9,13 @@ use crate::request::{read, refusal, Place, Refusal};
 use crate::sound::{is_sound, sound_in, HIGHEST_USER};
 use crate::table::{length_fits, Table};
 
-/// The reply numbers: 0 to 22 of document 01, and 23 to 25, 27 and 28 of document 02.
-pub const NUMBERS: [u32; 28] = [
+/// The reply numbers: 0 to 22 of document 01, and 23 to 28 of document 02.
+pub const NUMBERS: [u32; 29] = [
     0, 1, 2, 3, 4, 5, 6, 7, 8, 9, 10, 11, 12, 13, 14, 15, 16, 17, 18, 19, 20, 21, 22, 23, 24, 25,
-    27, 28,
+    26, 27, 28,
 ];
+/// "a run that answers 22".
+const STOPPED: u32 = 22;
 /// As many counts as have one for each number.
 pub const COUNTS: usize = NUMBERS[NUMBERS.len() - 1] as usize + 1;
 
@@ -64,63 +67,76 @@ impl Answer {
     }
 }
 
-/// Do a request: the table is changed, the line and the text are read, the reply buffer is written; for a user,
+/// Do a request: the table and the index are changed, the line and the text are read, the reply buffer is written; for a user,
 /// with a stop number. Answers for every input, and never panics.
 #[must_use = "the answer may be a refusal"]
 pub fn request(
     table: &mut [u8],
+    index: &mut [u16],
     line: &[u8],
     text: &[u8],
     reply: &mut [u8],
     user: u32,
     stop: u32,
 ) -> Answer {
-    request_in(Layout::Six, table, line, text, reply, user, stop)
+    request_in(Layout::Six, table, index, line, text, reply, user, stop)
 }
 
 /// The same on a table whose names lie so: "every request answers as on the old table".
 #[must_use = "the answer may be a refusal"]
+#[allow(clippy::too_many_arguments)]
 pub fn request_in(
     layout: Layout,
     table: &mut [u8],
+    index: &mut [u16],
     line: &[u8],
     text: &[u8],
     reply: &mut [u8],
     user: u32,
     stop: u32,
 ) -> Answer {
-    match judge(layout, table, line, text, reply.len(), user) {
+    let judged = admitted(layout, table, index, user).and_then(|admitted| {
+        let request = read(line, text.len())?;
+        let asked = Asked {
+            table: &admitted,
+            user,
+            text,
+            room: reply.len(),
+        };
+        Ok(outcome(&asked, &request))
+    });
+    match judged {
         Err(refusal) => Answer::refused(refusal),
-        Ok(outcome) => carry_out(layout, &outcome, table, reply, stop),
+        Ok(outcome) => {
+            let answer = carry_out(layout, &outcome, table, reply, stop);
+            keep(layout, table, index, answer)
+        }
     }
 }
 
-/// Numbers 1 to 10 and 27; then what the request comes to.
-fn judge(
-    layout: Layout,
-    bytes: &[u8],
-    line: &[u8],
-    text: &[u8],
-    room: usize,
-    user: u32,
-) -> Result<Outcome, Refusal> {
+/// Numbers 1, 2, 26 and 3: 26 "straight after 2".
+fn admitted(layout: Layout, bytes: &[u8], index: &[u16], user: u32) -> Result<Table, Refusal> {
     if !length_fits(bytes) {
         return Err(refusal(1, Place::NONE));
     }
     let table = Table::read(layout, bytes)
         .filter(is_sound)
         .ok_or(refusal(2, Place::NONE))?;
+    if !is_true(layout, bytes, index) {
+        return Err(refusal(26, Place::NONE));
+    }
     if user > HIGHEST_USER {
         return Err(refusal(3, Place::NONE));
     }
-    let request = read(line, text.len())?;
-    let asked = Asked {
-        table: &table,
-        user,
-        text,
-        room,
-    };
-    Ok(outcome(&asked, &request))
+    Ok(table)
+}
+
+/// "Every request keeps the index true, a delete refused midway included. A run that answers 22 leaves the index as it was lent".
+fn keep(layout: Layout, table: &[u8], index: &mut [u16], answer: Answer) -> Answer {
+    if answer.number != STOPPED {
+        build(layout, table, index);
+    }
+    answer
 }
 
 /// How many of the stores that are needed are made: "Exactly the first k".
@@ -150,7 +166,7 @@ fn carry_out(
         ..Answer::refused(refusal)
     };
     if made < needed {
-        return counted(refusal(22, Place::NONE));
+        return counted(refusal(STOPPED, Place::NONE));
     }
     if let Some(refusal) = outcome.refusal {
         return counted(refusal);
@@ -163,15 +179,16 @@ fn carry_out(
     }
 }
 
-/// Mend a table, with a stop number. "If the result wouldn't be sound, answer 2 and leave the table as found."
+/// Mend a table, with a stop number. "If the result wouldn't be sound, answer 2 and leave the table as found." "mending judges only the
+/// length" of the index and "builds it afresh".
 #[must_use = "the answer may be a refusal"]
-pub fn mend(table: &mut [u8], stop: u32) -> Answer {
-    mend_in(Layout::Six, table, stop)
+pub fn mend(table: &mut [u8], index: &mut [u16], stop: u32) -> Answer {
+    mend_in(Layout::Six, table, index, stop)
 }
 
-/// The same of a table whose names lie so. Mending looks at no name; whether the result is sound does.
+/// The same of a table whose names lie so. Mending looks at no name; whether the result is sound does, and the index.
 #[must_use = "the answer may be a refusal"]
-pub fn mend_in(layout: Layout, table: &mut [u8], stop: u32) -> Answer {
+pub fn mend_in(layout: Layout, table: &mut [u8], index: &mut [u16], stop: u32) -> Answer {
     if !length_fits(table) {
         return Answer::refused(refusal(1, Place::NONE));
     }
@@ -181,11 +198,15 @@ pub fn mend_in(layout: Layout, table: &mut [u8], stop: u32) -> Answer {
     if !sound_in(layout, &result) {
         return Answer::refused(refusal(2, Place::NONE));
     }
+    if !has_a_place_for_each(table, index) {
+        return Answer::refused(refusal(26, Place::NONE));
+    }
     let made = first(stores.len(), stop);
     make(table, &stores[..made]);
-    let number = if made < stores.len() { 22 } else { 0 };
-    Answer {
+    let number = if made < stores.len() { STOPPED } else { 0 };
+    let answer = Answer {
         stores: made as u32,
         ..Answer::refused(refusal(number, Place::NONE))
-    }
+    };
+    keep(layout, table, index, answer)
 }

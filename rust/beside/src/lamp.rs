@@ -5,7 +5,7 @@
 
 use std::collections::HashSet;
 
-use crate::answer::request;
+use crate::answer::{request, Answer};
 use crate::names::is_link_name;
 
 /// "A job sheet is records of 32 bytes".
@@ -138,8 +138,10 @@ fn judged<'a>(sheets: &'a [u8], texts: &'a [u8], room: usize) -> Result<Vec<Pape
     }
 }
 
-/// What is the same for every request of a job.
+/// What is the same for every request of a job: the table, the index beside it, the chain and the user.
 struct Fixture<'a> {
+    table: &'a mut [u8],
+    index: &'a mut [u16],
     chain: &'a [u8],
     user: u32,
 }
@@ -150,14 +152,19 @@ impl Fixture<'_> {
         [before, self.chain, b":", paper.link].concat()
     }
 
+    /// A filing or a reading: the request, with the index.
+    fn request(&mut self, line: &[u8], text: &[u8], reply: &mut [u8], stop: u32) -> Answer {
+        request(self.table, self.index, line, text, reply, self.user, stop)
+    }
+
     /// "files every sheet in order, as `WRS M chain:link`, into one directory named by a chain, one stop number for the
     /// job, stops at the first that isn't answered 0". The stores made, or the red light.
-    fn file(&self, table: &mut [u8], papers: &[Paper], stop: u32) -> Result<u32, Light> {
+    fn file(&mut self, papers: &[Paper], stop: u32) -> Result<u32, Light> {
         let mut stores = 0;
         for (at, paper) in papers.iter().enumerate() {
             let line = self.line(b"WRS M ", paper);
             let left = stop - stores;
-            let answer = request(table, &line, paper.text, &mut [], self.user, left);
+            let answer = self.request(&line, paper.text, &mut [], left);
             stores += answer.stores;
             if answer.number != 0 {
                 return Err(Light::red(at, FILING, answer.number, stores));
@@ -168,15 +175,10 @@ impl Fixture<'_> {
 
     /// "reads each back whole into a third lent buffer, up to the first that fails": that one, from 0, and its reply. It
     /// fails too where the text read back is not the text sent.
-    fn read_back(
-        &self,
-        table: &mut [u8],
-        papers: &[Paper],
-        back: &mut [u8],
-    ) -> Result<(), (usize, u32)> {
+    fn read_back(&mut self, papers: &[Paper], back: &mut [u8]) -> Result<(), (usize, u32)> {
         for (at, paper) in papers.iter().enumerate() {
             let line = self.line(b"RDS ", paper);
-            let answer = request(table, &line, b"", back, self.user, 0);
+            let answer = self.request(&line, b"", back, 0);
             let read = &back[..answer.bytes];
             if answer.number != 0 || read != paper.text {
                 return Err((at, answer.number));
@@ -186,11 +188,13 @@ impl Fixture<'_> {
     }
 }
 
-/// Do a job: the table is changed, sheets, texts and chain are read, the read-back buffer is written; for a user, with one
+/// Do a job: the table and the index are changed, sheets, texts and chain are read, the read-back buffer is written; for a user, with one
 /// stop number. "Green exactly when every sheet was filed and read back with reply 0 and each text read back equals the
 /// text sent; otherwise red with the number, from 1, of the first sheet that failed and its filing or reading reply."
+#[allow(clippy::too_many_arguments)]
 pub fn light(
     table: &mut [u8],
+    index: &mut [u16],
     sheets: &[u8],
     texts: &[u8],
     back: &mut [u8],
@@ -202,12 +206,17 @@ pub fn light(
         Ok(papers) => papers,
         Err(refused) => return refused,
     };
-    let fixture = Fixture { chain, user };
-    let stores = match fixture.file(table, &papers, stop) {
+    let mut fixture = Fixture {
+        table,
+        index,
+        chain,
+        user,
+    };
+    let stores = match fixture.file(&papers, stop) {
         Ok(stores) => stores,
         Err(red) => return red,
     };
-    match fixture.read_back(table, &papers, back) {
+    match fixture.read_back(&papers, back) {
         Err((at, number)) => Light::red(at, READING, number, stores),
         Ok(()) => Light {
             light: GREEN,

@@ -67,7 +67,7 @@ impl Layout {
 }
 
 /// A name as a number, its first character highest, blanks after its last.
-fn packed(name: &[u8]) -> u64 {
+pub fn packed(name: &[u8]) -> u64 {
     let code = |at: usize| {
         name.get(at)
             .map_or(0, |byte| byte.wrapping_sub(BLANK) & HIGHEST_CODE)

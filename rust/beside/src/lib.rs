@@ -3,13 +3,14 @@
 //!
 //! Written from the documents alone, for clarity and not for speed. A request is first worked out on a copy of
 //! the table (`effects`), as a list of stores and an answer; then the first k stores are made (`answer`).
-//! Every public function is total: it answers for every table, line, text, user and stop number. How names lie in a table is a
+//! Every public function is total: it answers for every table, index, line, text, user and stop number. How names lie in a table is a
 //! [`Layout`]; a call that has none of its own is of six-bit names.
 
 mod answer;
 mod declarations;
 mod effects;
 mod entries;
+mod index;
 mod lamp;
 mod layout;
 mod line;
@@ -26,6 +27,7 @@ mod walk;
 
 pub use answer::{mend, mend_in, request, request_in, Answer, COUNTS, NUMBERS};
 pub use declarations::{Declared, DeclaredLifetime, Guard};
+pub use index::{look_up, true_index, true_index_in, Found};
 pub use lamp::{light, Light};
 pub use layout::{converted, from_six, to_six, Layout};
 pub use line::{words, Word};

@@ -3,6 +3,7 @@
 use std::io::{self, BufRead, Write};
 
 use crate::answer::{request, Answer};
+use crate::index::true_index;
 use crate::line::words;
 use crate::records::RECORD_BYTES;
 
@@ -40,16 +41,18 @@ fn print(output: &mut impl Write, answer: Answer) -> io::Result<()> {
 
 /// "takes request lines from standard input, keeps a table of at most 1,024 records, all free at the start, acts
 /// for user 1 with k 65,535 and a reply buffer of 24,000 bytes, and takes the line after a WRS, refused or not,
-/// as its text."
+/// as its text." It keeps an index beside the table.
 pub fn run(mut input: impl BufRead, mut output: impl Write) -> io::Result<()> {
     let mut table = vec![0; RECORDS * RECORD_BYTES];
+    let mut index = true_index(&table);
     let mut reply = vec![0; REPLY];
     while let Some(line) = next_line(&mut input)? {
         let text = match takes_text(&line) {
             true => next_line(&mut input)?.unwrap_or_default(),
             false => Vec::new(),
         };
-        let answer = request(&mut table, &line, &text, &mut reply, USER, STOP);
+        let reply = &mut reply[..];
+        let answer = request(&mut table, &mut index, &line, &text, reply, USER, STOP);
         print(&mut output, answer)?;
         output.write_all(&reply[..answer.bytes])?;
         output.flush()?;

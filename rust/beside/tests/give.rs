@@ -407,11 +407,16 @@ fn the_lamp_files_in_nobody_elses_directory() {
     for chain in [&b".000777"[..], b".000777:D"] {
         // red, sheet 1, filing, 8, no stores
         let before = floor.table.clone();
-        let light = beside::light(&mut floor.table, &sheet, b"", &mut [], chain, DAY, 65_535);
+        let (table, mut index) = (&mut floor.table, beside::true_index(&before));
+        let back = &mut [][..];
+        let light = beside::light(table, &mut index, &sheet, b"", back, chain, DAY, 65_535);
         assert_eq!(light.numbers(), [1, 1, 1, 8, 0]);
-        let light = filebox::light(&mut floor.table, &sheet, b"", &mut [], chain, DAY, 65_535);
+        let light = filebox::light(table, &mut index, &sheet, b"", back, chain, DAY, 65_535);
         assert_eq!(light.numbers(), [1, 1, 1, 8, 0]);
-        assert_eq!(floor.table, before);
+        assert_eq!(
+            (&floor.table, index),
+            (&before, beside::true_index(&before))
+        );
     }
 }
 

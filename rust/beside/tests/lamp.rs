@@ -77,10 +77,12 @@ impl Job {
         job
     }
 
-    /// The job done by the second program and by the proved library: answer, table and buffer must agree.
+    /// The job done with the true index by the second program and by the proved library: answer, table, index and buffer must agree.
     fn light(&self) -> Lit {
         let (mut table, mut back) = (self.table.clone(), vec![UNTOUCHED; self.room]);
-        let (mut proved_table, mut proved_back) = (table.clone(), back.clone());
+        let mut index = beside::true_index(&table);
+        let (mut proved_table, mut proved_index) = (table.clone(), index.clone());
+        let mut proved_back = back.clone();
         let Job {
             sheets,
             texts,
@@ -89,19 +91,17 @@ impl Job {
             stop,
             ..
         } = self;
-        let light = beside::light(&mut table, sheets, texts, &mut back, chain, *user, *stop);
-        let proved = filebox::light(
-            &mut proved_table,
-            sheets,
-            texts,
-            &mut proved_back,
-            chain,
-            *user,
-            *stop,
-        );
+        let (t, x) = (&mut table, &mut index);
+        let light = beside::light(t, x, sheets, texts, &mut back, chain, *user, *stop);
+        let (t, x, b) = (&mut proved_table, &mut proved_index, &mut proved_back);
+        let proved = filebox::light(t, x, sheets, texts, b, chain, *user, *stop);
         assert_eq!(proved.numbers(), light.numbers(), "the library's light");
         assert!(proved_table == table, "the library's table");
+        assert!(proved_index == index, "the library's index");
         assert!(proved_back == back, "the library's buffer");
+        if light.number != 22 && beside::sound(&table) {
+            assert!(index == beside::true_index(&table), "the index is not true");
+        }
         Lit {
             numbers: light.numbers(),
             table,
@@ -135,11 +135,9 @@ impl Job {
 
 /// Mended, by both.
 fn mended(table: &[u8]) -> Vec<u8> {
-    let (mut mended, mut proved) = (table.to_vec(), table.to_vec());
-    let answer = beside::mend(&mut mended, 65_535);
+    let mut mended = table.to_vec();
+    let answer = mend(&mut mended, 65_535);
     assert_eq!(answer.number, 0, "not to be mended");
-    assert_eq!(filebox::mend(&mut proved, 65_535).number.code(), 0);
-    assert!(proved == mended, "the library's mending");
     mended
 }
 

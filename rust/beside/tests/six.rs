@@ -593,9 +593,11 @@ fn nothing_but_names_is_converted() {
 /// A request on the old shelf, by the second program: the answer, the table and the reply's bytes.
 fn asked_of_the_old(line: &str, stop: u32) -> (beside::Answer, Vec<u8>, Vec<u8>) {
     let (mut table, mut reply) = (old_shelf().concat(), vec![UNTOUCHED; 24_000]);
+    let mut index = beside::true_index_in(Layout::Old, &table);
     let answer = beside::request_in(
         Layout::Old,
         &mut table,
+        &mut index,
         line.as_bytes(),
         TEXT,
         &mut reply,
@@ -711,7 +713,8 @@ fn a_cut_table_is_converted_record_by_record_and_mended_alike() {
         for stop in 0..8 {
             let (_, mut old, _) = asked_of_the_old(line, stop);
             let mut six = bench.stop(stop).ask(line, TEXT).table;
-            let expected = beside::mend_in(Layout::Old, &mut old, UNCUT);
+            let mut index = vec![PADDING; old_shelf().len()];
+            let expected = beside::mend_in(Layout::Old, &mut old, &mut index, UNCUT);
             assert_eq!(mend(&mut six, UNCUT), expected, "{line}, {stop}");
             assert_eq!(to_six(&mut old), 0, "{line}, {stop}");
             assert_eq!(old, six, "{line}, {stop}");

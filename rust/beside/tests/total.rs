@@ -126,6 +126,19 @@ fn filled() -> Vec<u8> {
     bench.table
 }
 
+/// The index of a table: mostly the true one; now and then another, of another length, or anything.
+fn index(dice: &mut Dice, table: &[u8]) -> Vec<u16> {
+    let mut index = beside::true_index(table);
+    let places = index.len();
+    match dice.below(8) {
+        0 if places > 0 => index.swap(dice.below(places), dice.below(places)),
+        1 => index.resize(dice.below(2 * places + 2), PADDING),
+        2 => index.fill_with(|| dice.throw() as u16),
+        _ => {}
+    }
+    index
+}
+
 /// How many links the chain of this argument has, the supplied `.W` counted.
 fn links(line: &[u8], argument: u32) -> u32 {
     let words = words(line);
@@ -138,7 +151,7 @@ fn fits(answer: Answer, stop: u32, line: &[u8], before: &[u8], after: &[u8]) {
     let shown = String::from_utf8_lossy(line).into_owned();
     let number = answer.number;
     assert!(NUMBERS.contains(&number), "{shown}");
-    let placeless = matches!(number, 0..=6 | 10 | 19 | 20 | 22);
+    let placeless = matches!(number, 0..=6 | 10 | 19 | 20 | 22 | 26);
     assert_eq!(answer.argument == 0, placeless, "{shown}: {answer:?}");
     assert!(answer.argument <= 8 && answer.names <= 8 && answer.displaced <= 1);
     let linkless = placeless || matches!(number, 9 | 21 | 25 | 27 | 28);
@@ -180,8 +193,11 @@ fn any_input_has_one_answer() {
         let room = *dice.pick(&[&0, &10, &24_000]);
         let mut reply = vec![UNTOUCHED; room];
         let mut after = before.clone();
-        let answer = request(&mut after, &line, &text, &mut reply, user, stop);
+        let lent = index(&mut dice, &before);
+        let mut kept = lent.clone();
+        let answer = request_with(&mut after, &mut kept, &line, &text, &mut reply, user, stop);
         fits(answer, stop, &line, &before, &after);
+        is_kept(answer, &lent, &kept, &after);
         let rest = &reply[answer.bytes..];
         assert!(rest.iter().all(|byte| *byte == UNTOUCHED));
         met[answer.number as usize] += 1;
@@ -196,18 +212,25 @@ fn any_table_is_mended_or_not() {
     println!("seed {seed}");
     let mut dice = Dice(seed);
     let sound = filled();
-    let mut met = [0; 23];
+    let mut met = [0; COUNTS];
     for _ in 0..5_000 {
         let before = table(&mut dice, &sound);
         let stop = *dice.pick(&[&0, &1, &2, &u32::MAX]);
         let mut after = before.clone();
-        let answer = mend(&mut after, stop);
+        let lent = index(&mut dice, &before);
+        let mut kept = lent.clone();
+        let answer = mend_with(&mut after, &mut kept, stop);
         fits(answer, stop, b"", &before, &after[..]);
+        is_kept(answer, &lent, &kept, &after);
         assert_eq!((answer.argument, answer.link, answer.names), (0, 0, 0));
         met[answer.number as usize] += 1;
     }
     println!("answers by number: {met:?}");
     for (number, answers) in met.iter().enumerate() {
-        assert_eq!(*answers > 0, matches!(number, 0 | 1 | 2 | 22), "{met:?}");
+        assert_eq!(
+            *answers > 0,
+            matches!(number, 0 | 1 | 2 | 22 | 26),
+            "{met:?}"
+        );
     }
 }

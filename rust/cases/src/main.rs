@@ -4,27 +4,57 @@
 //! With `gives`, two users give and take.
 
 use beside::{COUNTS, NUMBERS};
-use random::{counts, destroys, lines, rewrites, shelves, Random};
-use std::fmt::Write;
+use random::{counts, destroys, lines, lists, rewrites, shelves, Random};
+use std::fmt::{Display, Write};
 
 const HEAD: &str = "-- Random cases: the second program's outcomes, held against the definitions.
-use mathlib.Core.Bool.{true}
+use mathlib.Core.Bool.{true, false}
 use mathlib.Core.List.{List, [], _∷_}
 use mathlib.Core.Path.{_≡_, refl}
 use Prim.Native.Nat.{ℕ}
-use Rattle.paper.specs.Case.{Case, asks, mends, answer, holdAll}
+use Rattle.paper.specs.Entry.{Holder}
+use Rattle.paper.specs.Case.{Case, asks, mends, orders, looks, keeps, mendsKept, answer, holdAll}
 use Rattle.paper.proofs.Cases.{hold}
 ";
+
+/// The most cases of the list on one table.
+const LISTED: usize = 8;
+
+/// The most places of a list without any meaning: the checker works a place out of the one before it each time it is asked for, so that its steps grow
+/// with every halving.
+const PLACES: usize = 12;
+
+/// The most cases that are told at one time: the checker takes so many steps for each time, and no more.
+const TOLD: usize = 4;
 
 /// The users who give and take.
 const SHIFTS: [u32; 2] = [1, 777];
 
-fn list(bytes: &[u8]) -> String {
+fn list<T: Display>(numbers: &[T]) -> String {
     let mut shown = String::from("(");
-    for byte in bytes {
-        write!(shown, "{byte} ∷ ").expect("a string takes all");
+    for number in numbers {
+        write!(shown, "{number} ∷ ").expect("a string takes all");
     }
     shown + "[])"
+}
+
+/// A request by the second program, with the true index.
+fn ask(
+    table: &mut [u8],
+    line: &[u8],
+    text: &[u8],
+    reply: &mut [u8],
+    user: u32,
+    stop: u32,
+) -> beside::Answer {
+    let mut index = beside::true_index(table);
+    beside::request(table, &mut index, line, text, reply, user, stop)
+}
+
+/// Mending by the second program, with a list of the right length.
+fn mend(table: &mut [u8], stop: u32) -> beside::Answer {
+    let mut index = beside::true_index(table);
+    beside::mend(table, &mut index, stop)
 }
 
 /// The seven numbers, the last one off by so much.
@@ -40,6 +70,8 @@ struct Story {
     gives: bool,
     table: Vec<u8>,
     cases: Vec<String>,
+    /// The cases of the list beside the table, told apart from the others: a declaration may take so many steps and no more.
+    listed: Vec<String>,
     met: [u32; COUNTS],
     off: u32,
 }
@@ -47,7 +79,7 @@ struct Story {
 impl Story {
     fn mend(&mut self, table: &[u8], stop: u32) {
         let mut after = table.to_vec();
-        let answer = beside::mend(&mut after, stop);
+        let answer = mend(&mut after, stop);
         self.cases.push(format!(
             "mends {} {stop} {} {}",
             list(table),
@@ -56,16 +88,21 @@ impl Story {
         ));
     }
 
-    /// One request on the table, now and then damaged first; what it left is mended.
-    fn request(&mut self, random: &mut Random) {
-        let shift = self.gives.then(|| random.pick(&SHIFTS));
-        let line = match shift {
+    /// A line for who gives and takes, or for anyone.
+    fn line(&self, random: &mut Random, shift: Option<u32>) -> Vec<u8> {
+        match shift {
             Some(user) => shelves::line(random, &self.table, &SHIFTS, user),
             None if random.once_in(3) => rewrites::about(random, &self.table, 1),
             None if random.once_in(4) => counts::about(random, &self.table, 1),
             None if random.once_in(4) => destroys::about(random, &self.table, 1),
             None => lines::line(random),
-        };
+        }
+    }
+
+    /// One request on the table, now and then damaged first; what it left is mended.
+    fn request(&mut self, random: &mut Random) {
+        let shift = self.gives.then(|| random.pick(&SHIFTS));
+        let line = self.line(random, shift);
         let length = random.pick(&[0, 1, 5, 24, 25, 30, 48]);
         let text = random.bytes(length);
         let reply = vec![7; random.pick(&[0, 10, 40, 60, 80])];
@@ -81,8 +118,12 @@ impl Story {
         if damaged {
             spoil(random, &mut before);
         }
+        if self.listed.len() < LISTED && random.once_in(3) {
+            self.with_a_list(random, &before, &line, user, stop);
+            self.looks(random, &before);
+        }
         let (mut after, mut replied) = (before.clone(), reply.clone());
-        let answer = beside::request(&mut after, &line, &text, &mut replied, user, stop);
+        let answer = ask(&mut after, &line, &text, &mut replied, user, stop);
         let frequent = matches!(answer.number, 2 | 3 | 7 | 8 | 9 | 11);
         if !frequent || random.once_in(6) {
             let lent = [before, line, text, reply].map(|bytes| list(&bytes));
@@ -93,10 +134,59 @@ impl Story {
             self.mend(&after, random.pick(&[0, 1, 2, 3, 99, 99]));
         }
         if !damaged {
-            let mended = beside::mend(&mut after, 65_535);
+            let mended = mend(&mut after, 65_535);
             assert_eq!(mended.number, 0, "a request leaves what can be mended");
             self.table = after;
         }
+    }
+
+    /// The same request without text and reply, and mending, each with a list: the true one, or another.
+    fn with_a_list(
+        &mut self,
+        random: &mut Random,
+        table: &[u8],
+        line: &[u8],
+        user: u32,
+        stop: u32,
+    ) {
+        let index = beside::true_index(table);
+        let stale = beside::true_index(&self.table);
+        let list_lent = match random.once_in(2) {
+            true => lists::wrong(random, &index, &stale),
+            false => index.clone(),
+        };
+        let lent = format!("{} {}", list(table), list(&list_lent));
+        let (mut after, mut kept) = (table.to_vec(), list_lent.clone());
+        let asked = beside::request(&mut after, &mut kept, line, b"", &mut [], user, stop);
+        let left = format!("{} {} {}", asked.number, list(&after), list(&kept));
+        self.listed
+            .push(format!("keeps {lent} {} {user} {stop} {left}", list(line)));
+        let (mut after, mut kept) = (table.to_vec(), list_lent);
+        let mended = beside::mend(&mut after, &mut kept, stop);
+        let left = format!("{} {} {}", mended.number, list(&after), list(&kept));
+        self.listed.push(format!("mendsKept {lent} {stop} {left}"));
+        self.met[asked.number as usize] += 1;
+    }
+
+    /// The list of a sound table; and a name looked up through it, or through one without any meaning.
+    fn looks(&mut self, random: &mut Random, table: &[u8]) {
+        let mut index = beside::true_index(&self.table);
+        let orders = format!("orders {} {}", list(&self.table), list(&index));
+        self.listed.push(orders);
+        if random.once_in(3) {
+            index = near(lists::junk(random, table.len() / 32), table.len() / 32);
+        }
+        let (heading, user, name) = lists::sought(random, table);
+        let found = beside::look_up(table, &index, heading, user, &name);
+        let beside::Found {
+            found,
+            entry,
+            count,
+        } = found;
+        let holder = format!("(record {{ heading = {heading}; user = {user} }})");
+        let lent = format!("{} {} {holder} {}", list(table), list(&index), list(&name));
+        self.listed
+            .push(format!("looks {lent} {found} {entry} {count}"));
     }
 
     /// One more case: what is lent, the answer, and what is left.
@@ -144,11 +234,11 @@ fn few(random: &mut Random) -> Vec<u8> {
     ];
     for line in first.iter().take(random.below(7)) {
         // as far as there is room
-        let _ = beside::request(&mut table, line.as_bytes(), b"sheet", &mut [], 1, 65_535);
+        ask(&mut table, line.as_bytes(), b"sheet", &mut [], 1, 65_535);
     }
     if random.once_in(2) {
         // where the sheet is there
-        let _ = beside::request(&mut table, b"WRS* M .R:A", b"", &mut [], 1, 2);
+        ask(&mut table, b"WRS* M .R:A", b"", &mut [], 1, 2);
     }
     table
 }
@@ -165,9 +255,9 @@ fn shelved(random: &mut Random) -> Vec<u8> {
                 _ => format!("{} {shelf}", random.pick(&made)),
             };
             // granted or not, as it comes
-            let _ = beside::request(&mut table, shelf.as_bytes(), b"", &mut [], user, 65_535);
+            ask(&mut table, shelf.as_bytes(), b"", &mut [], user, 65_535);
         }
-        let _ = beside::request(&mut table, line.as_bytes(), b"sheet", &mut [], 1, 65_535);
+        ask(&mut table, line.as_bytes(), b"sheet", &mut [], 1, 65_535);
     }
     table
 }
@@ -182,8 +272,28 @@ fn story(random: &mut Random, met: [u32; COUNTS], gives: bool, off: u32) -> Stor
         gives,
         table,
         cases: Vec::new(),
+        listed: Vec::new(),
         met,
         off,
+    }
+}
+
+/// A short list, in which the numbers far past the table are just past it: to come to a record the checker counts all bytes before it.
+fn near(list: Vec<u16>, records: usize) -> Vec<u16> {
+    let past = records as u16 + 2;
+    list.into_iter()
+        .take(PLACES)
+        .map(|number| number.min(past))
+        .collect()
+}
+
+/// Lists of cases, and that each of them holds.
+fn tell(what: &str, table: u64, cases: &[String]) {
+    for (part, cases) in cases.chunks(TOLD).enumerate() {
+        let name = format!("{what}{table}part{part}");
+        let cases: String = cases.iter().map(|case| format!("{case}\n    ∷ ")).collect();
+        println!("{name} : List Case\n{name} =\n    {cases}[]\n");
+        println!("told{name} : holdAll {name} ≡ true\nunfolding hold {name}\ntold{name} = refl\n");
     }
 }
 
@@ -206,11 +316,8 @@ fn main() {
             story.request(&mut random);
         }
         met = story.met;
-        println!(
-            "story{table} : List Case\nstory{table} =\n    {}\n    ∷ []\n",
-            story.cases.join("\n    ∷ ")
-        );
-        println!("told{table} : holdAll story{table} ≡ true\nunfolding hold story{table}\ntold{table} = refl\n");
+        tell("story", table, &story.cases);
+        tell("listed", table, &story.listed);
     }
     let shown = NUMBERS.map(|number| format!("{number}:{}", met[number as usize]));
     eprintln!("seed {}: reply numbers met: {}", number(0), shown.join(" "));

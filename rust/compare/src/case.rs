@@ -3,9 +3,11 @@
 
 use beside::Layout;
 
+use crate::branches::Branches;
 use crate::counted::{self, Counted};
 use crate::destroyed::{self, Destroyed};
 use crate::handed::{self, Handed};
+use crate::indexed::{self, Indexed, PADDING};
 use crate::links::{self, Links};
 use crate::met::Met;
 use crate::parted::Parted;
@@ -26,21 +28,34 @@ pub struct Asked {
     pub user: u32,
 }
 
-/// One call: a request; where nothing is asked a conversion, or mending.
+/// What is looked up: a name in the directory of a heading, or in the base list of a user.
+#[derive(Debug, Clone)]
+pub struct Sought {
+    pub heading: u32,
+    pub user: u32,
+    pub name: Vec<u8>,
+}
+
+/// One call: a request; where nothing is asked a conversion, a look-up, or mending.
 #[derive(Debug, Clone)]
 pub struct Case {
     pub table: Vec<u8>,
+    /// The list that is lent beside the table.
+    pub index: Vec<u16>,
     pub asked: Option<Asked>,
     /// The layout that the table is converted from.
     pub from: Option<Layout>,
+    pub sought: Option<Sought>,
     pub stop: u32,
 }
 
-/// What a call answered and left: number, argument, link, names, displaced, bytes, stores; each byte of the table and of the reply.
+/// What a call answered and left: number, argument, link, names, displaced, bytes, stores (of a look-up found, entry, count); each byte of the table
+/// and of the reply, and each place of the index.
 #[derive(Debug, Clone, PartialEq, Eq)]
 pub struct Outcome {
     pub answer: [u64; 7],
     pub table: Vec<u8>,
+    pub index: Vec<u16>,
     pub reply: Vec<u8>,
 }
 
@@ -63,24 +78,30 @@ impl Outcome {
 }
 
 impl Case {
-    /// A request that is not stopped.
+    /// A request that is not stopped, with the true index.
     pub fn request(table: &[u8], asked: Asked) -> Case {
         Case {
-            table: table.to_vec(),
+            index: beside::true_index(table),
             asked: Some(asked),
-            from: None,
-            stop: filebox::NO_STOP,
+            ..Case::mend(table, filebox::NO_STOP)
         }
     }
 
-    /// Mending.
+    /// Mending, with a list of the right length that holds nothing.
     pub fn mend(table: &[u8], stop: u32) -> Case {
         Case {
             table: table.to_vec(),
+            index: vec![PADDING; table.len() / 32],
             asked: None,
             from: None,
+            sought: None,
             stop,
         }
+    }
+
+    /// Mending what a call left, with the list that it left.
+    pub fn mend_after(left: &Outcome, stop: u32) -> Case {
+        Case::mend(&left.table, stop).with(&left.index)
     }
 
     /// A conversion from this layout to the other one.
@@ -88,6 +109,22 @@ impl Case {
         Case {
             from: Some(from),
             ..Case::mend(table, filebox::NO_STOP)
+        }
+    }
+
+    /// Looking a name up through this list.
+    pub fn look_up(table: &[u8], list: &[u16], sought: Sought) -> Case {
+        Case {
+            sought: Some(sought),
+            ..Case::mend(table, filebox::NO_STOP).with(list)
+        }
+    }
+
+    /// The same with another list.
+    pub fn with(&self, list: &[u16]) -> Case {
+        Case {
+            index: list.to_vec(),
+            ..self.clone()
         }
     }
 
@@ -99,54 +136,72 @@ impl Case {
         }
     }
 
-    /// The outcome of a call on a copy of the table and a fresh reply buffer.
-    fn outcome(&self, call: impl Fn(&mut [u8], &mut [u8]) -> [u64; 7]) -> Outcome {
-        let mut table = self.table.clone();
+    /// The outcome of a call on a copy of the table and the list, and a fresh reply buffer.
+    fn outcome(&self, call: impl Fn(&mut [u8], &mut [u16], &mut [u8]) -> [u64; 7]) -> Outcome {
+        let (mut table, mut index) = (self.table.clone(), self.index.clone());
         let room = self.asked.as_ref().map_or(0, |asked| asked.reply);
         let mut reply = vec![UNTOUCHED; room];
-        let answer = call(&mut table, &mut reply);
+        let answer = call(&mut table, &mut index, &mut reply);
         Outcome {
             answer,
             table,
+            index,
             reply,
         }
     }
 
     /// By the proved library.
     fn proved(&self) -> Outcome {
-        self.outcome(|table, reply| {
-            let answer = match (&self.asked, self.from) {
-                (None, None) => filebox::mend(table, self.stop),
-                (None, Some(Layout::Old)) => return alone(filebox::to_six(table).code()),
-                (None, Some(Layout::Six)) => return alone(filebox::from_six(table).code()),
-                (
-                    Some(Asked {
-                        line, text, user, ..
-                    }),
-                    _,
-                ) => filebox::request(table, line, text, reply, *user, self.stop),
-            };
-            answer.numbers()
+        self.outcome(|table, index, reply| match (&self.asked, &self.sought) {
+            (
+                Some(Asked {
+                    line, text, user, ..
+                }),
+                _,
+            ) => filebox::request(table, index, line, text, reply, *user, self.stop).numbers(),
+            (_, Some(sought)) => {
+                let Sought {
+                    heading,
+                    user,
+                    name,
+                } = sought;
+                three(filebox::look_up(table, index, *heading, *user, name).numbers())
+            }
+            (None, None) => match self.from {
+                Some(Layout::Old) => alone(filebox::to_six(table).code()),
+                Some(Layout::Six) => alone(filebox::from_six(table).code()),
+                None => filebox::mend(table, index, self.stop).numbers(),
+            },
         })
     }
 
     /// By the second program.
     pub fn beside(&self) -> Outcome {
+        if let Some(Sought {
+            heading,
+            user,
+            name,
+        }) = &self.sought
+        {
+            return self.outcome(|table, index, _| {
+                three(beside::look_up(table, index, *heading, *user, name).numbers())
+            });
+        }
         match self.from {
             None => self.beside_in(Layout::Six),
-            Some(Layout::Old) => self.outcome(|table, _| alone(beside::to_six(table))),
-            Some(Layout::Six) => self.outcome(|table, _| alone(beside::from_six(table))),
+            Some(Layout::Old) => self.outcome(|table, _, _| alone(beside::to_six(table))),
+            Some(Layout::Six) => self.outcome(|table, _, _| alone(beside::from_six(table))),
         }
     }
 
     /// A request or mending by the second program, on a table whose names lie so.
     fn beside_in(&self, layout: Layout) -> Outcome {
-        self.outcome(|table, reply| {
+        self.outcome(|table, index, reply| {
             let answer = match &self.asked {
-                None => beside::mend_in(layout, table, self.stop),
+                None => beside::mend_in(layout, table, index, self.stop),
                 Some(Asked {
                     line, text, user, ..
-                }) => beside::request_in(layout, table, line, text, reply, *user, self.stop),
+                }) => beside::request_in(layout, table, index, line, text, reply, *user, self.stop),
             };
             answer.numbers()
         })
@@ -155,7 +210,8 @@ impl Case {
     /// A request or mending by the second program on the old table, with the table converted after it, record by record; nothing where there
     /// is no old table, since an entry's name is not as it may lie.
     pub fn on_the_old_table(&self) -> Option<Outcome> {
-        let old = beside::converted(Layout::Six, &self.table).filter(|_| self.from.is_none())?;
+        let alike = self.from.is_none() && self.sought.is_none();
+        let old = beside::converted(Layout::Six, &self.table).filter(|_| alike)?;
         let case = Case {
             table: old,
             ..self.clone()
@@ -169,6 +225,11 @@ impl Case {
 /// A conversion's number as an answer.
 fn alone(number: u32) -> [u64; 7] {
     [number.into(), 0, 0, 0, 0, 0, 0]
+}
+
+/// A look-up's numbers as an answer.
+fn three([found, entry, count]: [u32; 3]) -> [u64; 7] {
+    [found.into(), entry.into(), count.into(), 0, 0, 0, 0]
 }
 
 /// A case that is not as it should be: what is wrong, and both outcomes.
@@ -200,6 +261,8 @@ pub struct Comparison {
     pub destroyed: Destroyed,
     /// What six-bit names and conversions met.
     pub sixed: Sixed,
+    /// What the index and look-ups met.
+    pub indexed: Indexed,
     /// The requests of the stories.
     pub requests: u64,
     /// The calls made by both: these requests again and again, and mending.
@@ -209,65 +272,103 @@ pub struct Comparison {
 }
 
 impl Comparison {
+    /// What requests and mends met besides their numbers and links.
+    pub fn branches(&self) -> [&Branches; 7] {
+        [
+            self.parted.branches(),
+            self.treed.branches(),
+            self.rewritten.branches(),
+            self.counted.branches(),
+            self.destroyed.branches(),
+            self.sixed.branches(),
+            self.indexed.branches(),
+        ]
+    }
+
     /// Make the call with both, and on the old table; the outcome that they agree on.
     pub fn compare(&mut self, case: &Case) -> Result<Outcome, Box<Difference>> {
-        let (proved, mut beside) = (case.proved(), case.beside());
+        let (proved, beside) = (case.proved(), case.beside());
         let old = case.on_the_old_table();
         self.calls += 1;
-        let wrong = if proved.answer != beside.answer {
-            "the answers differ"
-        } else if proved.table != beside.table {
-            "the tables differ"
-        } else if proved.reply != beside.reply {
-            "the replies differ"
-        } else if let Some(old) = old.as_ref().filter(|old| **old != proved) {
-            beside = old.clone();
-            "on the old table it is otherwise"
-        } else {
-            self.sixed.count(case, &proved, old.is_some());
-            if case.from.is_some() {
-                return match sixed::broken(case, &proved) {
-                    None => Ok(proved),
-                    Some(wrong) => Err(must_not_be(case, wrong, &proved)),
-                };
+        if let Some(wrong) = unlike(&proved, &beside) {
+            return Err(difference(case, wrong, &proved, &beside));
+        }
+        if let Some(old) = old.as_ref().filter(|old| **old != proved) {
+            let wrong = "on the old table it is otherwise";
+            return Err(difference(case, wrong, &proved, old));
+        }
+        let broken = match (case.from, &case.sought) {
+            (Some(_), _) => {
+                self.sixed.count(case, &proved, false);
+                sixed::broken(case, &proved)
             }
-            self.met.count(case, proved.number());
-            self.links.count(proved.answer);
-            self.handed.count(case, proved.answer);
-            self.parted.count(case, proved.answer);
-            self.treed.count(case, &proved);
-            self.rewritten.count(case, &proved);
-            self.counted.count(case, &proved);
-            self.destroyed.count(case, &proved);
-            let broken = [
-                handed::broken,
-                links::broken,
-                treed::broken,
-                rewritten::broken,
-                counted::broken,
-                destroyed::broken,
-                sixed::broken,
-            ];
-            return match broken.iter().find_map(|broken| broken(case, &proved)) {
-                None => Ok(proved),
-                Some(wrong) => Err(must_not_be(case, wrong, &proved)),
-            };
+            (_, Some(_)) => {
+                self.indexed.count(case, &proved);
+                indexed::broken(case, &proved)
+            }
+            (None, None) => {
+                self.count(case, &proved, old.is_some());
+                broken(case, &proved)
+            }
         };
-        Err(Box::new(Difference {
-            case: case.clone(),
-            wrong,
-            proved,
-            beside,
-        }))
+        match broken {
+            None => Ok(proved),
+            Some(wrong) => Err(must_not_be(case, wrong, &proved)),
+        }
     }
+
+    /// One more request or mend; was it made on the old table too?
+    fn count(&mut self, case: &Case, outcome: &Outcome, old: bool) {
+        self.met.count(case, outcome.number());
+        self.links.count(outcome.answer);
+        self.handed.count(case, outcome.answer);
+        self.parted.count(case, outcome.answer);
+        self.treed.count(case, outcome);
+        self.rewritten.count(case, outcome);
+        self.counted.count(case, outcome);
+        self.destroyed.count(case, outcome);
+        self.sixed.count(case, outcome, old);
+        self.indexed.count(case, outcome);
+    }
+}
+
+/// What of a request or mend is broken that every one promises, by the records.
+fn broken(case: &Case, outcome: &Outcome) -> Option<&'static str> {
+    let broken = [
+        handed::broken,
+        links::broken,
+        treed::broken,
+        rewritten::broken,
+        counted::broken,
+        destroyed::broken,
+        sixed::broken,
+        indexed::broken,
+    ];
+    broken.iter().find_map(|broken| broken(case, outcome))
+}
+
+/// In what two outcomes differ, if they do.
+fn unlike(proved: &Outcome, beside: &Outcome) -> Option<&'static str> {
+    let differ = [
+        (proved.answer != beside.answer, "the answers differ"),
+        (proved.table != beside.table, "the tables differ"),
+        (proved.reply != beside.reply, "the replies differ"),
+        (proved.index != beside.index, "the indexes differ"),
+    ];
+    let wrong = differ.into_iter().find(|(differ, _)| *differ);
+    wrong.map(|(_, wrong)| wrong)
+}
+
+fn difference(case: &Case, wrong: &'static str, one: &Outcome, other: &Outcome) -> Box<Difference> {
+    Box::new(Difference {
+        case: case.clone(),
+        wrong,
+        proved: one.clone(),
+        beside: other.clone(),
+    })
 }
 
 /// Both agree on this outcome, and yet it must not be.
 pub fn must_not_be(case: &Case, wrong: &'static str, outcome: &Outcome) -> Box<Difference> {
-    Box::new(Difference {
-        case: case.clone(),
-        wrong,
-        proved: outcome.clone(),
-        beside: outcome.clone(),
-    })
+    difference(case, wrong, outcome, outcome)
 }

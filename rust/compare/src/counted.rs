@@ -1,10 +1,9 @@
 //! How often each branch of the counts was met: which headings a request counts anew, what a cut leaves uncounted, and what mending makes of
 //! wrong counts; and what the counts and the stores of a granted request must be, by the records.
 
-use std::fmt;
-
 use beside::Request;
 
+use crate::branches::Branches;
 use crate::case::{Asked, Case, Outcome};
 use crate::records::{differing, entries_of, two, BASE_FILE};
 
@@ -72,15 +71,13 @@ const SEVERAL: usize = 34;
 const AFTER_CLEARING: usize = 35;
 const MENDED_OLD: usize = 36;
 const NOT_MENDED: usize = 37;
-/// How often each branch must be met.
-const ENOUGH: u64 = 100;
 
 /// A count for each kind.
-pub struct Counted([u64; KINDS.len()]);
+pub struct Counted(Branches);
 
 impl Default for Counted {
     fn default() -> Counted {
-        Counted([0; KINDS.len()])
+        Counted(Branches::new("counts", KINDS))
     }
 }
 
@@ -359,22 +356,13 @@ impl Counted {
     /// One more answer.
     pub fn count(&mut self, case: &Case, outcome: &Outcome) {
         for kind in kinds(case, outcome) {
-            self.0[kind] += 1;
+            self.0.count(kind);
         }
     }
 
-    /// What was met too seldom.
-    pub fn missed(&self) -> Vec<String> {
-        let seldom = KINDS.iter().zip(self.0).filter(|(_, n)| *n < ENOUGH);
-        seldom.map(|(kind, _)| format!("counts: {kind}")).collect()
-    }
-}
-
-impl fmt::Display for Counted {
-    fn fmt(&self, f: &mut fmt::Formatter) -> fmt::Result {
-        let all = KINDS.iter().zip(self.0);
-        let all: Vec<String> = all.map(|(kind, n)| format!("{kind} {n}")).collect();
-        write!(f, "counts: {}", all.join(", "))
+    /// How often each was met.
+    pub fn branches(&self) -> &Branches {
+        &self.0
     }
 }
 

@@ -5,6 +5,7 @@ use random::Random;
 
 use crate::case::{must_not_be, Case, Comparison, Difference, Outcome};
 use crate::destroyed::is_dst;
+use crate::indexed::is_true;
 use crate::rewritten::marked_and_empty;
 
 /// Every stop number below this is tried; of the others, some.
@@ -123,22 +124,44 @@ fn cut_once(
     if (cut.number(), cut.stores()) != (22, case.stop) {
         return Err(must_not_be(case, "not cut at the stop number", &cut));
     }
-    let mended = mend(comparison, random, &cut.table)?;
+    let mended = mend(comparison, random, &cut)?;
     if !landings.fit(&cut).contains(&mended) {
         let wrong = "mended to another table than it may be";
         return Err(must_not_be(case, wrong, &cut));
     }
     comparison.cuts += 1;
-    Ok(())
+    between(comparison, case, &cut, &mended)
+}
+
+/// A cut that fell between two names leaves a sound table with the list that was lent: the request that follows it gets 26 until a mend.
+fn between(
+    comparison: &mut Comparison,
+    case: &Case,
+    cut: &Outcome,
+    mended: &[u8],
+) -> Result<(), Box<Difference>> {
+    if cut.table != mended || is_true(&cut.table, &cut.index) {
+        return Ok(());
+    }
+    let case = Case {
+        table: cut.table.clone(),
+        ..case.with(&cut.index)
+    };
+    let refused = comparison.compare(&case)?;
+    comparison.indexed.count_between();
+    match refused.answer {
+        [26, 0, 0, 0, 0, 0, 0] => Ok(()),
+        _ => Err(must_not_be(&case, "not 26 between two names", &refused)),
+    }
 }
 
 /// Mend a cut table; and cut the mending itself and mend again, which must end alike.
 fn mend(
     comparison: &mut Comparison,
     random: &mut Random,
-    table: &[u8],
+    cut: &Outcome,
 ) -> Result<Vec<u8>, Box<Difference>> {
-    let case = Case::mend(table, filebox::NO_STOP);
+    let case = Case::mend_after(cut, filebox::NO_STOP);
     let mended = comparison.compare(&case)?;
     if mended.number() != 0 {
         return Err(must_not_be(&case, "a cut table is not mended", &mended));
@@ -146,8 +169,8 @@ fn mend(
     if mended.stores() > 0 {
         let stop = random.below(mended.stores() as usize) as u32;
         let cut = comparison.compare(&case.stopped(stop))?;
-        let again = comparison.compare(&Case::mend(&cut.table, filebox::NO_STOP))?;
-        if again.table != mended.table {
+        let again = comparison.compare(&Case::mend_after(&cut, filebox::NO_STOP))?;
+        if (&again.table, &again.index) != (&mended.table, &mended.index) {
             let wrong = "mended again, it ends otherwise";
             return Err(must_not_be(&case.stopped(stop), wrong, &cut));
         }

@@ -1,10 +1,9 @@
 //! How often each branch of DST was met, and of mending's first step; and what both must leave, by the records.
 
-use std::collections::BTreeSet;
-use std::fmt;
-
 use beside::{Chain, Request};
+use std::collections::BTreeSet;
 
+use crate::branches::Branches;
 use crate::case::{Asked, Case, Outcome};
 use crate::records::{
     count, differing, entries_of, heading, is_heading, is_lost, naming, texts, two, walked, Walked,
@@ -76,21 +75,13 @@ const MENDED: usize = 35;
 const MENDED_MORE: usize = 39;
 const MEND_CUT: usize = 40;
 const NOT_MENDED: usize = 41;
-/// How often each branch must be met.
-const ENOUGH: u64 = 100;
 
 /// A count for each number and each kind.
-pub struct Destroyed {
-    numbers: [u64; NUMBERS.len()],
-    kinds: [u64; KINDS.len()],
-}
+pub struct Destroyed(Branches);
 
 impl Default for Destroyed {
     fn default() -> Destroyed {
-        Destroyed {
-            numbers: [0; NUMBERS.len()],
-            kinds: [0; KINDS.len()],
-        }
+        Destroyed(Branches::numbered("destroyed", &NUMBERS, &KINDS))
     }
 }
 
@@ -368,34 +359,18 @@ impl Destroyed {
     /// One more answer.
     pub fn count(&mut self, case: &Case, outcome: &Outcome) {
         for kind in kinds(case, outcome) {
-            self.kinds[kind] += 1;
+            self.0.count(NUMBERS.len() + kind);
         }
         let line = case.asked.as_ref().map_or(&[][..], |asked| &asked.line);
         let number = NUMBERS.iter().position(|n| *n == outcome.answer[0]);
         if let Some(at) = number.filter(|_| is_dst(line)) {
-            self.numbers[at] += 1;
+            self.0.count(at);
         }
     }
 
-    /// Each branch by its name, and how often it was met.
-    fn branches(&self) -> Vec<(String, u64)> {
-        let numbers = NUMBERS.iter().map(|n| n.to_string()).zip(self.numbers);
-        let kinds = KINDS.iter().map(|kind| kind.to_string()).zip(self.kinds);
-        numbers.chain(kinds).collect()
-    }
-
-    /// What was met too seldom.
-    pub fn missed(&self) -> Vec<String> {
-        let seldom = self.branches().into_iter().filter(|(_, n)| *n < ENOUGH);
-        seldom.map(|(name, _)| format!("DST {name}")).collect()
-    }
-}
-
-impl fmt::Display for Destroyed {
-    fn fmt(&self, f: &mut fmt::Formatter) -> fmt::Result {
-        let all = self.branches().into_iter();
-        let all: Vec<String> = all.map(|(name, n)| format!("{name} {n}")).collect();
-        write!(f, "destroyed: {}", all.join(", "))
+    /// How often each was met.
+    pub fn branches(&self) -> &Branches {
+        &self.0
     }
 }
 

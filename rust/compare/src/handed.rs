@@ -136,6 +136,7 @@ mod tests {
             let outcome = Outcome {
                 answer,
                 table: Vec::new(),
+                index: Vec::new(),
                 reply: Vec::new(),
             };
             broken(&Case::request(&[], asked(line)), &outcome).is_none()

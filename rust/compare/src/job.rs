@@ -10,6 +10,8 @@ use crate::shown::{first_unlike, records};
 #[derive(Debug, Clone)]
 pub struct Job {
     pub table: Vec<u8>,
+    /// The list that is lent beside the table.
+    pub index: Vec<u16>,
     pub sheets: Vec<u8>,
     pub texts: Vec<u8>,
     /// The length of the read-back buffer.
@@ -19,11 +21,13 @@ pub struct Job {
     pub stop: u32,
 }
 
-/// What a job answered and left: light, sheet, phase, number, stores; each byte of the table and of the read-back buffer.
+/// What a job answered and left: light, sheet, phase, number, stores; each byte of the table and of the read-back buffer, and each place of
+/// the index.
 #[derive(Debug, Clone, PartialEq, Eq)]
 pub struct Lit {
     pub answer: [u32; 5],
     pub table: Vec<u8>,
+    pub index: Vec<u16>,
     pub back: Vec<u8>,
 }
 
@@ -62,13 +66,15 @@ impl Job {
         self.sheets.chunks_exact(32).map(filing).collect()
     }
 
-    /// What a call leaves of a copy of the table and a fresh buffer.
-    fn lit(&self, call: impl Fn(&mut [u8], &mut [u8]) -> [u32; 5]) -> Lit {
-        let (mut table, mut back) = (self.table.clone(), vec![UNTOUCHED; self.room]);
-        let answer = call(&mut table, &mut back);
+    /// What a call leaves of a copy of the table and the list, and a fresh buffer.
+    fn lit(&self, call: impl Fn(&mut [u8], &mut [u16], &mut [u8]) -> [u32; 5]) -> Lit {
+        let (mut table, mut index) = (self.table.clone(), self.index.clone());
+        let mut back = vec![UNTOUCHED; self.room];
+        let answer = call(&mut table, &mut index, &mut back);
         Lit {
             answer,
             table,
+            index,
             back,
         }
     }
@@ -83,11 +89,11 @@ impl Job {
             stop,
             ..
         } = self;
-        let proved = self.lit(|table, back| {
-            filebox::light(table, sheets, texts, back, chain, *user, *stop).numbers()
+        let proved = self.lit(|table, index, back| {
+            filebox::light(table, index, sheets, texts, back, chain, *user, *stop).numbers()
         });
-        let beside = self.lit(|table, back| {
-            beside::light(table, sheets, texts, back, chain, *user, *stop).numbers()
+        let beside = self.lit(|table, index, back| {
+            beside::light(table, index, sheets, texts, back, chain, *user, *stop).numbers()
         });
         (proved, beside)
     }
@@ -102,6 +108,8 @@ impl Job {
             "the tables differ"
         } else if proved.back != beside.back {
             "the read-back buffers differ"
+        } else if proved.index != beside.index {
+            "the indexes differ"
         } else {
             lights.count(proved.answer);
             return Ok(proved);
@@ -148,15 +156,18 @@ impl fmt::Display for Unlike {
             records(f, bytes)?;
             writeln!(f, "    ].concat();")?;
         }
+        writeln!(f, "    let mut index = {:?};", job.index)?;
         writeln!(f, "    let texts = b\"{}\";", job.texts.escape_ascii())?;
         writeln!(f, "    let mut back = [{UNTOUCHED:#x}; {}];", job.room)?;
         writeln!(f, "    let chain = b\"{}\";", job.chain.escape_ascii())?;
         writeln!(f, "    let (user, stop) = ({}, {});", job.user, job.stop)?;
         for (program, lit) in [("filebox", proved), ("beside", beside)] {
-            let call = "light(&mut table, &sheets, texts, &mut back, chain, user, stop)";
+            let call =
+                "light(&mut table, &mut index, &sheets, texts, &mut back, chain, user, stop)";
             writeln!(f, "    // {program}::{call}: {:?}", lit.answer)?;
         }
         first_unlike(f, "record", &proved.table, &beside.table)?;
-        first_unlike(f, "32 bytes read back", &proved.back, &beside.back)
+        first_unlike(f, "32 bytes read back", &proved.back, &beside.back)?;
+        first_unlike(f, "32 places", &proved.index, &beside.index)
     }
 }

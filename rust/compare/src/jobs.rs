@@ -4,6 +4,7 @@
 use random::Random;
 
 use crate::case::{Case, Comparison};
+use crate::indexed::is_true;
 use crate::job::{Job, Lit, Unlike};
 use crate::lights::Lights;
 use crate::sheets::{grow, job};
@@ -47,13 +48,24 @@ fn told(lights: &mut Lights, random: &mut Random, job: &Job) -> Told {
     let stop = random.pick(&[0, 1, 5, u32::MAX]);
     job.stopped(stop).compared(lights)?;
     let uncut = job.compared(lights)?;
-    if let Some(wrong) = broken(job, &uncut) {
+    if let Some(wrong) = broken(job, &uncut).or(list_broken(job, &uncut)) {
         return Err(job.must_not_be(wrong, &uncut));
     }
     match uncut.stores() {
         0 => Ok(()),
         _ => cut_everywhere(lights, random, job, &uncut),
     }
+}
+
+/// What every light promises of the list, whatever the job: as lent where nothing was filed, or not on this table with this list; true
+/// where the lamp is not red by a cut.
+fn list_broken(job: &Job, lit: &Lit) -> Option<&'static str> {
+    let [_, _, _, number, stores] = lit.answer;
+    let kept = match stores {
+        0 => lit.index == job.index,
+        _ => number == 22 || is_true(&lit.table, &lit.index),
+    };
+    (!kept).then_some("the list")
 }
 
 /// What every light promises, whatever the job: what of it is broken.
@@ -80,16 +92,21 @@ fn broken(job: &Job, lit: &Lit) -> Option<&'static str> {
     (!kept).then_some(wrong)
 }
 
+/// A table and the list beside it.
+type Kept = (Vec<u8>, Vec<u16>);
+
 /// The tables after none of the sheets, after the first, and so on: filed by the first library's requests, one by one.
-fn stations(job: &Job) -> Vec<Vec<u8>> {
-    let mut table = job.table.clone();
-    let mut stations = vec![table.clone()];
+fn stations(job: &Job) -> Vec<Kept> {
+    let (mut table, mut index) = (job.table.clone(), job.index.clone());
+    let mut stations = vec![(table.clone(), index.clone())];
     for (line, text) in job.filings() {
-        let answer = filebox::request(&mut table, &line, text, &mut [], job.user, filebox::NO_STOP);
+        let stop = filebox::NO_STOP;
+        let (user, reply) = (job.user, &mut []);
+        let answer = filebox::request(&mut table, &mut index, &line, text, reply, user, stop);
         if answer.number.code() != 0 {
             break;
         }
-        stations.push(table.clone());
+        stations.push((table.clone(), index.clone()));
     }
     stations
 }
@@ -108,8 +125,8 @@ fn stops(random: &mut Random, needed: u32) -> Vec<u32> {
 /// Cut a job that stores at its stop numbers, and mend each cut. Those that cut nothing give what no stop number gives.
 fn cut_everywhere(lights: &mut Lights, random: &mut Random, job: &Job, uncut: &Lit) -> Told {
     let stations = stations(job);
-    if stations.last() != Some(&uncut.table) {
-        return Err(job.must_not_be("not the table after its requests", uncut));
+    if stations.last() != Some(&(uncut.table.clone(), uncut.index.clone())) {
+        return Err(job.must_not_be("not the table and the list after its requests", uncut));
     }
     for stop in stops(random, uncut.stores()) {
         cut_once(lights, &job.stopped(stop), &stations)?;
@@ -124,19 +141,27 @@ fn cut_everywhere(lights: &mut Lights, random: &mut Random, job: &Job, uncut: &L
     Ok(())
 }
 
-/// Cut a job once: mended, it is the table after the sheets before the one at which it was stopped, or after that one.
-fn cut_once(lights: &mut Lights, job: &Job, stations: &[Vec<u8>]) -> Told {
+/// Cut a job once: the list is that of the table after the sheets before the one at which it was stopped; mended, the table is that one, or
+/// the one after that sheet.
+fn cut_once(lights: &mut Lights, job: &Job, stations: &[Kept]) -> Told {
     let cut = job.compared(lights)?;
     let [light, sheet, phase, number, stores] = cut.answer;
     if [light, phase, number, stores] != [RED, FILING, 22, job.stop] {
         return Err(job.must_not_be("not cut at the stop number", &cut));
     }
-    let mended = Comparison::default().compare(&Case::mend(&cut.table, filebox::NO_STOP));
+    let sheet = sheet as usize;
+    if cut.index != stations[sheet - 1].1 {
+        return Err(job.must_not_be("not the list after the sheet before", &cut));
+    }
+    let mend = Case::mend(&cut.table, filebox::NO_STOP).with(&cut.index);
+    let mended = Comparison::default().compare(&mend);
     let Some(mended) = mended.ok().filter(|mended| mended.number() == 0) else {
         return Err(job.must_not_be("a cut table is not mended, or not alike", &cut));
     };
-    let sheet = sheet as usize;
-    let filed = |sheets: usize| stations.get(sheets) == Some(&mended.table);
+    let filed = |sheets: usize| {
+        let station = stations.get(sheets);
+        station.is_some_and(|(table, index)| (table, index) == (&mended.table, &mended.index))
+    };
     if !filed(sheet - 1) && !filed(sheet) {
         return Err(job.must_not_be("mended to neither the sheets before nor one more", &cut));
     }
@@ -148,20 +173,22 @@ fn cut_once(lights: &mut Lights, job: &Job, stations: &[Vec<u8>]) -> Told {
 #[cfg(test)]
 mod tests {
     use super::*;
+    use crate::indexed::PADDING;
+    use crate::tables;
 
     /// The most sheets that a job can file, and one more: cut at every store.
     #[test]
     fn a_directory_filled_by_a_job_is_cut_at_every_store() {
         let mut lights = Lights::default();
         let mut table = vec![0; 230 * 32];
-        let answer = beside::request(&mut table, b"CRD .R", b"", &mut [], 1, u32::MAX);
-        assert_eq!(answer.number, 0);
+        assert_eq!(tables::ask(&mut table, b"CRD .R", b"", 1, u32::MAX), 0);
         let record = |n: u8| {
             let mut record = [0; 32];
             record[..2].copy_from_slice(&[b'A' + n / 16, b'A' + n % 16]);
             record
         };
         let job = Job {
+            index: beside::true_index(&table),
             table,
             sheets: (0..113).flat_map(record).collect(),
             texts: Vec::new(),
@@ -186,6 +213,7 @@ mod tests {
     fn a_light_that_promises_too_much_is_broken() {
         let job = Job {
             table: vec![0; 32],
+            index: vec![PADDING],
             sheets: vec![b'A'; 32],
             texts: Vec::new(),
             room: 2,
@@ -196,6 +224,7 @@ mod tests {
         let lit = |answer, first, back| Lit {
             answer,
             table: [&[first][..], &[0; 31]].concat(),
+            index: vec![PADDING],
             back: vec![back; 2],
         };
         const LENT: u8 = crate::case::UNTOUCHED;
@@ -214,5 +243,34 @@ mod tests {
         assert!(!kept([REFUSED, 1, 0, 4, 0], 1, LENT));
         assert!(!kept([REFUSED, 1, 0, 5, 0], 0, LENT));
         assert!(!kept([3, 1, 0, 1, 0], 0, LENT));
+    }
+
+    #[test]
+    fn a_list_that_is_not_as_it_must_be_is_broken() {
+        let table = vec![0; 32];
+        let job = Job {
+            index: vec![PADDING],
+            sheets: vec![b'A'; 32],
+            texts: Vec::new(),
+            room: 0,
+            chain: Vec::new(),
+            user: 1,
+            stop: 0,
+            table,
+        };
+        let kept = |answer, number: u16| {
+            let lit = Lit {
+                answer,
+                table: job.table.clone(),
+                index: vec![number],
+                back: Vec::new(),
+            };
+            list_broken(&job, &lit).is_none()
+        };
+        assert!(kept([GREEN, 0, 0, 0, 4], PADDING));
+        assert!(!kept([GREEN, 0, 0, 0, 4], 0)); // not true
+        assert!(kept([RED, 1, FILING, 22, 1], 0));
+        assert!(kept([RED, 1, FILING, 26, 0], PADDING));
+        assert!(!kept([RED, 1, FILING, 26, 0], 0)); // not as lent
     }
 }

@@ -8,7 +8,7 @@ const RED: u32 = 1;
 /// How often each must be met.
 const ENOUGH: u64 = 100;
 /// The replies that a filing can have: its first word is WRS, it replies nothing, and it is neither RDS, CHN nor DPR.
-const FILED: [usize; 16] = [1, 2, 3, 4, 6, 7, 8, 9, 10, 11, 12, 13, 14, 17, 18, 19];
+const FILED: [usize; 17] = [1, 2, 3, 4, 6, 7, 8, 9, 10, 11, 12, 13, 14, 17, 18, 19, 26];
 const STOPPED: usize = 22;
 
 /// A count of each light, and of what was done.

@@ -129,6 +129,7 @@ mod tests {
             let outcome = Outcome {
                 answer: [number, argument, link, 0, 0, 0, 0],
                 table: Vec::new(),
+                index: Vec::new(),
                 reply: Vec::new(),
             };
             broken(&Case::request(&[], asked), &outcome).is_none()

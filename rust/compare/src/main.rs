@@ -1,10 +1,10 @@
 //! The proved library against the second program, on random cases: `compare [COUNT [SEED]]`, COUNT requests on tables that
-//! grow by them. Answer, whole table and whole reply buffer are compared byte for byte, every storing request on a sound
+//! grow by them. Answer, whole table, index and whole reply buffer are compared byte for byte, every storing request on a sound
 //! table is cut at its stop numbers and mended, every sheet read whole is read in pieces, every tree a level less, and every table is
 //! mended. At the first difference it prints a case to paste into a test and ends with status 1; also when a reply number was met
 //! fewer than a hundred times, with a link of a chain or without, where it has the one or the other, or a branch of RDS's parts, of
-//! LST*, of WRS*, of the counts in headings, of DST, of entries that name no heading, of six-bit names or of their conversion. Every
-//! request and every mend is also made by the second program on the old table, and must answer alike.
+//! LST*, of WRS*, of the counts in headings, of DST, of entries that name no heading, of six-bit names or of their conversion, of the
+//! index or of looking a name up by it. Every request and every mend is also made by the second program on the old table, and must answer alike.
 //!
 //! `compare jobs [COUNT [SEED]]`: the same with the lamp, COUNT jobs, each cut at its stop numbers and mended; ends with
 //! status 1 also when a light was met fewer than a hundred times.
@@ -13,11 +13,13 @@
 //! mended as the first; ends with status 1 also when a number was met fewer than a hundred times by gives, or by takes, or with a
 //! link.
 
+mod branches;
 mod case;
 mod counted;
 mod cut;
 mod destroyed;
 mod handed;
+mod indexed;
 mod job;
 mod jobs;
 mod levels;
@@ -98,21 +100,11 @@ fn requests(count: u64, seed: u64) -> ExitCode {
     let ended = run(&mut comparison, count, seed);
     show(&comparison, seed, start);
     let (met, links) = (&comparison.met, &comparison.links);
-    let (parted, treed) = (&comparison.parted, &comparison.treed);
-    let (rewritten, counted) = (&comparison.rewritten, &comparison.counted);
-    let (destroyed, sixed) = (&comparison.destroyed, &comparison.sixed);
+    let branches = comparison.branches();
+    let too_few = branches.iter().flat_map(|branches| branches.missed());
     let linked = links.missed(&links::IN_REQUESTS);
-    let too_few = [
-        parted.missed(),
-        treed.missed(),
-        rewritten.missed(),
-        counted.missed(),
-        destroyed.missed(),
-        sixed.missed(),
-    ]
-    .concat();
-    let missed = [met.missed(), linked, too_few].concat();
-    let branches = format!("{parted}\n{treed}\n{rewritten}\n{counted}\n{destroyed}\n{sixed}");
+    let missed = [met.missed(), linked, too_few.collect()].concat();
+    let branches = branches.map(ToString::to_string).join("\n");
     let shown = format!("{met}{links}\n{branches}");
     verdict(ended, shown, &missed)
 }

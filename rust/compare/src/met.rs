@@ -33,9 +33,10 @@ impl Met {
         self.0.iter().map(|row| row[number]).sum()
     }
 
-    /// The numbers met too seldom, by all calls together or, of mending's own four, by mending.
+    /// The numbers met too seldom, by all calls together or, of mending's own five, by mending.
     pub fn missed(&self) -> Vec<String> {
-        let mending = |number| matches!(number, 0 | 1 | 2 | 22) && self.0[MEND][number] < ENOUGH;
+        let mending =
+            |number| matches!(number, 0 | 1 | 2 | 22 | 26) && self.0[MEND][number] < ENOUGH;
         let missed = |number: &usize| self.total(*number) < ENOUGH || mending(*number);
         let numbers = NUMBERS.map(|number| number as usize);
         let missed = numbers.into_iter().filter(missed);

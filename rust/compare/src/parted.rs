@@ -1,9 +1,8 @@
 //! How often each branch of an RDS with numbers was met.
 
-use std::fmt;
-
 use beside::{Portion, Request};
 
+use crate::branches::Branches;
 use crate::case::{Asked, Case};
 
 const BRANCHES: [&str; 10] = [
@@ -19,14 +18,17 @@ const BRANCHES: [&str; 10] = [
     "at the end",
 ];
 const DASHES: usize = 4;
-/// How often each branch must be met.
-const ENOUGH: u64 = 100;
 /// The bytes of a block.
 const BLOCK: usize = 24;
 
 /// A count for each branch.
-#[derive(Default)]
-pub struct Parted([u64; BRANCHES.len()]);
+pub struct Parted(Branches);
+
+impl Default for Parted {
+    fn default() -> Parted {
+        Parted(Branches::new("parts", BRANCHES))
+    }
+}
 
 /// The branch of a part that was written, so many bytes of it.
 fn written(Portion { first, count }: Portion, bytes: usize) -> usize {
@@ -67,22 +69,13 @@ impl Parted {
             return;
         };
         if let Some(branch) = branch(line, answer) {
-            self.0[branch] += 1;
+            self.0.count(branch);
         }
     }
 
-    /// What was met too seldom.
-    pub fn missed(&self) -> Vec<String> {
-        let seldom = BRANCHES.iter().zip(self.0).filter(|(_, n)| *n < ENOUGH);
-        seldom.map(|(name, _)| name.to_string()).collect()
-    }
-}
-
-impl fmt::Display for Parted {
-    fn fmt(&self, f: &mut fmt::Formatter) -> fmt::Result {
-        let one = |(name, n): (&&str, u64)| format!("{name} {n}");
-        let all: Vec<String> = BRANCHES.iter().zip(self.0).map(one).collect();
-        write!(f, "parts: {}", all.join(", "))
+    /// How often each was met.
+    pub fn branches(&self) -> &Branches {
+        &self.0
     }
 }
 

@@ -1,9 +1,8 @@
 //! How often each branch of WRS* was met, and of what may befall a marked file; and what a rewrite must leave, by the records.
 
-use std::fmt;
-
 use beside::Request;
 
+use crate::branches::Branches;
 use crate::case::{Asked, Case, Outcome};
 use crate::records::{blocks, count, heading, texts, two, walked, Walked, BASE_FILE, READ, WRITE};
 
@@ -42,14 +41,14 @@ const CLEARED: usize = 18;
 const UNSOUND: usize = 19;
 const MENDED: usize = 20;
 const NOT_MENDED: usize = 21;
-/// How often each branch must be met.
-const ENOUGH: u64 = 100;
 
 /// A count for each number and each kind.
-#[derive(Default)]
-pub struct Rewritten {
-    numbers: [u64; NUMBERS.len()],
-    kinds: [u64; KINDS.len()],
+pub struct Rewritten(Branches);
+
+impl Default for Rewritten {
+    fn default() -> Rewritten {
+        Rewritten(Branches::numbered("rewrites", &NUMBERS, &KINDS))
+    }
 }
 
 fn is_marked(record: &[u8]) -> bool {
@@ -229,34 +228,18 @@ impl Rewritten {
     /// One more answer.
     pub fn count(&mut self, case: &Case, outcome: &Outcome) {
         for kind in kinds(case, outcome) {
-            self.kinds[kind] += 1;
+            self.0.count(NUMBERS.len() + kind);
         }
         let line = case.asked.as_ref().map_or(&[][..], |asked| &asked.line);
         let number = NUMBERS.iter().position(|n| *n == outcome.answer[0]);
         if let Some(at) = number.filter(|_| is_rewrite(line)) {
-            self.numbers[at] += 1;
+            self.0.count(at);
         }
     }
 
-    /// Each branch by its name, and how often it was met.
-    fn branches(&self) -> Vec<(String, u64)> {
-        let numbers = NUMBERS.iter().map(|n| n.to_string()).zip(self.numbers);
-        let kinds = KINDS.iter().map(|kind| kind.to_string()).zip(self.kinds);
-        numbers.chain(kinds).collect()
-    }
-
-    /// What was met too seldom.
-    pub fn missed(&self) -> Vec<String> {
-        let seldom = self.branches().into_iter().filter(|(_, n)| *n < ENOUGH);
-        seldom.map(|(name, _)| format!("WRS* {name}")).collect()
-    }
-}
-
-impl fmt::Display for Rewritten {
-    fn fmt(&self, f: &mut fmt::Formatter) -> fmt::Result {
-        let all = self.branches().into_iter();
-        let all: Vec<String> = all.map(|(name, n)| format!("{name} {n}")).collect();
-        write!(f, "rewrites: {}", all.join(", "))
+    /// How often each was met.
+    pub fn branches(&self) -> &Branches {
+        &self.0
     }
 }
 

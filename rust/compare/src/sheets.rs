@@ -1,9 +1,9 @@
 //! Jobs made up: sheets that meet a table, nearly good ones, and bad ones.
 
-use random::{chains, requests, Random};
+use random::{chains, lists, requests, Random};
 
 use crate::job::Job;
-use crate::tables::spoiled;
+use crate::tables::{self, spoiled};
 
 const LINKS: [&str; 10] = [
     "A",
@@ -51,7 +51,7 @@ fn record(name: &[u8], length: usize) -> [u8; 32] {
 
 /// Make a request of user 1 that may well be refused; its number.
 fn ask(table: &mut [u8], line: &str, text: &[u8]) -> u32 {
-    beside::request(table, line.as_bytes(), text, &mut [], 1, u32::MAX).number
+    tables::ask(table, line.as_bytes(), text, 1, u32::MAX)
 }
 
 /// Two directories where there is none, and a few requests more, so that there are files, links and loops to meet.
@@ -101,6 +101,7 @@ fn good(random: &mut Random, mut table: Vec<u8>) -> Job {
             .collect(),
         texts: random.bytes(lengths.iter().sum()),
         room: lengths.into_iter().max().unwrap_or(0),
+        index: Vec::new(),
         table,
         chain,
         user: 1,
@@ -216,11 +217,16 @@ fn bent(random: &mut Random, job: &mut Job) {
     }
 }
 
-/// A job on a copy of the table: mostly a good one; now and then one thing about it is bent, or two.
+/// A job on a copy of the table with its index: mostly a good one; now and then one thing about it is bent, or two, or the list is another.
 pub fn job(random: &mut Random, table: &[u8]) -> Job {
     let mut job = good(random, table.to_vec());
     for _ in 0..random.pick(&[0, 1, 1, 1, 2]) {
         bent(random, &mut job);
+    }
+    job.index = beside::true_index(&job.table);
+    if random.once_in(16) {
+        let stale = beside::true_index(table);
+        job.index = lists::wrong(random, &job.index, &stale);
     }
     job
 }

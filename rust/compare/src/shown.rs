@@ -37,6 +37,12 @@ fn case(f: &mut fmt::Formatter, case: &Case) -> fmt::Result {
     writeln!(f, "    let mut table: Vec<u8> = [")?;
     records(f, &case.table)?;
     writeln!(f, "    ].concat();")?;
+    writeln!(f, "    let mut index = {:?};", case.index)?;
+    if let Some(sought) = &case.sought {
+        writeln!(f, "    let name = b\"{}\";", sought.name.escape_ascii())?;
+        let numbers = (sought.heading, sought.user);
+        writeln!(f, "    let (heading, user) = {numbers:?};")?;
+    }
     if let Some(asked) = &case.asked {
         writeln!(f, "    let line = b\"{}\";", asked.line.escape_ascii())?;
         writeln!(f, "    let text = b\"{}\";", asked.text.escape_ascii())?;
@@ -49,16 +55,22 @@ fn case(f: &mut fmt::Formatter, case: &Case) -> fmt::Result {
 /// The call and its answer.
 fn outcome(f: &mut fmt::Formatter, program: &str, case: &Case, outcome: &Outcome) -> fmt::Result {
     let call = match (&case.asked, case.from) {
-        (None, None) => "mend(&mut table, stop)",
+        _ if case.sought.is_some() => "look_up(&table, &index, heading, user, name)",
+        (None, None) => "mend(&mut table, &mut index, stop)",
         (None, Some(Layout::Old)) => "to_six(&mut table)",
         (None, Some(Layout::Six)) => "from_six(&mut table)",
-        (Some(_), _) => "request(&mut table, line, text, &mut reply, user, stop)",
+        (Some(_), _) => "request(&mut table, &mut index, line, text, &mut reply, user, stop)",
     };
     writeln!(f, "    // {program}::{call}: {:?}", outcome.answer)
 }
 
-/// Where two slices first differ, and what stands there, as records.
-pub fn first_unlike(f: &mut fmt::Formatter, what: &str, one: &[u8], other: &[u8]) -> fmt::Result {
+/// Where two slices first differ, and what stands there, 32 at a time, as records are.
+pub fn first_unlike<T: PartialEq + fmt::Debug>(
+    f: &mut fmt::Formatter,
+    what: &str,
+    one: &[T],
+    other: &[T],
+) -> fmt::Result {
     let mut pairs = one.chunks(32).zip(other.chunks(32)).enumerate();
     match pairs.find(|(_, (one, other))| one != other) {
         None => Ok(()),
@@ -82,6 +94,7 @@ impl fmt::Display for Difference {
         outcome(f, "filebox", call, proved)?;
         outcome(f, "beside", call, beside)?;
         first_unlike(f, "record", &proved.table, &beside.table)?;
-        first_unlike(f, "32 reply bytes", &proved.reply, &beside.reply)
+        first_unlike(f, "32 reply bytes", &proved.reply, &beside.reply)?;
+        first_unlike(f, "32 places", &proved.index, &beside.index)
     }
 }

@@ -1,11 +1,10 @@
 //! How often each branch of six-bit names was met: what is asked of the old table too, which wrong name makes a table unsound, and what the
 //! conversions make of sound and of damaged tables of both layouts; and what a conversion and a listing must be, by their bytes.
 
-use std::fmt;
-
 use beside::{is_base_name, is_link_name, sound_in, Layout, Request};
 use random::names::laid;
 
+use crate::branches::Branches;
 use crate::case::{Asked, Case, Outcome};
 use crate::records::{two, BASE_FILE};
 
@@ -58,15 +57,13 @@ const TO_SIX: usize = 28;
 const TO_SIX_WRONG: usize = 31;
 /// After the wrong names of a layout: sound in the other one; and wrong otherwise.
 const OF_THE_OTHER: [usize; 2] = [4, 7];
-/// How often each branch must be met.
-const ENOUGH: u64 = 100;
 
 /// A count for each kind.
-pub struct Sixed([u64; KINDS.len()]);
+pub struct Sixed(Branches);
 
 impl Default for Sixed {
     fn default() -> Sixed {
-        Sixed([0; KINDS.len()])
+        Sixed(Branches::new("six-bit names", KINDS))
     }
 }
 
@@ -207,7 +204,7 @@ impl Sixed {
     /// One more call; was it made on the old table too?
     pub fn count(&mut self, case: &Case, outcome: &Outcome, old: bool) {
         for kind in self.kinds(case, outcome, old) {
-            self.0[kind] += 1;
+            self.0.count(kind);
         }
     }
 
@@ -241,22 +238,9 @@ impl Sixed {
         kinds
     }
 
-    /// What was met too seldom.
-    pub fn missed(&self) -> Vec<String> {
-        let kinds = KINDS.iter().zip(self.0);
-        let missed = kinds.filter(|(_, times)| *times < ENOUGH);
-        missed.map(|(kind, _)| kind.to_string()).collect()
-    }
-}
-
-impl fmt::Display for Sixed {
-    fn fmt(&self, f: &mut fmt::Formatter) -> fmt::Result {
-        let met: Vec<String> = KINDS
-            .iter()
-            .zip(self.0)
-            .map(|(kind, times)| format!("{kind} {times}"))
-            .collect();
-        write!(f, "six-bit names: {}", met.join(", "))
+    /// How often each was met.
+    pub fn branches(&self) -> &Branches {
+        &self.0
     }
 }
 

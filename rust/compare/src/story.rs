@@ -2,9 +2,9 @@
 
 use beside::Layout;
 use random::names::{misname, misname_before};
-use random::{counts, destroys, requests, rewrites, shelves, trees, Random};
+use random::{counts, destroys, lists, requests, rewrites, shelves, trees, Random};
 
-use crate::case::{must_not_be, Asked, Case, Comparison, Difference};
+use crate::case::{must_not_be, Asked, Case, Comparison, Difference, Sought};
 use crate::cut::cut_everywhere;
 use crate::levels::in_levels;
 use crate::pieces::in_pieces;
@@ -20,7 +20,11 @@ const TOO_HIGH: [u32; 4] = [1_000_000, 16_777_217, 0x8000_0001, u32::MAX];
 pub struct Story<'a> {
     comparison: &'a mut Comparison,
     random: &'a mut Random,
+    /// Another source, of lists and what is looked up through them, so that the story is the same without them.
+    lists: Random,
     table: Vec<u8>,
+    /// The list of the table before some request.
+    stale: Vec<u16>,
     about: About,
     cast: Cast,
 }
@@ -37,8 +41,10 @@ impl<'a> Story<'a> {
     pub fn new(comparison: &'a mut Comparison, random: &'a mut Random, start: Start) -> Self {
         let others = [random.pick(&USERS), random.pick(&USERS)];
         Story {
+            lists: Random::new(comparison.requests),
             comparison,
             random,
+            stale: beside::true_index(&start.table),
             table: start.table,
             about: start.about,
             cast: Cast::Anything(others),
@@ -62,6 +68,10 @@ impl<'a> Story<'a> {
             if self.random.once_in(8) {
                 self.with_a_wrong_name(asked.clone())?;
             }
+            if self.lists.once_in(4) {
+                self.with_another_list(asked.clone())?;
+            }
+            self.looked_up()?;
             match self.random.once_in(5) {
                 true => self.on_a_spoiled_table(asked)?,
                 false => self.on_the_sound_table(asked)?,
@@ -127,7 +137,57 @@ impl<'a> Story<'a> {
         ] {
             self.comparison.compare(&mend)?;
         }
+        if self.lists.once_in(2) {
+            let list = lists::wrong(&mut self.lists, &case.index, &self.stale);
+            self.comparison.compare(&case.with(&list))?;
+            let mend = Case::mend(&table, stop).with(&list);
+            self.comparison.compare(&mend)?;
+        }
         self.converted(&table)
+    }
+
+    /// The request and mending, with a list that is likely not true, now and then for a user that there is not.
+    fn with_another_list(&mut self, mut asked: Asked) -> Told {
+        if self.lists.once_in(8) {
+            asked.user = self.lists.pick(&TOO_HIGH);
+        }
+        let case = Case::request(&self.table, asked);
+        let list = lists::wrong(&mut self.lists, &case.index, &self.stale);
+        let mend = Case::mend(&self.table, self.lists.pick(&[0, 1, filebox::NO_STOP]));
+        self.comparison.compare(&case.with(&list))?;
+        self.comparison.compare(&mend.with(&list))?;
+        if self.lists.once_in(4) {
+            self.stale = case.index;
+        }
+        Ok(())
+    }
+
+    /// Names looked up through the true list; now and then through another one, or in a table that is cut off or whose entries are none.
+    fn looked_up(&mut self) -> Told {
+        let random = &mut self.lists;
+        let mut table = self.table.clone();
+        let mut list = beside::true_index(&table);
+        match random.below(8) {
+            0 => list = lists::junk(random, table.len() / 32),
+            1 => list = lists::wrong(random, &list, &self.stale),
+            2 => table.truncate(random.below(table.len() + 1)),
+            3 => {
+                (0..4).for_each(|_| lists::disorder(random, &mut table));
+                list = beside::true_index(&table);
+            }
+            _ => {}
+        }
+        for _ in 0..3 {
+            let (heading, user, name) = lists::sought(&mut self.lists, &self.table);
+            let sought = Sought {
+                heading,
+                user,
+                name,
+            };
+            let case = Case::look_up(&table, &list, sought);
+            self.comparison.compare(&case)?;
+        }
+        Ok(())
     }
 
     /// The same on a copy in which a name is made wrong, now and then on the old table, with its names right or one wrong.
@@ -186,7 +246,7 @@ impl<'a> Story<'a> {
         if uncut.stores() > 0 {
             cut_everywhere(self.comparison, self.random, &case, &uncut)?;
         }
-        let mend = Case::mend(&uncut.table, self.stop());
+        let mend = Case::mend_after(&uncut, self.stop());
         if self.comparison.compare(&mend)?.answer != [0; 7] {
             return Err(must_not_be(&case, "not sound after the request", &uncut));
         }

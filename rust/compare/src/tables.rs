@@ -6,11 +6,17 @@ use random::damage::{damage, litter};
 use random::destroys::lose;
 use random::{destroys, requests, rewrites, Random};
 
+/// Make a request of a user by the second program, with the true index; its number.
+pub fn ask(table: &mut [u8], line: &[u8], text: &[u8], user: u32, stop: u32) -> u32 {
+    let mut index = beside::true_index(table);
+    beside::request(table, &mut index, line, text, &mut [], user, stop).number
+}
+
 /// Make these requests of a user on a table, each with this text; each must be granted.
 fn grow_for(user: u32, table: &mut [u8], lines: impl IntoIterator<Item = String>, text: &[u8]) {
     for line in lines {
-        let answer = beside::request(table, line.as_bytes(), text, &mut [], user, NO_STOP);
-        assert_eq!(answer.number, 0, "{line}");
+        let number = ask(table, line.as_bytes(), text, user, NO_STOP);
+        assert_eq!(number, 0, "{line}");
     }
 }
 
@@ -128,8 +134,8 @@ pub fn sheets(free: usize) -> Vec<u8> {
     ];
     grow(&mut table, lines.map(String::from), &[b's'; 30]);
     for line in ["WRS* M .R:CUT", "WRS* M .R:CUTS", "WRS* M .CUT"] {
-        let cut = beside::request(&mut table, line.as_bytes(), b"", &mut [], 1, 3);
-        assert_eq!(cut.number, 22, "{line}");
+        let number = ask(&mut table, line.as_bytes(), b"", 1, 3);
+        assert_eq!(number, 22, "{line}");
     }
     // the room that the marked ones left is taken, as far as it is not to be free
     let taken = table.chunks(32).rposition(|record| record[0] != 0);
@@ -205,8 +211,7 @@ pub fn withdrawn() -> Vec<u8> {
         b"",
     );
     grow_for(2, &mut table, [String::from("DUP .G:KEYS .KEYS")], b"");
-    let cut = beside::request(&mut table, b"WRS* M .R:CUT", b"", &mut [], 1, 2);
-    assert_eq!(cut.number, 22);
+    assert_eq!(ask(&mut table, b"WRS* M .R:CUT", b"", 1, 2), 22);
     table
 }
 
@@ -321,14 +326,7 @@ pub fn shelves(random: &mut Random, users: [u32; 3]) -> Start {
         grow_for(user, &mut table, shelf(random, ".T"), b"");
         let line = random.pick(&["DUP .R:A .T:A", "WRS M .T:B", "CRD .T:C", "DUP .R .T:AB"]);
         // granted where there is such a shelf
-        let _ = beside::request(
-            &mut table,
-            line.as_bytes(),
-            b"4.9 V",
-            &mut [],
-            user,
-            NO_STOP,
-        );
+        ask(&mut table, line.as_bytes(), b"4.9 V", user, NO_STOP);
     }
     let links = (0..crowd).map(|number| format!("DUP .R:A .G:N{number}"));
     grow_for(users[0], &mut table, links, b"");
@@ -371,7 +369,7 @@ fn cut(random: &mut Random, table: &[u8], user: u32) -> Vec<u8> {
     };
     let (text, stop) = (random.bytes(60), 1 + random.below(6) as u32);
     // cut or not, and perhaps refused
-    let _ = beside::request(&mut cut, &line, &text, &mut [], user, stop);
+    ask(&mut cut, &line, &text, user, stop);
     cut
 }
 
@@ -441,9 +439,8 @@ mod tests {
 
     #[test]
     fn full_lists_are_full() {
-        let refused = |mut table: Vec<u8>, line: &[u8]| {
-            beside::request(&mut table, line, b"", &mut [], 1, NO_STOP).number == 17
-        };
+        let refused =
+            |mut table: Vec<u8>, line: &[u8]| ask(&mut table, line, b"", 1, NO_STOP) == 17;
         assert!(refused(crowded_directory(112), b"CRD .R:NEW"));
         assert!(!refused(crowded_directory(111), b"CRD .R:NEW"));
         assert!(refused(crowded_base_list(100), b"CRD .NEW"));

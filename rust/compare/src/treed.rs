@@ -1,11 +1,10 @@
 //! How often each branch of LST* was met: each number, each depth, and what stands in the tree.
 
-use std::collections::BTreeSet;
-use std::fmt;
-
 use beside::{Listed, Request};
 use random::names::name;
+use std::collections::BTreeSet;
 
+use crate::branches::Branches;
 use crate::case::{Asked, Case, Outcome};
 use crate::records::{two, BASE_FILE};
 
@@ -22,15 +21,17 @@ const KINDS: [&str; 8] = [
     "a buffer just long enough",
     "no lines",
 ];
-/// How often each branch must be met.
-const ENOUGH: u64 = 100;
 
 /// A count for each number, each depth that was granted, and each kind of tree, of more than one level.
-#[derive(Default)]
-pub struct Treed {
-    numbers: [u64; NUMBERS.len()],
-    depths: [u64; DEEPEST],
-    kinds: [u64; KINDS.len()],
+pub struct Treed(Branches);
+
+impl Default for Treed {
+    fn default() -> Treed {
+        let numbers = NUMBERS.iter().map(u64::to_string);
+        let depths = (1..=DEEPEST).map(|depth| format!("depth {depth}"));
+        let kinds = KINDS.iter().map(ToString::to_string);
+        Treed(Branches::new("trees", numbers.chain(depths).chain(kinds)))
+    }
 }
 
 /// A tree walked by its records: how many lines it has, and which kinds of `KINDS` it is.
@@ -153,44 +154,25 @@ impl Treed {
         };
         let number = NUMBERS.iter().position(|n| *n == outcome.answer[0]);
         if let Some(at) = number.filter(|_| is_tree(line)) {
-            self.numbers[at] += 1;
+            self.0.count(at);
         }
         let Some((depth, mut walked)) = granted(case, outcome) else {
             return;
         };
-        self.depths[usize::from(depth) - 1] += u64::from(walked.lines > 0);
+        if walked.lines > 0 {
+            self.0.count(NUMBERS.len() + usize::from(depth) - 1);
+        }
         walked.kinds[6] = walked.lines > 0 && outcome.bytes() == *reply;
         walked.kinds[7] = walked.lines == 0;
-        if depth > 1 {
-            for (times, met) in self.kinds.iter_mut().zip(walked.kinds) {
-                *times += u64::from(met);
-            }
+        let kinds = walked.kinds.iter().enumerate();
+        for (kind, _) in kinds.filter(|(_, met)| depth > 1 && **met) {
+            self.0.count(NUMBERS.len() + DEEPEST + kind);
         }
     }
 
-    /// Each branch by its name, and how often it was met.
-    fn branches(&self) -> Vec<(String, u64)> {
-        let numbers = NUMBERS.iter().map(|n| n.to_string()).zip(self.numbers);
-        let depths = (1..=DEEPEST).map(|d| format!("depth {d}"));
-        let kinds = KINDS.iter().map(|kind| kind.to_string()).zip(self.kinds);
-        numbers
-            .chain(depths.zip(self.depths))
-            .chain(kinds)
-            .collect()
-    }
-
-    /// What was met too seldom.
-    pub fn missed(&self) -> Vec<String> {
-        let seldom = self.branches().into_iter().filter(|(_, n)| *n < ENOUGH);
-        seldom.map(|(name, _)| format!("LST* {name}")).collect()
-    }
-}
-
-impl fmt::Display for Treed {
-    fn fmt(&self, f: &mut fmt::Formatter) -> fmt::Result {
-        let all = self.branches().into_iter();
-        let all: Vec<String> = all.map(|(name, n)| format!("{name} {n}")).collect();
-        write!(f, "trees: {}", all.join(", "))
+    /// How often each was met.
+    pub fn branches(&self) -> &Branches {
+        &self.0
     }
 }
 
@@ -212,8 +194,9 @@ mod tests {
         let mut treed = Treed::default();
         treed.count(&case, &outcome);
         assert_eq!(broken(&case, &outcome), None);
-        let met = KINDS.into_iter().zip(treed.kinds);
-        met.filter(|(_, n)| *n > 0).map(|(kind, _)| kind).collect()
+        let met = treed.branches().met();
+        let is_met = |kind: &&str| met.contains(kind);
+        KINDS.into_iter().filter(is_met).collect()
     }
 
     #[test]

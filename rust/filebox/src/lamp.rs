@@ -273,14 +273,9 @@ impl<B: AsMut<[u8]>> Table<B> {
         let longest = sheets.iter().map(|sheet| sheet.text.len()).max();
         let mut back = vec![0; longest.unwrap_or(0)];
         let chain = chain.as_bytes();
+        let (bytes, index) = self.lent();
         light(
-            self.as_mut(),
-            &records,
-            &texts,
-            &mut back,
-            chain,
-            user,
-            NO_STOP,
+            bytes, index, &records, &texts, &mut back, chain, user, NO_STOP,
         )
         .green()
     }

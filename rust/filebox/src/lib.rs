@@ -1,11 +1,11 @@
 //! The file box for a fixture's programmer: document 01's requests and mending and document 02's lamp and gives, from
 //! the proved static library.
 //!
-//! [`request`], [`mend`] and [`light`] are three of the library's calls as they are: slices and numbers in, an [`Answer`] or a
-//! [`Light`] out; [`disk::phase`] is the fourth, for a host that keeps a table in a file, and [`to_six`] and [`from_six`] are for tables
-//! from before names had six bits a character. [`Table`] holds the bytes of a table, owned or lent, and has a method for each thing that a fixture asks.
-//! Every call ends and answers, for every table, line, text, user and stop number. A box keeps nothing between calls but
-//! the table's bytes.
+//! [`request`], [`mend`], [`light`] and [`look_up`] are four of the library's calls as they are: slices and numbers in, an [`Answer`], a
+//! [`Light`] or a [`Found`] out; [`disk::phase`] is the fifth, for a host that keeps a table in a file, and [`to_six`] and [`from_six`] are for tables
+//! from before names had six bits a character. [`Table`] holds the bytes of a table, owned or lent, with its index, and has a method for each thing that
+//! a fixture asks. Every call ends and answers, for every table, index, line, text, user and stop number. A box keeps nothing between calls but
+//! the table's bytes and the index, which can be built from them.
 //!
 //! The build script links `libfilebox_c.a` from the folder that FILEBOX_LIB names (a full path), or from the repository's
 //! own `target/staticlib`.
@@ -74,6 +74,8 @@
 //!
 //! Destroy a sheet, and every path to it goes. See [`Table::destroy`].
 //!
+//! Look a name up by the sorted index, in at most 12 comparisons. See [`Table::look_up`].
+//!
 //! A table from before names had six bits a character is not sound; convert it once. See [`Table::to_six`].
 //!
 //! A refusal says the number and why, the argument, and which link of its chain, the supplied `.W` counted; it leaves the table
@@ -102,7 +104,7 @@
 //!
 //! let mut table = Table::free(16);
 //! let before = table.clone();
-//! let answer = filebox::request(table.as_mut(), b"CRD .R", b"", &mut [], 1, 1);
+//! let answer = table.stopped(1, "CRD .R", b"", &mut [], 1);
 //! assert_eq!((answer.number, answer.stores), (Number::Stopped, 1));
 //! assert_ne!(table, before);
 //! let mended = table.mend().unwrap();
@@ -113,13 +115,15 @@
 
 mod answer;
 pub mod disk;
+mod index;
 mod lamp;
 mod library;
 mod number;
 mod table;
 
 pub use answer::{Answer, Refused};
+pub use index::{index_of, Found, Holder, BASE, PADDING};
 pub use lamp::{Light, NoRecord, NotGreen, Phase, Red, Sheet, Unfit};
-pub use library::{from_six, light, mend, request, to_six};
+pub use library::{from_six, light, look_up, mend, request, to_six};
 pub use number::{NoSuchNumber, Number};
 pub use table::{Table, LONGEST_TEXT, MOST_RECORDS, NO_STOP, RECORD_BYTES};

@@ -11,7 +11,7 @@ use std::fmt;
 /// assert_eq!(Number::CodeLacksBit.code(), 21);
 /// assert_eq!(Number::try_from(2), Ok(Number::TableNotSound));
 /// assert_eq!(Number::TableNotSound.to_string(), "table not sound");
-/// assert!(Number::try_from(26).is_err());
+/// assert!(Number::try_from(29).is_err());
 /// ```
 #[derive(Debug, Clone, Copy, PartialEq, Eq, PartialOrd, Ord, Hash)]
 #[repr(u32)]
@@ -68,6 +68,8 @@ pub enum Number {
     LifetimeLong = 24,
     /// CPY: level too low, below the source's.
     LevelTooLow = 25,
+    /// Index not true: length or content; mending: length.
+    Index = 26,
     /// RDS: bad number: not one to six octal digits, or a count of 0.
     BadNumber = 27,
     /// RDS: first beyond the end.
@@ -75,8 +77,8 @@ pub enum Number {
 }
 
 impl Number {
-    /// All numbers, in order: 0 to 25, 27 and 28.
-    pub const ALL: [Number; 28] = [
+    /// All numbers, in order: 0 to 28.
+    pub const ALL: [Number; 29] = [
         Number::Done,
         Number::TableLength,
         Number::TableNotSound,
@@ -103,6 +105,7 @@ impl Number {
         Number::Marked,
         Number::LifetimeLong,
         Number::LevelTooLow,
+        Number::Index,
         Number::BadNumber,
         Number::FirstBeyondEnd,
     ];
@@ -147,6 +150,7 @@ impl Number {
             Number::Marked => "RDS, CPY: marked, since a rewrite of it was cut",
             Number::LifetimeLong => "WRS*: lifetime L",
             Number::LevelTooLow => "CPY: level too low, below the source's",
+            Number::Index => "index not true: length or content; mending: length",
             Number::BadNumber => "RDS: bad number: not one to six octal digits, or a count of 0",
             Number::FirstBeyondEnd => "RDS: first beyond the end",
         }
@@ -159,7 +163,7 @@ impl fmt::Display for Number {
     }
 }
 
-/// No reply number: the documents have 0 to 25, 27 and 28.
+/// No reply number: the documents have 0 to 28.
 #[derive(Debug, Clone, Copy, PartialEq, Eq)]
 pub struct NoSuchNumber(pub u32);
 
@@ -187,8 +191,7 @@ mod tests {
 
     #[test]
     fn each_number_is_found_by_its_code() {
-        assert_eq!(Number::ALL.map(Number::code)[..26], Vec::from_iter(0..26));
-        assert_eq!(Number::ALL.map(Number::code)[26..], [27, 28]);
+        assert_eq!(Number::ALL.map(Number::code)[..], Vec::from_iter(0..29));
         for number in Number::ALL {
             assert_eq!(Number::try_from(number.code()), Ok(number));
         }
@@ -196,7 +199,7 @@ mod tests {
 
     #[test]
     fn no_other_number_is_one() {
-        for code in [26, 29, 255, 256, u32::MAX] {
+        for code in [29, 255, 256, u32::MAX] {
             assert_eq!(Number::try_from(code), Err(NoSuchNumber(code)));
         }
     }

@@ -1,6 +1,9 @@
-//! A table of records, owned or lent, and what a fixture asks of it.
+//! A table of records, owned or lent, with its index, and what a fixture asks of it.
+
+use std::hash::{Hash, Hasher};
 
 use crate::answer::{Answer, Refused};
+use crate::index::{index_of, PADDING};
 use crate::library::{from_six, mend, request, to_six};
 use crate::number::Number;
 
@@ -18,7 +21,7 @@ pub const NO_STOP: u32 = 65_535;
 const LONGEST_LISTING: usize = 112 * 21;
 
 /// A table: `Table` owns its bytes, `Table<&mut [u8]>` has them lent. Any bytes will do; a table that is not sound, or of
-/// a length that does not fit, is refused by every request.
+/// a length that does not fit, is refused by every request. Two tables are equal when their bytes are.
 ///
 /// ```
 /// use filebox::Table;
@@ -28,22 +31,60 @@ const LONGEST_LISTING: usize = 112 * 21;
 /// lent.ask(1, "CRD .R").unwrap();
 /// assert_eq!(memory[0], 1);
 /// ```
-#[derive(Debug, Clone, PartialEq, Eq, Hash)]
+///
+/// It keeps its index beside the bytes, and no call of it gets 26: the index of a sound table is built when it is first asked for, again
+/// after the bytes were handed out to be written ([`AsMut`]) and after a call that was stopped; every other call keeps it true. A table that
+/// is not sound has none, and is refused by 2 until it is mended.
+///
+/// ```
+/// use filebox::{Holder, Table};
+///
+/// let mut filed = Table::free(16);
+/// filed.ask(1, "CRD .R").unwrap();
+/// let mut loaded = Table::of(filed.into_bytes());
+/// loaded.ask(1, "DUP .R .G").unwrap();
+/// loaded.as_mut().fill(0);
+/// loaded.ask(1, "CRD .R").unwrap();
+/// assert_eq!(loaded.look_up(Holder::Base(1), ".G").unwrap().entry, None);
+/// ```
+#[derive(Debug, Clone)]
 pub struct Table<B = Vec<u8>> {
     bytes: B,
+    /// The true index of the bytes; empty where it is not built.
+    index: Vec<u16>,
+}
+
+impl<B: PartialEq> PartialEq for Table<B> {
+    fn eq(&self, other: &Table<B>) -> bool {
+        self.bytes == other.bytes
+    }
+}
+
+impl<B: Eq> Eq for Table<B> {}
+
+impl<B: Hash> Hash for Table<B> {
+    fn hash<H: Hasher>(&self, state: &mut H) {
+        self.bytes.hash(state);
+    }
 }
 
 impl Table {
     /// So many records, all free.
     pub fn free(records: usize) -> Table {
-        Table::of(vec![0; records * RECORD_BYTES])
+        Table {
+            bytes: vec![0; records * RECORD_BYTES],
+            index: vec![PADDING; records],
+        }
     }
 }
 
 impl<B> Table<B> {
     /// The table of these bytes, given or lent.
     pub fn of(bytes: B) -> Table<B> {
-        Table { bytes }
+        Table {
+            bytes,
+            index: Vec::new(),
+        }
     }
 
     /// The bytes, handed back.
@@ -59,16 +100,69 @@ impl<B: AsRef<[u8]>> AsRef<[u8]> for Table<B> {
 }
 
 impl<B: AsMut<[u8]>> AsMut<[u8]> for Table<B> {
+    /// The bytes, to be written: any table may stand there then, so the index is built anew when it is next asked for.
     fn as_mut(&mut self) -> &mut [u8] {
+        self.index.clear();
         self.bytes.as_mut()
     }
 }
 
 impl<B: AsMut<[u8]>> Table<B> {
+    /// See that a sound table has its index; of bytes that no request takes, say the number that they get.
+    pub(crate) fn build(&mut self) -> Result<(), Refused> {
+        if self.index.is_empty() {
+            self.index = index_of(self.bytes.as_mut())?;
+        }
+        Ok(())
+    }
+
+    /// The bytes and the index, as a call takes them.
+    pub(crate) fn lent(&mut self) -> (&mut [u8], &mut [u16]) {
+        // what has no index is not sound, and the call says so
+        let _ = self.build();
+        (self.bytes.as_mut(), &mut self.index)
+    }
+
     /// A request as it is, with no stop number.
     #[must_use = "the answer may be a refusal"]
-    pub fn request(&mut self, user: u32, line: &str, text: &[u8], reply: &mut [u8]) -> Answer {
-        request(self.as_mut(), line.as_bytes(), text, reply, user, NO_STOP)
+    pub fn request(
+        &mut self,
+        user: u32,
+        line: impl AsRef<[u8]>,
+        text: &[u8],
+        reply: &mut [u8],
+    ) -> Answer {
+        self.stopped(user, line, text, reply, NO_STOP)
+    }
+
+    /// A request with a stop number: exactly its first `stop` stores are made, as if the power failed then. Stopped (22), the table is
+    /// mended before it is asked again.
+    ///
+    /// ```
+    /// use filebox::{Number, Table};
+    ///
+    /// let mut table = Table::free(16);
+    /// let cut = table.stopped(1, "CRD .R", b"", &mut [], 1);
+    /// assert_eq!((cut.number, cut.stores), (Number::Stopped, 1));
+    /// assert_eq!(table.ask(1, "LST .").unwrap_err().answer().number, Number::TableNotSound);
+    /// table.mend().unwrap();
+    /// assert_eq!(table, Table::free(16));
+    /// ```
+    #[must_use = "the answer may be a refusal"]
+    pub fn stopped(
+        &mut self,
+        user: u32,
+        line: impl AsRef<[u8]>,
+        text: &[u8],
+        reply: &mut [u8],
+        stop: u32,
+    ) -> Answer {
+        let (bytes, index) = self.lent();
+        let answer = request(bytes, index, line.as_ref(), text, reply, user, stop);
+        if answer.number == Number::Stopped {
+            self.index.clear();
+        }
+        answer
     }
 
     /// A request that takes no text and gives no reply bytes: CRD, CPY, DUP, CHN, DEL, DST, DPR.
@@ -134,11 +228,11 @@ impl<B: AsMut<[u8]>> Table<B> {
     /// A rewrite that was cut leaves the sheet marked and empty, and the next one repairs it:
     ///
     /// ```
-    /// use filebox::{request, Number, Table};
+    /// use filebox::{Number, Table};
     ///
     /// let mut table = Table::free(16);
     /// table.file(1, "M", ".LIMITS", b"5.0 V").unwrap();
-    /// let cut = request(table.as_mut(), b"WRS* M .LIMITS", b"4.9 V", &mut [], 1, 3);
+    /// let cut = table.stopped(1, "WRS* M .LIMITS", b"4.9 V", &mut [], 3);
     /// assert_eq!((cut.number, cut.stores), (Number::Stopped, 3));
     /// table.mend().unwrap();
     /// let refused = table.sheet(1, ".LIMITS").unwrap_err();
@@ -269,7 +363,11 @@ impl<B: AsMut<[u8]>> Table<B> {
 
     /// Mend the table, as the first thing after the power is back.
     pub fn mend(&mut self) -> Result<Answer, Refused> {
-        mend(self.as_mut(), NO_STOP).granted()
+        let bytes = self.as_mut();
+        let mut index = vec![PADDING; bytes.len() / RECORD_BYTES];
+        let mended = mend(bytes, &mut index, NO_STOP).granted()?;
+        self.index = index;
+        Ok(mended)
     }
 
     /// A table of the old layout, a byte for each character of a name, converted to six-bit names; every request of the old one answers

@@ -1,12 +1,12 @@
 //! What a host relies on in the phases of a record: each request's, and that what is no record has none.
 
 use filebox::disk::{phase, Phase};
-use filebox::{request, Number, Table, NO_STOP, RECORD_BYTES};
+use filebox::{Number, Table, RECORD_BYTES};
 
 /// The phases of the records of a table over one request, a letter each: `F`irst, `E`ntry, `L`ast, `-` for the same.
 fn phases(table: &mut Table, line: &str, text: &[u8]) -> String {
     let before = table.clone();
-    let answer = request(table.as_mut(), line.as_bytes(), text, &mut [], 1, NO_STOP);
+    let answer = table.request(1, line, text, &mut []);
     assert_eq!(answer.number, Number::Done, "{line}");
     let letter = |record| match phase(before.as_ref(), table.as_ref(), record) {
         Phase::Same => '-',

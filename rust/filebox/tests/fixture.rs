@@ -1,20 +1,22 @@
 //! What a fixture's programmer relies on: the edges of the crate, not of document 01.
 
 use filebox::{
-    from_six, mend, request, to_six, Number, Refused, Table, LONGEST_TEXT, MOST_RECORDS, NO_STOP,
-    RECORD_BYTES,
+    from_six, look_up, mend, request, to_six, Number, Refused, Table, BASE, LONGEST_TEXT,
+    MOST_RECORDS, NO_STOP, PADDING, RECORD_BYTES,
 };
 
 #[test]
 fn empty_slices_are_fine() {
-    let answer = request(&mut [], b"", b"", &mut [], 1, NO_STOP);
+    let answer = request(&mut [], &mut [], b"", b"", &mut [], 1, NO_STOP);
     assert_eq!(answer.number, Number::NoSuchFunction);
-    let answer = request(&mut [], b"LST .", b"", &mut [], 1, NO_STOP);
+    let answer = request(&mut [], &mut [], b"LST .", b"", &mut [], 1, NO_STOP);
     assert_eq!(
         (answer.number, answer.names, answer.bytes),
         (Number::Done, 1, 0)
     );
-    assert_eq!(mend(&mut [], 0).number, Number::Done);
+    assert_eq!(mend(&mut [], &mut [], 0).number, Number::Done);
+    assert_eq!(look_up(&[], &[], BASE, 1, b"").numbers(), [0, 65_535, 0]);
+    assert_eq!(look_up(&[], &[], BASE, 1, b".R").numbers(), [0, 65_535, 0]);
 }
 
 #[test]
@@ -244,6 +246,8 @@ fn defined(name: &str) -> u32 {
 #[test]
 fn the_c_header_says_the_same_numbers() {
     assert_eq!(defined("FILEBOX_NO_STOP"), NO_STOP);
+    assert_eq!(defined("FILEBOX_PADDING"), u32::from(PADDING));
+    assert_eq!(defined("FILEBOX_BASE"), BASE);
     let sizes = [
         ("FILEBOX_RECORD", RECORD_BYTES),
         ("FILEBOX_MOST_RECORDS", MOST_RECORDS),

@@ -1,8 +1,8 @@
 //! What a fixture's programmer relies on in the lamp: what the crate puts into a job sheet, and what it says.
 
 use filebox::{
-    light, mend, request, Light, NoRecord, NotGreen, Number, Phase, Red, Sheet, Table, Unfit,
-    LONGEST_TEXT, MOST_RECORDS, NO_STOP,
+    index_of, light, mend, request, Light, NoRecord, NotGreen, Number, Phase, Red, Sheet, Table,
+    Unfit, LONGEST_TEXT, MOST_RECORDS, NO_STOP, PADDING,
 };
 
 /// A table of so many records with the directory `.R` of user 1.
@@ -14,6 +14,13 @@ fn table(records: usize) -> Table {
 
 fn sheet<'a>(name: &'a str, text: &'a [u8]) -> Sheet<'a> {
     Sheet { name, text }
+}
+
+/// The index of 16 records that has these entries.
+fn padded(entries: &[u16]) -> Vec<u16> {
+    let mut index = entries.to_vec();
+    index.resize(16, PADDING);
+    index
 }
 
 #[test]
@@ -119,12 +126,14 @@ fn what_the_lamp_refuses_is_said() {
 /// The two refusals that [`Table::light`] cannot get, by the call as it is.
 #[test]
 fn short_texts_and_a_short_buffer_are_said() {
-    let mut table = table(64);
+    let mut table = table(64).into_bytes();
+    let mut index = index_of(&table).unwrap();
     let mut record = [0; 32];
     record[0] = b'A';
     record[10] = 5;
     let mut asked = |texts: &[u8], back: &mut [u8]| {
-        let answer = light(table.as_mut(), &record, texts, back, b".R", 1, NO_STOP);
+        let (table, index) = (&mut table, &mut index);
+        let answer = light(table, index, &record, texts, back, b".R", 1, NO_STOP);
         answer.green().map_err(|not| not.to_string())
     };
     assert_eq!(
@@ -184,7 +193,8 @@ fn a_text_that_came_back_as_another_would_be_said() {
 
 #[test]
 fn a_job_that_was_cut_is_mended_to_the_first_sheets() {
-    let table = table(16);
+    let table = table(16).into_bytes();
+    let index = index_of(&table).unwrap();
     let record = |name: u8| {
         let mut record = [0; 32];
         (record[0], record[10]) = (name, 2);
@@ -193,11 +203,16 @@ fn a_job_that_was_cut_is_mended_to_the_first_sheets() {
     let records = [record(b'A'), record(b'B')].concat();
     // each sheet: heading, text, entry, and the counts of `.R` and of the sheet
     for stop in 0..10 {
-        let mut cut = table.clone();
-        let red = light(cut.as_mut(), &records, b"AABB", &mut [0; 2], b".R", 1, stop);
+        let (mut cut, mut held) = (table.clone(), index.clone());
+        let back = &mut [0; 2];
+        let red = light(&mut cut, &mut held, &records, b"AABB", back, b".R", 1, stop);
         assert_eq!(red.numbers(), [1, 1 + stop / 5, 1, 22, stop]);
-        assert_eq!(mend(cut.as_mut(), NO_STOP).number, Number::Done);
-        let listed = cut.list(1, ".R").unwrap();
+        // as after the sheet before: `.R` is in record 1, and the first sheet's entry in 4
+        let left: &[u16] = if stop < 5 { &[1] } else { &[4, 1] };
+        assert_eq!(held, padded(left), "{stop}");
+        assert_eq!(mend(&mut cut, &mut held, NO_STOP).number, Number::Done);
+        assert_eq!(held, index_of(&cut).unwrap(), "{stop}");
+        let listed = Table::of(cut).list(1, ".R").unwrap();
         let filed: &[u8] = match stop {
             0..=2 => b"",
             3..=7 => b"FM.U0    A\r\n",
@@ -209,13 +224,13 @@ fn a_job_that_was_cut_is_mended_to_the_first_sheets() {
 
 #[test]
 fn empty_slices_are_fine() {
-    let green = light(&mut [], &[], &[], &mut [], &[], u32::MAX, 0);
+    let green = light(&mut [], &mut [], &[], &[], &mut [], &[], u32::MAX, 0);
     assert_eq!(green.numbers(), [0; 5]);
     let mut record = [0; 32];
     record[0] = b'A';
-    let red = light(&mut [], &record, &[], &mut [], &[], 1, 0);
+    let red = light(&mut [], &mut [], &record, &[], &mut [], &[], 1, 0);
     assert_eq!(red.numbers(), [1, 1, 1, 6, 0]);
-    let asked = request(&mut [], b"WRS M :A", b"", &mut [], 1, 0);
+    let asked = request(&mut [], &mut [], b"WRS M :A", b"", &mut [], 1, 0);
     assert_eq!(asked.number.code(), 6);
 }
 

@@ -8,7 +8,7 @@ use std::io;
 use std::os::unix::fs::FileExt;
 use std::path::{Path, PathBuf};
 
-use filebox::{mend, to_six, Number, NO_STOP, RECORD_BYTES};
+use filebox::{to_six, Number, Table, RECORD_BYTES};
 
 use crate::disk::read;
 use crate::kept::Wrong;
@@ -42,7 +42,7 @@ pub fn convert(path: &Path) -> Result<u8, String> {
 
 /// Does mending make it a sound table of six-bit names?
 fn is_six(table: &[u8]) -> bool {
-    mend(&mut table.to_vec(), NO_STOP).number == Number::Done
+    Table::of(table.to_vec()).mend().is_ok()
 }
 
 fn converted(table: &[u8]) -> String {

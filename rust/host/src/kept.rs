@@ -3,7 +3,7 @@
 use std::fmt;
 use std::io;
 
-use filebox::{mend, to_six, Answer, Number, NO_STOP, RECORD_BYTES};
+use filebox::{to_six, Answer, Number, Refused, Table, RECORD_BYTES};
 
 use crate::disk::Disk;
 use crate::phases;
@@ -54,10 +54,10 @@ impl fmt::Display for Wrong {
     }
 }
 
-/// A disk, and the table that is on it.
+/// A disk, and the table that is on it. Its index is in memory alone: the mend with which a table is opened builds it.
 pub struct Kept<D> {
     disk: D,
-    table: Vec<u8>,
+    table: Table,
     /// Set while a step is being written: after a disk error the disk is asked what it holds.
     doubtful: bool,
 }
@@ -77,7 +77,7 @@ impl<D: Disk> Kept<D> {
 
     /// The table as it was last flushed.
     pub fn table(&self) -> &[u8] {
-        &self.table
+        self.table.as_ref()
     }
 
     /// The disk, handed back.
@@ -115,7 +115,7 @@ impl<D: Disk> Kept<D> {
     fn store(&mut self, steps: Vec<Step>) -> Result<(), Wrong> {
         for step in steps {
             self.doubtful = true;
-            phases::write(&mut self.disk, &self.table, &step)?;
+            phases::write(&mut self.disk, self.table.as_ref(), &step)?;
             self.table = step.after();
             self.doubtful = false;
         }
@@ -123,18 +123,16 @@ impl<D: Disk> Kept<D> {
     }
 }
 
-/// What the disk holds, mended there, and what mending answered.
+/// What the disk holds, mended there and its index built, and what mending answered.
 ///
 /// What is read may stand in the machine's memory alone, where a host was killed or a flush failed. So it is written as it
 /// was read and flushed before anything is cleared: else the clearing could land and the entry before it be lost.
-fn settled(disk: &mut impl Disk) -> Result<(Vec<u8>, Answer), Wrong> {
+fn settled(disk: &mut impl Disk) -> Result<(Table, Answer), Wrong> {
     let found = disk.read()?;
-    let mut mended = found.clone();
-    let answer = mend(&mut mended, NO_STOP);
-    if answer.number != Number::Done {
-        return Err(Wrong::refused(answer.number, &found));
-    }
+    let mut mended = Table::of(found.clone());
+    let refused = |refused: Refused| Wrong::refused(refused.answer().number, &found);
+    let answer = mended.mend().map_err(refused)?;
     phases::write_all(disk, found.chunks(RECORD_BYTES).enumerate())?;
-    phases::write_differing(disk, &found, &mended)?;
+    phases::write_differing(disk, &found, mended.as_ref())?;
     Ok((mended, answer))
 }

@@ -13,15 +13,15 @@ use crate::steps::Step;
 /// phase to its last, the table after with that one file marked and empty.
 pub fn write(disk: &mut impl Disk, before: &[u8], step: &Step) -> io::Result<()> {
     match step {
-        Step::Whole(after) => write_whole(disk, before, after),
+        Step::Whole(after) => write_whole(disk, before, after.as_ref()),
         Step::Rewrite([marked, filled, after]) => {
-            write_differing(disk, before, marked)?;
-            write_differing(disk, marked, filled)?;
-            write_differing(disk, filled, after)
+            write_differing(disk, before, marked.as_ref())?;
+            write_differing(disk, marked.as_ref(), filled.as_ref())?;
+            write_differing(disk, filled.as_ref(), after.as_ref())
         }
         Step::Destroy([headless, after]) => {
-            write_differing(disk, before, headless)?;
-            write_differing(disk, headless, after)
+            write_differing(disk, before, headless.as_ref())?;
+            write_differing(disk, headless.as_ref(), after.as_ref())
         }
     }
 }

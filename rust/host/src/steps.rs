@@ -8,18 +8,18 @@ use filebox::{Answer, NotGreen, Number, Phase, Sheet, Table, NO_STOP, RECORD_BYT
 #[derive(Debug, Clone, PartialEq, Eq)]
 pub enum Step {
     /// The table after a request, one name of a DEL, or one sheet of a job. Which record is written when is told by the tables before and after.
-    Whole(Vec<u8>),
+    Whole(Table),
     /// A rewrite: the tables with its heading marked, with all its text besides, and after it. Old and new text may share a record, so
     /// that the tables before and after do not tell.
-    Rewrite([Vec<u8>; 3]),
+    Rewrite([Table; 3]),
     /// One name of a DST: the tables with its heading cleared, and after it. It is the heading that counts, and entries may be many, so that the
     /// tables before and after do not tell.
-    Destroy([Vec<u8>; 2]),
+    Destroy([Table; 2]),
 }
 
 impl Step {
-    /// The table after it.
-    pub fn after(self) -> Vec<u8> {
+    /// The table after it, with its index.
+    pub fn after(self) -> Table {
         match self {
             Step::Whole(after) | Step::Rewrite([_, _, after]) | Step::Destroy([_, after]) => after,
         }
@@ -44,15 +44,15 @@ pub struct Request<'a> {
 
 impl Request<'_> {
     /// The answer with a stop number, and the table then.
-    fn stopped(&self, table: &[u8], reply: &mut [u8], stop: u32) -> (Answer, Vec<u8>) {
-        let mut table = table.to_vec();
+    fn stopped(&self, table: &Table, reply: &mut [u8], stop: u32) -> (Answer, Table) {
+        let mut table = table.clone();
         let Request { user, line, text } = *self;
-        let answer = filebox::request(&mut table, line, text, reply, user, stop);
+        let answer = table.stopped(user, line, text, reply, stop);
         (answer, table)
     }
 
     /// The answer on this table, and a step for each name that was done; after the last is the table after the request.
-    pub fn steps(&self, table: &[u8], reply: &mut [u8]) -> (Answer, Vec<Step>) {
+    pub fn steps(&self, table: &Table, reply: &mut [u8]) -> (Answer, Vec<Step>) {
         let (answer, after) = self.stopped(table, reply, NO_STOP);
         if is_rewrite(answer, table, &after) {
             let at = |stop| self.stopped(table, &mut [], stop).1;
@@ -60,7 +60,7 @@ impl Request<'_> {
             return (answer, vec![Step::Rewrite(tables)]);
         }
         let mut steps = Vec::new();
-        let mut done = (0, table.to_vec());
+        let mut done = (0, table.clone());
         for names in 1..answer.names {
             let next = self.least_stop(table, names, done.0..answer.stores);
             steps.push(self.step(table, done, next.1.clone()));
@@ -72,7 +72,7 @@ impl Request<'_> {
 
     /// The step from the table at a stop number to the one after the next name. A DST clears a heading by the first store of a name, and no
     /// other request does.
-    fn step(&self, table: &[u8], (stop, before): (u32, Vec<u8>), after: Vec<u8>) -> Step {
+    fn step(&self, table: &Table, (stop, before): (u32, Table), after: Table) -> Step {
         if !clears_heading(&before, &after) {
             return Step::Whole(after);
         }
@@ -84,7 +84,7 @@ impl Request<'_> {
     }
 
     /// The least stop number at which so many names are done, and the table then. It is in this range or at its end.
-    fn least_stop(&self, table: &[u8], names: u32, range: std::ops::Range<u32>) -> (u32, Vec<u8>) {
+    fn least_stop(&self, table: &Table, names: u32, range: std::ops::Range<u32>) -> (u32, Table) {
         let (mut low, mut high) = (range.start, range.end);
         while low < high {
             let middle = low + (high - low) / 2;
@@ -98,17 +98,22 @@ impl Request<'_> {
     }
 }
 
+/// Each record of two tables.
+fn pairs<'a>(one: &'a Table, other: &'a Table) -> impl Iterator<Item = (&'a [u8], &'a [u8])> {
+    let records = |table: &'a Table| table.as_ref().chunks(RECORD_BYTES);
+    records(one).zip(records(other))
+}
+
 /// Is a heading cleared?
-fn clears_heading(before: &[u8], after: &[u8]) -> bool {
-    let mut pairs = before.chunks(RECORD_BYTES).zip(after.chunks(RECORD_BYTES));
-    pairs.any(|(old, new)| (old[0], new[0]) == (HEADING, FREE))
+fn clears_heading(before: &Table, after: &Table) -> bool {
+    pairs(before, after).any(|(old, new)| (old[0], new[0]) == (HEADING, FREE))
 }
 
 /// Is this what a rewrite leaves? It was granted with more than one store and changed something, and no entry: every other request of more than
 /// one store stores an entry that is new, names another file, or is cleared.
-fn is_rewrite(answer: Answer, before: &[u8], after: &[u8]) -> bool {
-    let pairs = before.chunks(RECORD_BYTES).zip(after.chunks(RECORD_BYTES));
-    let mut changed = pairs.filter(|(old, new)| old != new).peekable();
+fn is_rewrite(answer: Answer, before: &Table, after: &Table) -> bool {
+    let changed = pairs(before, after).filter(|(old, new)| old != new);
+    let mut changed = changed.peekable();
     let several = answer.number == Number::Done && answer.stores > 1;
     several
         && changed.peek().is_some()
@@ -131,17 +136,17 @@ pub type Lit = Result<filebox::Light, NotGreen>;
 
 impl Job<'_> {
     /// The light on this table, and a step for each sheet that was filed; after the last is the table after the job.
-    pub fn steps(&self, table: &[u8]) -> (Lit, Vec<Step>) {
-        let mut after = Table::of(table.to_vec());
+    pub fn steps(&self, table: &Table) -> (Lit, Vec<Step>) {
+        let mut after = table.clone();
         let lit = after.light(self.user, self.chain, self.sheets);
-        let mut between = Table::of(table.to_vec());
+        let mut between = table.clone();
         let mut steps = Vec::new();
         for sheet in self.sheets.iter().take(filed(&lit, self.sheets.len())) {
             // its light is part of the job's; what it leaves is the table with this sheet filed
             let _ = between.light(self.user, self.chain, &[*sheet]);
-            steps.push(Step::Whole(between.clone().into_bytes()));
+            steps.push(Step::Whole(between.clone()));
         }
-        steps.push(Step::Whole(after.into_bytes()));
+        steps.push(Step::Whole(after));
         (lit, steps)
     }
 }

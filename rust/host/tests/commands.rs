@@ -5,7 +5,7 @@ mod common;
 use std::fs;
 use std::os::unix::fs::{symlink, MetadataExt, PermissionsExt};
 
-use common::{held, run, table, Folder, Serving};
+use common::{held, run, stopped, table, Folder, Serving};
 
 #[test]
 fn ask_does_one_request() {
@@ -73,7 +73,7 @@ fn a_rewrite_that_was_cut_is_mended_and_shown_as_marked() {
         ("WRS M .R:B", b"4.9 V"),
     ];
     let mut cut = table(12, &requests);
-    let answer = filebox::request(&mut cut, b"WRS* M .R:A", b"y", &mut [], 1, 2);
+    let answer = stopped(&mut cut, "WRS* M .R:A", b"y", 2);
     assert_eq!(answer.stores, 2);
     let path = folder.file("cut", &cut);
     let picture = "\
@@ -184,7 +184,7 @@ fn mend_mends_and_says_what() {
     let folder = Folder::new();
     let before = table(16, &[("CRD .R", b"")]);
     let mut cut = before.clone();
-    let answer = filebox::request(&mut cut, b"WRS M .R:A", b"x", &mut [], 1, 1);
+    let answer = stopped(&mut cut, "WRS M .R:A", b"x", 1);
     assert_eq!(answer.stores, 1);
     let path = folder.file("cut", &cut);
     let ran = run(&["mend", &path]);
@@ -203,7 +203,7 @@ fn mend_mends_and_says_what() {
 fn ask_and_job_mend_first_and_say_so() {
     let folder = Folder::new();
     let mut cut = table(16, &[("CRD .R", b"")]);
-    let answer = filebox::request(&mut cut, b"WRS M .R:A", b"x", &mut [], 1, 2);
+    let answer = stopped(&mut cut, "WRS M .R:A", b"x", 2);
     assert_eq!(answer.stores, 2);
     for words in [["ask", "1", "LST .R"], ["job", "1", ".R"]] {
         let path = folder.file("cut", &cut);
@@ -217,7 +217,7 @@ fn ask_and_job_mend_first_and_say_so() {
 fn a_request_cut_before_its_counts_is_done_and_counted_anew() {
     let folder = Folder::new();
     let mut cut = table(16, &[("CRD .R", b"")]);
-    let answer = filebox::request(&mut cut, b"WRS M .R:A", b"x", &mut [], 1, 3);
+    let answer = stopped(&mut cut, "WRS M .R:A", b"x", 3);
     assert_eq!(answer.stores, 3);
     let path = folder.file("cut", &cut);
     // nothing would be cleared
@@ -259,7 +259,7 @@ fn show_marks_the_entries_of_a_cut_dst() {
         ("DUP .R:A .ABC", b""),
     ];
     let mut bytes = table(8, &requests);
-    let cut = filebox::request(&mut bytes, b"DST .ABC", b"", &mut [], 1, 2);
+    let cut = stopped(&mut bytes, "DST .ABC", b"", 2);
     assert_eq!(cut.stores, 2);
     let path = folder.file("cut", &bytes);
     let drawn = run(&["show", &path]).out();
@@ -338,7 +338,7 @@ fn convert_leaves_six_bit_names_as_they_are() {
     assert_eq!(fs::metadata(&path).unwrap().ino(), before.ino());
     // cut, and not mended yet
     let mut cut = six.clone();
-    let answer = filebox::request(&mut cut, b"WRS M .R:A", b"x", &mut [], 1, 1);
+    let answer = stopped(&mut cut, "WRS M .R:A", b"x", 1);
     assert_eq!(answer.stores, 1);
     let path = folder.file("cut", &cut);
     assert!(run(&["convert", &path]).out().contains("six-bit already"));
@@ -387,7 +387,7 @@ fn show_draws_trees_loops_and_a_map() {
     let mut bytes = table(20, &requests);
     let mut of_two = filebox::Table::of(&mut bytes[..]);
     of_two.ask(2, "CRD .T").unwrap();
-    let cut = filebox::request(&mut bytes, b"WRS M .R:CUT", b"x", &mut [], 1, 2);
+    let cut = stopped(&mut bytes, "WRS M .R:CUT", b"x", 2);
     assert_eq!(cut.stores, 2);
     let path = folder.file("line.table", &bytes);
     let picture = "\

@@ -10,7 +10,7 @@ use std::sync::atomic::{AtomicBool, Ordering};
 use std::sync::{Arc, Mutex};
 use std::thread;
 
-use common::{table, Connection};
+use common::{stopped, table, Connection};
 use filebox::{Number, Sheet};
 use host::desk::{Desk, Place};
 use host::fixtures::{serve_all, Fixture};
@@ -136,7 +136,7 @@ fn marked() -> Vec<u8> {
         ("DUP .R:A .R:B", b""),
     ];
     let mut table = table(12, &requests);
-    let cut = filebox::request(&mut table, b"WRS* M .R:A", b"y", &mut [], 1, 3);
+    let cut = stopped(&mut table, "WRS* M .R:A", b"y", 3);
     assert_eq!((cut.number, cut.stores), (Number::Stopped, 3));
     table
 }
@@ -298,7 +298,7 @@ fn opening_clears_the_entries_that_a_cut_dst_left() {
         ("DUP .R:A .ABC", b""),
     ];
     let mut cut = table(8, &requests);
-    let answer = filebox::request(&mut cut, b"DST .R:A", b"", &mut [], 1, 1);
+    let answer = stopped(&mut cut, "DST .R:A", b"", 1);
     assert_eq!((answer.number, answer.stores), (Number::Stopped, 1));
     let disk = Noted::default();
     *disk.bytes.borrow_mut() = cut;
@@ -339,7 +339,7 @@ fn a_job_goes_sheet_by_sheet() {
 #[test]
 fn opening_flushes_what_it_found_before_it_clears() {
     let mut cut = table(6, &[("CRD .R", b"")]);
-    let answer = filebox::request(&mut cut, b"WRS M .R:A", b"x", &mut [], 1, 2);
+    let answer = stopped(&mut cut, "WRS M .R:A", b"x", 2);
     assert_eq!(answer.stores, 2);
     let disk = Noted::default();
     *disk.bytes.borrow_mut() = cut;
@@ -352,7 +352,7 @@ fn opening_flushes_what_it_found_before_it_clears() {
 #[test]
 fn opening_counts_what_a_cut_left_uncounted() {
     let mut cut = table(6, &[("CRD .R", b"")]);
-    let answer = filebox::request(&mut cut, b"WRS M .R:A", b"x", &mut [], 1, 3);
+    let answer = stopped(&mut cut, "WRS M .R:A", b"x", 3);
     assert_eq!(answer.stores, 3);
     let disk = Noted::default();
     *disk.bytes.borrow_mut() = cut;
@@ -387,6 +387,37 @@ fn after_a_disk_error_the_table_is_read_again_and_mended() {
             .join(" ")
             .starts_with("0 1 2 3 4 5 6 7 8 9 10 11 |"));
         assert_eq!(&disk.bytes.borrow()[..], kept.table());
+    }
+}
+
+/// The index follows the table: what is done of a DEL that is refused midway, and what the disk held after an error.
+#[test]
+fn no_request_gets_26_whatever_came_before_it() {
+    let requests: [(&str, &[u8]); 3] = [
+        ("CRD .R", b""),
+        ("WRS M .R:A", b"x"),
+        ("DUP .R:A .R:B", b""),
+    ];
+    let before = table(16, &requests);
+    for line in [
+        "DEL .R:A .R:NONE .R:B",
+        "DST .R:A .R:NONE",
+        "CHN .R:A ZZ",
+        "DUP .R .R:B",
+        "WRS M .R:0",
+    ] {
+        for fails in 0..12 {
+            let (mut kept, disk) = kept(&before);
+            *disk.fails.borrow_mut() = Some(fails);
+            let done = ask(&mut kept, line, b"y");
+            let failed = matches!(done, Err(Wrong::Disk(_)));
+            disk.fails.borrow_mut().take();
+            for next in ["CRD .R:AA", "DUP .R:AA .T", "DEL .R:AA .T"] {
+                let answer = ask(&mut kept, next, b"").unwrap();
+                assert_eq!(answer.number, Number::Done, "{next} after {line}, {failed}");
+            }
+            assert_eq!(&disk.bytes.borrow()[..], kept.table());
+        }
     }
 }
 

@@ -4,7 +4,7 @@ mod common;
 
 use std::net::{Shutdown, TcpListener};
 
-use common::{held, run, table, Connection, Folder, Serving};
+use common::{held, run, stopped, table, Connection, Folder, Serving};
 
 /// A host with a fixture for each of these users.
 fn hosted(path: &str, users: &[u32]) -> Serving {
@@ -57,14 +57,7 @@ fn what_is_answered_is_in_the_file() {
             format!("{line}\n{text}")
         };
         assert!(fixture.ask(&sent).starts_with("0 "));
-        let answer = filebox::request(
-            &mut expected,
-            line.as_bytes(),
-            text.as_bytes(),
-            &mut [],
-            1,
-            filebox::NO_STOP,
-        );
+        let answer = stopped(&mut expected, line, text.as_bytes(), filebox::NO_STOP);
         assert!(answer.granted().is_ok());
         assert_eq!(held(&path), expected);
     }

@@ -2,7 +2,7 @@
 
 mod common;
 
-use common::{ended, held, program, run, run_with, table, Folder, Serving};
+use common::{ended, held, program, run, run_with, stopped, table, Folder, Serving};
 use random::Random;
 
 const SCRIPT: &[u8] = b"CRD .R\nWRS M .R:LIMITS\n5.0 V\nRDS .R:LIMITS\nLST .R\nRDS .R:KEYS\n";
@@ -123,7 +123,7 @@ fn what_a_cut_left_is_mended_and_that_is_said() {
     let folder = Folder::new();
     let before = table(16, &[("CRD .R", b"")]);
     let mut cut = before.clone();
-    let answer = filebox::request(&mut cut, b"WRS M .R:A", &[b'x'; 100], &mut [], 1, 4);
+    let answer = stopped(&mut cut, "WRS M .R:A", &[b'x'; 100], 4);
     assert_eq!(answer.number, filebox::Number::Stopped);
     let path = folder.file("cut", &cut);
     let ran = run_with(&["serve", &path], b"LST .R\n");

@@ -8,8 +8,10 @@ use std::process::{Command, Stdio};
 use std::thread::sleep;
 use std::time::Duration;
 
+use filebox::Table;
 use random::Random;
 
+use crate::second;
 use crate::seen::{emptied, equal, headless, stations, Checked};
 use crate::sent::{requests, About, Sent};
 use crate::wire::{received, ANSWER_BYTES};
@@ -100,15 +102,11 @@ impl Fixture<'_> {
             .map_err(|error| format!("the host: {error}"))?;
         self.counts.kills += 1;
         let file = self.left()?;
-        let mut mended = file.clone();
-        let seen = filebox::mend(&mut mended, filebox::NO_STOP);
-        if seen.number != filebox::Number::Done {
-            return Err(format!("mending answers {}", seen.number.code()));
-        }
+        let (_, mended) = mend(&file)?;
         match answers.split_first() {
             None => self.killed_in_mending(&left, &file, &mended)?,
             Some((first, answers)) => {
-                let expected = filebox::mend(&mut left.clone(), filebox::NO_STOP).numbers();
+                let (expected, _) = mend(&left)?;
                 equal("the answer of mending", first, &expected)?;
                 self.killed_in_a_request(&sent, answers, &file, &mended)?;
             }
@@ -156,7 +154,7 @@ impl Fixture<'_> {
         equal("the table mended again", mended, &self.table)?;
         let stopped = |stop| {
             let mut table = left.to_vec();
-            (beside::mend(&mut table, stop), table)
+            (second::mend(&mut table, stop), table)
         };
         stations(stopped, file)?;
         self.counts.half_mended += u64::from(file != left && file != mended);
@@ -196,6 +194,15 @@ impl Fixture<'_> {
         self.counts.half_destroyed += u64::from(half && destroyed);
         Ok(())
     }
+}
+
+/// What mending answers to this table, and what it makes of it.
+fn mend(table: &[u8]) -> Result<([u64; 7], Vec<u8>), String> {
+    let mut table = Table::of(table.to_vec());
+    let answer = table
+        .mend()
+        .map_err(|refused| format!("mending: {refused}"))?;
+    Ok((answer.numbers(), table.into_bytes()))
 }
 
 /// A pipe to or from the host.

@@ -17,9 +17,9 @@ pub fn serve(path: &Path) -> io::Result<()> {
     let answer = kept.call(filebox::mend)?;
     send(&mut answers, answer)?;
     while let Some(Asked { user, line, text }) = Asked::receive(&mut requests)? {
-        let answer = kept.call(|table, stop| {
+        let answer = kept.call(|table, index, stop| {
             let mut reply = vec![0; filebox::LONGEST_TEXT];
-            filebox::request(table, &line, &text, &mut reply, user, stop)
+            filebox::request(table, index, &line, &text, &mut reply, user, stop)
         })?;
         send(&mut answers, answer)?;
     }

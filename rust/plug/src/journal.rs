@@ -2,6 +2,7 @@
 
 use std::collections::VecDeque;
 
+use crate::second;
 use crate::seen::{equal, Checked};
 
 /// The bytes that the host holds of a line, and of a text.
@@ -118,7 +119,7 @@ impl Replayed {
         )?;
         let mut after = before.clone();
         let mut reply = vec![0; filebox::LONGEST_TEXT];
-        let answer = beside::request(&mut after, line, text, &mut reply, *user, filebox::NO_STOP);
+        let answer = second::request(&mut after, line, text, &mut reply, *user, filebox::NO_STOP);
         self.taken += 1;
         self.numbers[answer.number as usize] += 1;
         self.stations = match &asked.answer {
@@ -131,7 +132,7 @@ impl Replayed {
             None => crate::seen::tables(|stop| {
                 let mut table = before.clone();
                 let answer =
-                    beside::request(&mut table, line, text, &mut reply.clone(), *user, stop);
+                    second::request(&mut table, line, text, &mut reply.clone(), *user, stop);
                 (answer, table)
             }),
         };

@@ -15,6 +15,7 @@ mod journal;
 mod kept;
 pub mod machine;
 pub mod reorder;
+mod second;
 mod seen;
 mod sent;
 mod wire;

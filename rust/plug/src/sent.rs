@@ -2,6 +2,7 @@
 
 use random::{destroys, requests, rewrites, Random};
 
+use crate::second;
 use crate::wire::Asked;
 
 /// What is asked.
@@ -40,7 +41,7 @@ impl About {
         };
         for line in lines {
             let (line, text) = (line.as_bytes(), [b's'; 60]);
-            let answer = beside::request(&mut table, line, &text, &mut [], 1, filebox::NO_STOP);
+            let answer = second::request(&mut table, line, &text, &mut [], 1, filebox::NO_STOP);
             assert_eq!(answer.number, 0);
         }
         table
@@ -85,7 +86,7 @@ impl Sent {
         let mut table = self.before.clone();
         let Asked { user, line, text } = &self.asked;
         let mut reply = vec![0; filebox::LONGEST_TEXT];
-        let answer = beside::request(&mut table, line, text, &mut reply, *user, stop);
+        let answer = second::request(&mut table, line, text, &mut reply, *user, stop);
         (answer, table)
     }
 }

@@ -5,6 +5,7 @@ pub mod counts;
 pub mod damage;
 pub mod destroys;
 pub mod lines;
+pub mod lists;
 pub mod names;
 pub mod parts;
 pub mod requests;
@@ -288,5 +289,59 @@ mod tests {
         (0..20).for_each(|_| damage::damage(&mut random, &mut table));
         assert_ne!(table, before);
         damage::damage(&mut random, &mut []);
+    }
+
+    #[test]
+    fn lists_are_mostly_other_ones_and_of_every_length() {
+        let (list, stale) = (
+            [2, 1, 65_535, 65_535, 65_535],
+            [1, 65_535, 65_535, 65_535, 65_535],
+        );
+        let mut random = Random::new(1);
+        let made: Vec<Vec<u16>> = (0..1_000)
+            .map(|_| lists::wrong(&mut random, &list, &stale))
+            .collect();
+        let count =
+            |test: &dyn Fn(&Vec<u16>) -> bool| made.iter().filter(|list| test(list)).count();
+        assert!(count(&|made| made[..] != list) > 600);
+        assert!(count(&|made| made[..] == stale) > 100);
+        assert!(count(&|made| made.len() < 5) > 10);
+        assert!(count(&|made| made.len() > 5) > 10);
+        assert!(count(&|made| made.len() == 5 && made[..2] == [2, 1]) > 50);
+        assert!(count(&|made| made[..] == [1, 2, 65_535, 65_535, 65_535]) > 10);
+    }
+
+    #[test]
+    fn names_are_looked_up_where_they_are_and_elsewhere() {
+        let table = small();
+        let mut random = Random::new(1);
+        let sought: Vec<_> = (0..1_000)
+            .map(|_| lists::sought(&mut random, &table))
+            .collect();
+        for (heading, user, name) in [(65_535, 1, &b".R"[..]), (0, 0, b"A")] {
+            let there = (heading, user, name.to_vec());
+            assert!(sought.iter().filter(|one| **one == there).count() > 200);
+        }
+        assert!(sought.iter().any(|(_, _, name)| name.is_empty()));
+        assert!(sought.iter().any(|(heading, _, _)| *heading > 65_535));
+    }
+
+    #[test]
+    fn an_entry_is_made_such_as_no_sound_table_has() {
+        let mut random = Random::new(1);
+        let made = || {
+            let mut table = small();
+            lists::disorder(&mut random, &mut table);
+            table
+        };
+        let made: Vec<Vec<u8>> = std::iter::repeat_with(made).take(200).collect();
+        // a user in a directory, in each byte; another name, and one of more than 60 bits
+        for at in [70, 71, 72, 74, 81] {
+            assert!(made.iter().any(|table| table[at] != small()[at]), "{at}");
+        }
+        let headings = |table: &[u8]| [table[..32].to_vec(), table[96..].to_vec()];
+        assert!(made
+            .iter()
+            .all(|table| headings(table) == headings(&small())));
     }
 }

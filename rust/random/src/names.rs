@@ -64,7 +64,7 @@ pub fn misname(random: &mut Random, table: &mut [u8]) {
 }
 
 /// Bytes 9-19 of an entry of this name as they were before: its length, and its characters.
-fn laid_before(name: &[u8]) -> [u8; 11] {
+pub fn laid_before(name: &[u8]) -> [u8; 11] {
     let mut laid = [0; 11];
     laid[0] = name.len() as u8;
     laid[1..=name.len()].copy_from_slice(name);

@@ -33,8 +33,8 @@ slice-aggregate-feed c = search needs
 feed-requires : tie.Need-feed-requires
 feed-requires c κs = search needs
 
-sub-t27 : tie.Need-sub-t27
-sub-t27 c = search needs
+sub-t30 : tie.Need-sub-t30
+sub-t30 c = search needs
 
 same-length : tie.Need-same-length
 same-length c = search needs
@@ -48,16 +48,16 @@ same-length-3 c = search needs
 same-length-4 : tie.Need-same-length-4
 same-length-4 c = search needs
 
-returns-2 : tie.Need-returns-2
-returns-2 c =
-    let at-table = c .before .before .before .before .before .before .before .before in
-    let at-count = at-table .before .before .before .before .before .before .before .before in
-    let at-buffer = at-count .before .before .before .before .before in
-    let a = at-buffer .before .before .before .before .before .args in
-    (came-further _ (a .table .now) (a .line .now) (a .text .now) (a .reply .now) (a .held) _ _ _ _ _ (at-table .before .feed .ensures), omega arith)
-
 same-length-5 : tie.Need-same-length-5
 same-length-5 c = search needs
+
+returns-2 : tie.Need-returns-2
+returns-2 c =
+    let at-table = c .before .before .before .before .before .before .before .before .before .before in
+    let at-count = at-table .before .before .before .before .before .before .before .before .before in
+    let at-buffer = at-count .before .before .before .before .before in
+    let a = at-buffer .before .before .before .before .before .before .args in
+    (came-further _ (a .table .now) (a .index .now) (a .line .now) (a .text .now) (a .reply .now) (a .held) _ _ _ _ _ _ (at-table .before .feed .ensures), omega arith)
 
 same-length-6 : tie.Need-same-length-6
 same-length-6 c = search needs
@@ -68,13 +68,19 @@ same-length-7 c = search needs
 same-length-8 : tie.Need-same-length-8
 same-length-8 c = search needs
 
+same-length-9 : tie.Need-same-length-9
+same-length-9 c = search needs
+
+same-length-10 : tie.Need-same-length-10
+same-length-10 c = search needs
+
 returns-3 : tie.Need-returns-3
 returns-3 c =
-    let at-table = c .before .before .before .before .before .before .before .before in
-    let at-count = at-table .before .before .before .before .before .before .before .before in
+    let at-table = c .before .before .before .before .before .before .before .before .before .before in
+    let at-count = at-table .before .before .before .before .before .before .before .before .before in
     let at-buffer = at-count .before .before .before .before .before in
-    let a = at-buffer .before .before .before .before .before .args in
-    (came-further _ (a .table .now) (a .line .now) (a .text .now) (a .reply .now) (a .held) _ _ _ _ _ (at-table .before .feed .ensures), omega arith)
+    let a = at-buffer .before .before .before .before .before .before .args in
+    (came-further _ (a .table .now) (a .index .now) (a .line .now) (a .text .now) (a .reply .now) (a .held) _ _ _ _ _ _ (at-table .before .feed .ensures), omega arith)
 
 pub read-some-spec : {M : Type 1} → statement M
 read-some-spec =
@@ -89,14 +95,16 @@ read-some-spec =
     array-share-prefix-chunk
     slice-aggregate-feed
     feed-requires
-    sub-t27
+    sub-t30
     same-length
     same-length-2
     same-length-3
     same-length-4
-    returns-2
     same-length-5
+    returns-2
     same-length-6
     same-length-7
     same-length-8
+    same-length-9
+    same-length-10
     returns-3)

@@ -26,21 +26,27 @@ same-length c = search needs
 same-length-2 : tie.Need-same-length-2
 same-length-2 c = search needs
 
-returns : tie.Need-returns
-returns c =
-    let m = c .before .before .before .before .before .before .before .before in
-    unread _ _ _ _ _ _ (m .read-all .ensures) _ _ (c .before .before .read .given .1) (c .red .ensures)
-
 same-length-3 : tie.Need-same-length-3
 same-length-3 c = search needs
+
+returns : tie.Need-returns
+returns c =
+    let m = c .before .before .before .before .before .before .before .before .before .before in
+    unread _ _ _ _ _ _ _ (m .read-all .ensures) _ _ (c .before .before .read .given .1) (c .red .ensures)
 
 same-length-4 : tie.Need-same-length-4
 same-length-4 c = search needs
 
+same-length-5 : tie.Need-same-length-5
+same-length-5 c = search needs
+
+same-length-6 : tie.Need-same-length-6
+same-length-6 c = search needs
+
 returns-2 : tie.Need-returns-2
 returns-2 c =
-    let m = c .before .before .before .before .before .before .before in
-    read _ _ _ _ _ _ (m .read-all .ensures) (c .before .enum-told .given .1) (c .green .ensures)
+    let m = c .before .before .before .before .before .before .before .before .before in
+    read _ _ _ _ _ _ _ (m .read-all .ensures) (c .before .enum-told .given .1) (c .green .ensures)
 
 pub light-of-reading-spec : {M : Type 1} → statement M
 light-of-reading-spec =
@@ -53,7 +59,9 @@ light-of-reading-spec =
     green-requires
     same-length
     same-length-2
-    returns
     same-length-3
+    returns
     same-length-4
+    same-length-5
+    same-length-6
     returns-2)

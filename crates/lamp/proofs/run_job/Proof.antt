@@ -21,7 +21,7 @@ enum-told c = search needs
 
 light-of-job-requires : tie.Need-light-of-job-requires
 light-of-job-requires c κs =
-    let e = c .before .before in
+    let e = c .before .before .before in
     texts-there _ _ _ (sym (e .enum-told .given .1) ∙ e .before .before .admit .ensures)
 
 same-length : tie.Need-same-length
@@ -31,8 +31,8 @@ returns : tie.Need-returns
 returns c =
     let a = c .before .before in
     let d = a .before .before in
-    let s = d .before .before .before .before .before .before .before in
-    refused (s .args .table .now) (s .args .sheets .now) (s .args .texts .now) (s .args .back .now) (s .args .chain .now) (s .args .user) (s .args .stop)
+    let s = d .before .before .before .before .before .before .before .before in
+    refused (s .args .table .now) (s .args .index .now) (s .args .sheets .now) (s .args .texts .now) (s .args .back .now) (s .args .chain .now) (s .args .user) (s .args .stop)
     _ _ _ (sym (a .admission .given .1) ∙ d .admit .ensures) (c .refused .ensures)
 
 same-length-2 : tie.Need-same-length-2
@@ -41,11 +41,14 @@ same-length-2 c = search needs
 same-length-3 : tie.Need-same-length-3
 same-length-3 c = search needs
 
+same-length-4 : tie.Need-same-length-4
+same-length-4 c = search needs
+
 returns-2 : tie.Need-returns-2
 returns-2 c =
-    let l = c .before .before .before .before in
-    let e = l .before .before .before in
-    passed _ _ _ _ _ _ _ _ _ _ (sym (e .enum-told .given .1) ∙ e .before .before .admit .ensures) (l .light-of-job .ensures)
+    let l = c .before .before .before .before .before .before in
+    let e = l .before .before .before .before in
+    passed _ _ _ _ _ _ _ _ _ _ _ _ (sym (e .enum-told .given .1) ∙ e .before .before .admit .ensures) (l .light-of-job .ensures)
 
 pub run-job-spec : {M : Type 1} → statement M
 run-job-spec =
@@ -60,4 +63,5 @@ run-job-spec =
     returns
     same-length-2
     same-length-3
+    same-length-4
     returns-2)

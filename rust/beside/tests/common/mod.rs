@@ -4,10 +4,13 @@
 
 pub mod told;
 
-use beside::{converted, Answer, Layout};
+use beside::{converted, true_index, Answer, Layout};
 
 /// The byte that fills a reply buffer before each request.
 pub const UNTOUCHED: u8 = 0xEE;
+
+/// "places after the last entry hold 65,535".
+pub const PADDING: u16 = 65_535;
 
 /// An answer from its seven numbers: number, argument, link, names, displaced, bytes, stores.
 pub fn answer(numbers: [u32; 7]) -> Answer {
@@ -24,8 +27,7 @@ pub fn answer(numbers: [u32; 7]) -> Answer {
     }
 }
 
-/// A request, made by the second program and by the proved library: answer, table and reply must agree. "every request answers as
-/// on the old table, with the converted table after it".
+/// A request with the true index, which it keeps true: see `is_kept`.
 pub fn request(
     table: &mut [u8],
     line: &[u8],
@@ -34,49 +36,107 @@ pub fn request(
     user: u32,
     stop: u32,
 ) -> Answer {
-    let (mut proved_table, mut proved_reply) = (table.to_vec(), reply.to_vec());
-    let proved = filebox::request(&mut proved_table, line, text, &mut proved_reply, user, stop);
-    let (old, mut old_reply) = (converted(Layout::Six, table), reply.to_vec());
-    let answer = beside::request(table, line, text, reply, user, stop);
+    let lent = true_index(table);
+    let mut index = lent.clone();
+    let answer = request_with(table, &mut index, line, text, reply, user, stop);
+    is_kept(answer, &lent, &index, table);
+    answer
+}
+
+/// A request with this index, made by the second program and by the proved library: answer, table, index and reply must agree.
+/// "every request answers as on the old table, with the converted table after it".
+pub fn request_with(
+    table: &mut [u8],
+    index: &mut [u16],
+    line: &[u8],
+    text: &[u8],
+    reply: &mut [u8],
+    user: u32,
+    stop: u32,
+) -> Answer {
+    let (mut proved, mut old) = (Lent::of(table, index), Lent::of(table, index));
+    let (mut proved_reply, mut old_reply) = (reply.to_vec(), reply.to_vec());
+    let Lent { table: t, index: x } = &mut proved;
+    let told = filebox::request(t, x, line, text, &mut proved_reply, user, stop).numbers();
+    let answer = beside::request(table, index, line, text, reply, user, stop);
     let shown = String::from_utf8_lossy(line);
-    as_on_the_old_table(&shown, old, answer, table, |old| {
-        let old_reply = &mut old_reply;
-        let answer = beside::request_in(Layout::Old, old, line, text, old_reply, user, stop);
-        assert!(old_reply == reply, "the old table's reply: {shown}");
-        answer
-    });
-    assert_eq!(proved.numbers(), answer.numbers(), "the library: {shown}");
-    assert!(proved_table == table, "the library's table: {shown}");
+    assert_eq!(told, answer.numbers(), "the library: {shown}");
+    proved.must_be(table, index, &shown);
     assert!(proved_reply == reply, "the library's reply: {shown}");
+    let as_old = |t: &mut [u8], x: &mut [u16]| {
+        beside::request_in(Layout::Old, t, x, line, text, &mut old_reply, user, stop)
+    };
+    if let Some(told) = old.on_the_old_table(as_old) {
+        assert_eq!(told, answer, "the old table: {shown}");
+        old.must_be(table, index, &shown);
+        assert!(old_reply == reply, "the old table's reply: {shown}");
+    }
     answer
 }
 
-/// Mending, made by both: answer and table must agree.
+/// Mending with an index of the right length that holds nothing: see `is_kept`.
 pub fn mend(table: &mut [u8], stop: u32) -> Answer {
-    let mut proved_table = table.to_vec();
-    let proved = filebox::mend(&mut proved_table, stop);
-    let old = converted(Layout::Six, table);
-    let answer = beside::mend(table, stop);
-    as_on_the_old_table("mending", old, answer, table, |old| {
-        beside::mend_in(Layout::Old, old, stop)
-    });
-    assert_eq!(proved.numbers(), answer.numbers(), "the library: mending");
-    assert!(proved_table == table, "the library's table: mending");
+    let lent = vec![PADDING; table.len() / 32];
+    let mut index = lent.clone();
+    let answer = mend_with(table, &mut index, stop);
+    is_kept(answer, &lent, &index, table);
     answer
 }
 
-/// The same call on the old table, if there is one, has this answer, and this is its table, converted.
-fn as_on_the_old_table(
-    shown: &str,
-    old: Option<Vec<u8>>,
-    answer: Answer,
-    after: &[u8],
-    call: impl FnOnce(&mut [u8]) -> Answer,
-) {
-    if let Some(mut old) = old {
-        assert_eq!(call(&mut old), answer, "the old table: {shown}");
-        let six = converted(Layout::Old, &old);
-        assert!(six.as_deref() == Some(after), "the old table: {shown}");
+/// Mending with this index, made by both: answer, table and index must agree, and be as on the old table.
+pub fn mend_with(table: &mut [u8], index: &mut [u16], stop: u32) -> Answer {
+    let (mut proved, mut old) = (Lent::of(table, index), Lent::of(table, index));
+    let told = filebox::mend(&mut proved.table, &mut proved.index, stop).numbers();
+    let answer = beside::mend(table, index, stop);
+    assert_eq!(told, answer.numbers(), "the library: mending");
+    proved.must_be(table, index, "mending");
+    let as_old = |t: &mut [u8], x: &mut [u16]| beside::mend_in(Layout::Old, t, x, stop);
+    if let Some(told) = old.on_the_old_table(as_old) {
+        assert_eq!(told, answer, "the old table: mending");
+        old.must_be(table, index, "mending on the old table");
+    }
+    answer
+}
+
+/// "Every request keeps the index true ... A run that answers 22 leaves the index as it was lent", and so does one that is refused by 1, 2
+/// or 26.
+pub fn is_kept(answer: Answer, lent: &[u16], index: &[u16], table: &[u8]) {
+    let expected = match answer.number {
+        1 | 2 | 22 | 26 => lent.to_vec(),
+        _ => true_index(table),
+    };
+    assert!(index == expected, "the index after {answer:?}");
+}
+
+/// A copy of the table and the index, for another one to make the call on.
+struct Lent {
+    table: Vec<u8>,
+    index: Vec<u16>,
+}
+
+impl Lent {
+    fn of(table: &[u8], index: &[u16]) -> Lent {
+        Lent {
+            table: table.to_vec(),
+            index: index.to_vec(),
+        }
+    }
+
+    /// The other one left the same.
+    fn must_be(&self, table: &[u8], index: &[u16], shown: &str) {
+        assert!(self.table == table, "another table: {shown}");
+        assert!(self.index == index, "another index: {shown}");
+    }
+
+    /// The call on the old table, if there is one, with the table converted after it.
+    fn on_the_old_table(
+        &mut self,
+        call: impl FnOnce(&mut [u8], &mut [u16]) -> Answer,
+    ) -> Option<Answer> {
+        let mut old = converted(Layout::Six, &self.table)?;
+        let answer = call(&mut old, &mut self.index);
+        self.table = converted(Layout::Old, &old).expect("a table of old names");
+        Some(answer)
     }
 }
 
@@ -88,7 +148,8 @@ pub fn sound(table: &[u8]) -> bool {
         _ if sound => 5,
         _ => 2,
     };
-    let proved = filebox::request(&mut table.to_vec(), b"", b"", &mut [], 1, 0);
+    let (mut lent, mut index) = (table.to_vec(), true_index(table));
+    let proved = filebox::request(&mut lent, &mut index, b"", b"", &mut [], 1, 0);
     assert_eq!(proved.number.code(), expected, "the library: soundness");
     sound
 }

@@ -208,6 +208,11 @@ pub fn table(records: usize, requests: &[(&str, &[u8])]) -> Vec<u8> {
     table.into_bytes()
 }
 
+/// A request of user 1 on this table, cut at a stop number.
+pub fn stopped(table: &mut [u8], line: &str, text: &[u8], stop: u32) -> filebox::Answer {
+    filebox::Table::of(table).stopped(1, line, text, &mut [], stop)
+}
+
 /// What a file holds.
 pub fn held(path: &str) -> Vec<u8> {
     fs::read(Path::new(path)).unwrap()

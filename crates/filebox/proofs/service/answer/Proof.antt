@@ -33,28 +33,34 @@ same-length c = search needs
 same-length-2 : tie.Need-same-length-2
 same-length-2 c = search needs
 
+same-length-3 : tie.Need-same-length-3
+same-length-3 c = search needs
+
 returns : tie.Need-returns
 returns c =
     let at-if1 = c .before .before .before .before .before .before in
-    let at-ask = at-if1 .before .before .before .before .before .before in
-    let a = at-ask .before .before .before .before .before .before .before .before .args in
-    answer-shows (a .table .now) (a .line .now) (a .text .now) (a .reply .now) (a .held)
+    let at-ask = at-if1 .before .before .before .before .before .before .before .before in
+    let a = at-ask .before .before .before .before .before .before .before .before .before .before .args in
+    answer-shows (a .table .now) (a .index .now) (a .line .now) (a .text .now) (a .reply .now) (a .held)
     (at-ask .ask .ensures) (c .before .put .result) (c .new .ensures)
 
 new-requires-2 : tie.Need-new-requires-2
 new-requires-2 c κs = search needs
 
-same-length-3 : tie.Need-same-length-3
-same-length-3 c = search needs
-
 same-length-4 : tie.Need-same-length-4
 same-length-4 c = search needs
 
+same-length-5 : tie.Need-same-length-5
+same-length-5 c = search needs
+
+same-length-6 : tie.Need-same-length-6
+same-length-6 c = search needs
+
 returns-2 : tie.Need-returns-2
 returns-2 c =
-    let at-ask = c .before .before .before .before .before .before .before in
-    let a = at-ask .before .before .before .before .before .before .before .before .args in
-    answer-shows (a .table .now) (a .line .now) (a .text .now) (a .reply .now) (a .held) (at-ask .ask .ensures) false (c .new2 .ensures)
+    let at-ask = c .before .before .before .before .before .before .before .before .before in
+    let a = at-ask .before .before .before .before .before .before .before .before .before .before .args in
+    answer-shows (a .table .now) (a .index .now) (a .line .now) (a .text .now) (a .reply .now) (a .held) (at-ask .ask .ensures) false (c .new2 .ensures)
 
 pub answer-spec : {M : Type 1} → statement M
 answer-spec =
@@ -69,8 +75,10 @@ answer-spec =
     new-requires
     same-length
     same-length-2
+    same-length-3
     returns
     new-requires-2
-    same-length-3
     same-length-4
+    same-length-5
+    same-length-6
     returns-2)

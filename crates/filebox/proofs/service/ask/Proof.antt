@@ -27,14 +27,17 @@ same-length-2 c = search needs
 same-length-3 : tie.Need-same-length-3
 same-length-3 c = search needs
 
+same-length-4 : tie.Need-same-length-4
+same-length-4 c = search needs
+
 returns : tie.Need-returns
 returns c =
     let at-spell-answer = c .before .before in
-    let at-request = at-spell-answer .before .before .before .before .before .before in
+    let at-request = at-spell-answer .before .before .before .before .before .before .before .before in
     let at-first2 = at-request .before .before in
     let at-first = at-first2 .before in
-    let a = at-first .before .before .before .before .before .before .before .args in
-    request-tells (a .table .now) (a .line .now) (a .text .now) (a .reply .now) (a .held)
+    let a = at-first .before .before .before .before .before .before .before .before .before .args in
+    request-tells (a .table .now) (a .index .now) (a .line .now) (a .text .now) (a .reply .now) (a .held)
     (at-first .first .ensures) (at-first2 .first2 .ensures) (at-request .request .ensures) (at-spell-answer .spell-answer .ensures) refl
 
 pub ask-spec : {M : Type 1} → statement M
@@ -48,4 +51,5 @@ ask-spec =
     same-length
     same-length-2
     same-length-3
+    same-length-4
     returns)

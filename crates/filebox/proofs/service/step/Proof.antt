@@ -21,29 +21,32 @@ same-length-3 c = search needs
 same-length-4 : tie.Need-same-length-4
 same-length-4 c = search needs
 
+same-length-5 : tie.Need-same-length-5
+same-length-5 c = search needs
+
 returns : tie.Need-returns
 returns c =
-    let at-end = c .before .before .before .before in
-    let at-if1 = at-end .before .before .before .before .before in
-    let a = at-if1 .before .before .before .before .before .args in
-    end-steps (a .table .now) (a .line .now) (a .text .now) (a .reply .now) (a .held) (a .b) _ _ _
+    let at-end = c .before .before .before .before .before .before in
+    let at-if1 = at-end .before .before .before .before .before .before in
+    let a = at-if1 .before .before .before .before .before .before .args in
+    end-steps (a .table .now) (a .index .now) (a .line .now) (a .text .now) (a .reply .now) (a .held) (a .b) _ _ _ _
     (eq-eqb (a .b) 10 (at-if1 .if1 .taken)) (at-end .end .ensures)
 
 grow-requires : tie.Need-grow-requires
 grow-requires c κs = tt
 
-same-length-5 : tie.Need-same-length-5
-same-length-5 c = search needs
-
 same-length-6 : tie.Need-same-length-6
 same-length-6 c = search needs
+
+same-length-7 : tie.Need-same-length-7
+same-length-7 c = search needs
 
 returns-2 : tie.Need-returns-2
 returns-2 c =
     let at-grow = c .before .before .before .before in
     let at-if1 = at-grow .before .before .before in
-    let a = at-if1 .before .before .before .before .before .args in
-    grow-steps (a .table .now) (a .line .now) (a .text .now) (a .reply .now) (a .held) (a .b) _ _ _
+    let a = at-if1 .before .before .before .before .before .before .args in
+    grow-steps (a .table .now) (a .index .now) (a .line .now) (a .text .now) (a .reply .now) (a .held) (a .b) _ _ _
     (ne-eqb (a .b) 10 (at-if1 .if1 .left)) (at-grow .grow .ensures)
 
 pub step-spec : {M : Type 1} → statement M
@@ -55,8 +58,9 @@ step-spec =
     same-length-2
     same-length-3
     same-length-4
+    same-length-5
     returns
     grow-requires
-    same-length-5
     same-length-6
+    same-length-7
     returns-2)

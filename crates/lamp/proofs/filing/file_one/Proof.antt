@@ -20,12 +20,12 @@ compose-requires c κs = search needs
 
 array-share-prefix-line : tie.Need-array-share-prefix-line
 array-share-prefix-line c =
-    let h = c .before .before .compose .ensures in
+    let h = c .before .before .before .compose .ensures in
     omega (arith, h .most, h .size)
 
 slice-aggregate-request : tie.Need-slice-aggregate-request
 slice-aggregate-request c =
-    let h = c .before .before .before .compose .ensures in
+    let h = c .before .before .before .before .compose .ensures in
     sym (length-take-le _ _ (omega (arith, h .most, h .size)))
 
 slice-aggregate-request-2 : tie.Need-slice-aggregate-request-2
@@ -37,13 +37,16 @@ request-requires c κs = search needs
 same-length : tie.Need-same-length
 same-length c = search needs
 
+same-length-2 : tie.Need-same-length-2
+same-length-2 c = search needs
+
 returns : tie.Need-returns
 unfolding wrsLine
 returns c =
-    let q = c .before .before .before in
-    let p = q .before .before .before .before .before in
-    let s = p .before .before .before .before .before .before .before in
-    asked-filed (s .args .table .now) (s .args .chain .now) (s .args .link .now) (s .args .text .now) _ (s .args .user) (s .args .left) _ _ _
+    let q = c .before .before .before .before .before in
+    let p = q .before .before .before .before .before .before in
+    let s = p .before .before .before .before .before .before .before .before in
+    asked-filed (s .args .table .now) (s .args .index .now) (s .args .chain .now) (s .args .link .now) (s .args .text .now) _ (s .args .user) (s .args .left) _ _ _ _
     (p .compose .ensures .bytes) (q .request .ensures)
 
 pub file-one-spec : {M : Type 1} → statement M
@@ -58,4 +61,5 @@ file-one-spec =
     slice-aggregate-request-2
     request-requires
     same-length
+    same-length-2
     returns)

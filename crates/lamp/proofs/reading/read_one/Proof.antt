@@ -5,7 +5,7 @@ use native.Mathlib.Omega.{arith}
 use borrow.Author.Needs.{needs}
 use lib.Seq.{length-take-le}
 use Rattle.job.specs.Reading.{rdsLine}
-use Rattle.lamp.proofs.Turns.{promised-read}
+use Rattle.lamp.proofs.Turns.{keeps-read}
 use Rattle.lamp.proofs.reading.read_one.Statement.{statement}
 use Rattle.lamp.proofs.reading.read_one.Tie as tie
 
@@ -20,12 +20,12 @@ compose-requires c κs = search needs
 
 array-share-prefix-line : tie.Need-array-share-prefix-line
 array-share-prefix-line c =
-    let h = c .before .before .compose .ensures in
+    let h = c .before .before .before .compose .ensures in
     omega (arith, h .most, h .size)
 
 slice-aggregate-request : tie.Need-slice-aggregate-request
 slice-aggregate-request c =
-    let h = c .before .before .before .compose .ensures in
+    let h = c .before .before .before .before .compose .ensures in
     sym (length-take-le _ _ (omega (arith, h .most, h .size)))
 
 slice-aggregate-request-2 : tie.Need-slice-aggregate-request-2
@@ -40,13 +40,16 @@ same-length c = search needs
 same-length-2 : tie.Need-same-length-2
 same-length-2 c = search needs
 
+same-length-3 : tie.Need-same-length-3
+same-length-3 c = search needs
+
 returns : tie.Need-returns
 unfolding rdsLine
 returns c =
-    let q = c .before .before .before .before in
-    let p = q .before .before .before .before .before .before in
-    let s = p .before .before .before .before .before .before .before in
-    promised-read (s .args .table .now) (s .args .chain .now) (s .args .back .now) (s .args .link .now) _ (s .args .user) _ _ _
+    let q = c .before .before .before .before .before .before in
+    let p = q .before .before .before .before .before .before .before in
+    let s = p .before .before .before .before .before .before .before .before in
+    keeps-read (s .args .table .now) (s .args .index .now) (s .args .chain .now) (s .args .back .now) (s .args .link .now) _ (s .args .user) _ _ _ _
     (p .compose .ensures .bytes) (q .request .ensures)
 
 pub read-one-spec : {M : Type 1} → statement M
@@ -62,4 +65,5 @@ read-one-spec =
     request-requires
     same-length
     same-length-2
+    same-length-3
     returns)

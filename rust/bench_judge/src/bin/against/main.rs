@@ -2,87 +2,19 @@
 //!
 //! `against BEFORE NOW [TURNS]` takes two shared libraries, each made of a folder's static ones by
 //! `cc -shared -o now.so -Wl,-Bsymbolic,--whole-archive FOLDER/libjudge_c.a FOLDER/libfilebox_c.a -Wl,--no-whole-archive`.
+//! The one before may be from before there was an index beside the table, six-bit names in it, or counts.
 //! `against count LIBRARY ROW` does what one row times once, for
 //! `valgrind --tool=callgrind --toggle-collect='*counted*' target/release/against count now.so 'RDS of 24 bytes'`.
-use std::ffi::{c_char, c_int, c_void, CString};
+mod library;
+
 use std::hint::black_box;
 
 use bench_judge::tables;
+use library::{Call, Lent, Library};
 use turns::nanoseconds;
 
 const RECORDS: usize = 2048;
-const NO_STOP: u32 = 65535;
-const USER: u32 = 1;
 const LONG: usize = 24_000;
-
-/// As many bytes as an answer ever had: a library writes those that it knows, the number first.
-#[repr(C, align(8))]
-struct Answer {
-    number: u32,
-    rest: [u32; 9],
-}
-
-type Judge = unsafe extern "C" fn(*const u8, usize) -> u8;
-type Mend = unsafe extern "C" fn(*mut u8, usize, u32) -> Answer;
-#[rustfmt::skip]
-type Request = unsafe extern "C" fn(*mut u8, usize, *const u8, usize, *const u8, usize, *mut u8, usize, u32, u32) -> Answer;
-
-extern "C" {
-    fn dlopen(path: *const c_char, mode: c_int) -> *mut c_void;
-    fn dlsym(library: *mut c_void, name: *const c_char) -> *mut c_void;
-}
-
-/// The calls of one library.
-struct Library {
-    judge: Judge,
-    mend: Mend,
-    request: Request,
-}
-
-impl Library {
-    /// The library at this path, bound at once and its names its own.
-    fn at(path: &str) -> Library {
-        let full = std::fs::canonicalize(path).unwrap_or_else(|error| panic!("{path}: {error}"));
-        let name = CString::new(full.to_str().expect("a path in UTF-8")).expect("no zero");
-        let now = 2;
-        let find = |symbol: &str| {
-            let symbol = CString::new(symbol).expect("no zero");
-            // Sound: both strings end with a zero, and what is found is not called here.
-            let found = unsafe { dlsym(dlopen(name.as_ptr(), now), symbol.as_ptr()) };
-            assert!(!found.is_null(), "{path} has no {symbol:?}");
-            found
-        };
-        // Sound: the symbols are functions of these types in every library of the box, but for numbers that an answer had not yet.
-        unsafe {
-            Library {
-                judge: std::mem::transmute::<*mut c_void, Judge>(find("filebox_judge")),
-                mend: std::mem::transmute::<*mut c_void, Mend>(find("filebox_mend")),
-                request: std::mem::transmute::<*mut c_void, Request>(find("filebox_request")),
-            }
-        }
-    }
-
-    /// The number that answers the call. Sound: each pointer is to as many bytes as the length after it says.
-    fn number(&self, call: &Call, table: &mut [u8], reply: &mut [u8]) -> u32 {
-        let (t, n) = (table.as_mut_ptr(), table.len());
-        match call {
-            Call::Judge => u32::from(unsafe { (self.judge)(t, n) }),
-            Call::Mend => unsafe { (self.mend)(t, n, NO_STOP).number },
-            Call::Ask(line, text) => {
-                let (l, x, r) = (line.as_ptr(), text.as_ptr(), reply.as_mut_ptr());
-                let (line, text, reply) = (line.len(), text.len(), reply.len());
-                unsafe { (self.request)(t, n, l, line, x, text, r, reply, USER, NO_STOP).number }
-            }
-        }
-    }
-}
-
-/// One call of a library.
-enum Call {
-    Judge,
-    Mend,
-    Ask(String, Vec<u8>),
-}
 
 fn ask(line: &str) -> Call {
     file(line, 0)
@@ -116,12 +48,12 @@ fn judged(title: &'static str, table: fn(&Library) -> Vec<u8>) -> Row {
 
 /// The table after these lines, each with a text of so many bytes.
 fn grown(library: &Library, lines: impl Iterator<Item = (String, usize)>) -> Vec<u8> {
-    let mut table = vec![0; RECORDS * 32];
+    let mut lent = Lent::of(vec![0; RECORDS * 32]);
     for (line, bytes) in lines {
-        let number = library.number(&file(&line, bytes), &mut table, &mut []);
+        let number = library.number(&file(&line, bytes), &mut lent, &mut []);
         assert_eq!(number, 0, "{line}");
     }
-    table
+    lent.table
 }
 
 /// Four directories, perhaps a long file, and so many files of 24 bytes, 25 to a directory.
@@ -231,20 +163,24 @@ fn request_rows() -> Vec<Row> {
 
 /// What is timed, and what callgrind collects: each call is granted.
 #[inline(never)]
-fn counted(library: &Library, row: &Row, table: &mut [u8], reply: &mut [u8]) {
+fn counted(library: &Library, row: &Row, lent: &mut Lent, reply: &mut [u8]) {
     for call in &row.calls {
-        let number = library.number(call, black_box(table), reply);
+        let number = library.number(call, black_box(lent), reply);
         assert_eq!(number, 0, "{}", row.title);
     }
 }
 
-/// The table as a library takes it: one from before the headings had counts takes it without them.
-fn fitted(library: &Library, table: &[u8]) -> Vec<u8> {
-    let mut fitted = table.to_vec();
-    if library.number(&Call::Judge, &mut fitted, &mut []) != 0 {
-        let headings = fitted.chunks_mut(32).filter(|record| record[0] == 1);
-        headings.for_each(|heading| heading[12..16].fill(0));
-    }
+/// The table as a library takes it, with its index, which a mend builds: one from before the six-bit names takes it with the names of
+/// before, and one from before the headings had counts without them too.
+fn fitted(library: &Library, table: &[u8]) -> Lent {
+    let old = tables::with_old_names(table);
+    let bare = tables::without_counts(&old);
+    let mut ways = [table.to_vec(), old, bare].into_iter().map(Lent::of);
+    let mut fitted = ways
+        .find_map(|mut way| (library.number(&Call::Judge, &mut way, &mut []) == 0).then_some(way))
+        .expect("a table that both libraries take");
+    let mended = library.number(&Call::Mend, &mut fitted, &mut []);
+    assert_eq!(mended, 0, "it is sound");
     fitted
 }
 
@@ -252,14 +188,12 @@ fn fitted(library: &Library, table: &[u8]) -> Vec<u8> {
 fn least(libraries: &[Library; 2], row: &Row, turns: usize) -> [f64; 2] {
     let made = (row.table)(&libraries[1]);
     let tables = libraries.each_ref().map(|library| fitted(library, &made));
-    let (mut table, mut reply) = (made, vec![0; LONG]);
+    let (mut lent, mut reply) = (Lent::of(made), vec![0; LONG]);
     let mut times = [f64::MAX; 2];
     for _ in 0..turns.min(row.turns) {
         for (time, (library, before)) in times.iter_mut().zip(libraries.iter().zip(&tables)) {
-            table.copy_from_slice(before);
-            *time = time.min(nanoseconds(|| {
-                counted(library, row, &mut table, &mut reply)
-            }));
+            lent.copy_from(before);
+            *time = time.min(nanoseconds(|| counted(library, row, &mut lent, &mut reply)));
         }
     }
     times
@@ -276,8 +210,8 @@ fn main() {
         ["count", library, title] => {
             let library = Library::at(library);
             let row = rows().find(|row| row.title == title).expect("a row");
-            let mut table = (row.table)(&library);
-            return counted(&library, &row, &mut table, &mut vec![0; LONG]);
+            let mut lent = fitted(&library, &(row.table)(&library));
+            return counted(&library, &row, &mut lent, &mut vec![0; LONG]);
         }
         [before, now] => (before, now, 2000),
         [before, now, turns] => (before, now, turns.parse().expect("how many turns")),

@@ -1,0 +1,1 @@
+// What the sorted index promises, as theorems about its definitions, in proofs/.

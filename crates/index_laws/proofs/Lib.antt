@@ -1,0 +1,12 @@
+pub mod Orders
+pub mod Truth
+pub mod Ranks
+pub mod Ends
+pub mod Halves
+pub mod LookUps
+pub mod Turns
+pub mod Puts
+pub mod Keeps
+pub mod Repairs
+pub mod Marks
+pub mod Steps

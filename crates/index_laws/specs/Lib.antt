@@ -1,0 +1,4 @@
+pub mod Judged
+pub mod Climbs
+pub mod Repaired
+pub mod Scanned
