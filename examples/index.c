@@ -1,7 +1,7 @@
 /*
  * The index of a table: it starts with no entries, each request keeps it, names are looked up by it in few comparisons, a list that is not
- * true is refused, and after a power cut, or for a table from elsewhere, one mend builds it. Each is held to what include/filebox.h promises:
- * it ends with status 1 at the first that is otherwise.
+ * true is refused, after a power cut, or for a table from elsewhere, one mend builds it, and a sweep keeps it. Each is held to what
+ * include/filebox.h promises: it ends with status 1 at the first that is otherwise.
  *
  *     rt staticlib filebox_c
  *     gcc -std=c11 -Iinclude examples/index.c target/staticlib/libfilebox_c.a -o target/index && target/index
@@ -98,9 +98,20 @@ static int cut_and_built(void)
            look_up(0, "SHEET1").found == 0 && look_up(0, "SHEET2").found == 1;
 }
 
+/* A directory that holds itself loses its base file: the sweep clears it, and takes its entry out of the index. */
+static int lost_and_swept(void)
+{
+    if (ask("CRD .T", FILEBOX_NO_STOP) != FILEBOX_DONE || ask("DUP .T .T:SELF", FILEBOX_NO_STOP) != FILEBOX_DONE ||
+        ask("DEL .T", FILEBOX_NO_STOP) != FILEBOX_DONE || entries[SHEETS] == FILEBOX_PADDING)
+        return 0;
+    struct filebox_answer swept = filebox_sweep(table, sizeof table, entries, RECORDS, FILEBOX_NO_STOP);
+    printf("a lost loop swept: %u, stores: %u\n", swept.number, swept.stores);
+    return swept.number == FILEBOX_DONE && swept.stores == 2 && entries[SHEETS] == FILEBOX_PADDING && look_up(0, "SHEET2").found == 1;
+}
+
 int main(void)
 {
-    if (!file_sheets() || !looked_up() || !refused_and_built() || !cut_and_built()) {
+    if (!file_sheets() || !looked_up() || !refused_and_built() || !cut_and_built() || !lost_and_swept()) {
         printf("not as promised\n");
         return 1;
     }

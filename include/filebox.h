@@ -1,9 +1,9 @@
 /*
  * The file box: requests and mending over a table that the caller lends (document 01, "Records, requests and replies of the file box"),
  * with parts of a sheet, trees, rewrites, gives and takes, files destroyed everywhere, counts in the headings, names of six bits a
- * character in the entries and a sorted index beside the table (document 02), and the lamp, which files the sheets of a job and reads each
- * back (its request m). Link with libfilebox_c.a, which `rt staticlib filebox_c` writes for x86-64; it keeps nothing between calls,
- * allocates nothing, and needs of the C library at most memcpy, memmove and memset.
+ * character in the entries, a sorted index beside the table and a sweep of lost loops (document 02), and the lamp, which files the sheets of
+ * a job and reads each back (its request m). Link with libfilebox_c.a, which `rt staticlib filebox_c` writes for x86-64; it keeps nothing
+ * between calls, allocates nothing, and needs of the C library at most memcpy, memmove and memset.
  *
  * The functions are proved for every table, index, line, text, reply buffer, sheets, texts, read-back buffer, chain, name, user and stop
  * number: whatever the bytes are, a call returns, with one of the numbers below. The proof begins where C hands its arguments over, so
@@ -47,7 +47,7 @@ extern "C" {
 #define FILEBOX_MOST_TEXT 24000u
 /* The largest user number. */
 #define FILEBOX_MOST_USER 999999u
-/* A stop number that no request, no mend and no job reaches. */
+/* A stop number that no request, no mend, no sweep and no job reaches. */
 #define FILEBOX_NO_STOP 65535u
 
 /* The reply numbers. */
@@ -147,15 +147,36 @@ struct filebox_answer filebox_request(uint8_t *table, size_t table_length, uint1
                                       uint32_t user, uint32_t stop);
 
 /*
- * Mending, after a power cut: clears every entry that names no heading, then every heading that no entry names, then every text record whose
- * heading is not a simple file's, or is marked; then corrects the counts of the headings that are left, a store for each that has an untrue
- * one. A mark stays. A sound table is left as it is. A table without counts is brought up to date by one mend.
+ * Mending, after a power cut, in rounds. A round clears every entry that names no heading or, base files' entries apart, whose directory is
+ * no heading; then every heading that no entry names; then every text record whose heading is not a simple file's, or is marked; each by
+ * record number. Rounds go on until one finds nothing to clear; after a request that was cut one is enough. Then the counts of the headings
+ * that are left are corrected, a store for each that has an untrue one. A mark stays. A sound table is left as it is, directories that no
+ * base file reaches but that name each other included: see filebox_sweep. A table without counts is brought up to date by one mend.
  *
  * Done (0): the table is sound, and index is its true index, built afresh. Refused (1, 2, 26): both are as lent; 26 is tried last, and of
  * index the length alone is judged, on a sound table too. Stopped (22): the first stop stores stand, index is as lent, and a mend cut
  * anywhere and run again ends as an uncut one. place, link, names, displaced and bytes are 0.
  */
 struct filebox_answer filebox_mend(uint8_t *table, size_t table_length, uint16_t *index, size_t index_length, uint32_t stop);
+
+/*
+ * Sweep what is lost: directories that link each other and are cut off from all base files keep their records, and all that stands in them,
+ * though no request comes to them. A sweep clears exactly what no chain of entries from any user's base files reaches, of any length and
+ * whatever codes, levels and marks are on it: the entries, then the headings, then the text, each by record number; then it corrects the
+ * counts of the headings that are left, a store for each that has an untrue one. It never clears an entry of a base list, and is no
+ * request: it asks for no user, and looks at no code.
+ *
+ * Done (0): table is sound, with nothing lost in it, and index is true of table as it is now. All that was reached is as it was, byte for byte, but
+ *   for those counts. Where nothing is lost there are no stores, and table and index are as lent.
+ * Refused (1, 2, 26, in this order): both are as lent. As for a request, table is to be sound and index its true index; a table that was cut
+ *   is mended first.
+ * Stopped (22): exactly the first stop stores of the sweep were made, and index is as lent. filebox_mend then answers 0; the table that it
+ *   gives is sound, and may be neither the one before the sweep nor the one after it, but a sweep of it ends in the same table as the sweep uncut,
+ *   byte for byte. So after a power cut, mend and sweep again; both may be cut in turn.
+ *
+ * place, link, names, displaced and bytes are 0.
+ */
+struct filebox_answer filebox_sweep(uint8_t *table, size_t table_length, uint16_t *index, size_t index_length, uint32_t stop);
 
 /* The directory of base files, which belong to a user. */
 #define FILEBOX_BASE 65535u
@@ -277,6 +298,10 @@ struct filebox_lamp filebox_lamp(uint8_t *table, size_t table_length, uint16_t *
  * of its answer, write the records that differ between the table before and the one at stop number 1 (the heading, marked), a flush, those
  * that differ between that and the table at stop number n - 1 (all text), a flush, those that differ between that and the table after (the
  * heading), a flush. What is on the disk is mended to the table before, to the table after, or to that with the one file marked and empty.
+ *
+ * A sweep has two phases, which the table before it tells: write every record that differs and was no text (byte 0 was not 3), so that the entries
+ * and headings are cleared, in any order, a flush, then every record that differs and was text, a flush. What is on the disk is mended to a
+ * sound table, and that, swept again, is the table after.
  */
 enum filebox_disk_phase {
     FILEBOX_SAME = 0,  /* nothing to write */

@@ -4,6 +4,7 @@ pub mod Wipe
 pub mod Part
 pub mod Counts
 pub mod Less
+pub mod Settled
 pub mod Squeeze
 pub mod Debris
 pub mod Again

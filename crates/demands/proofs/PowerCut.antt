@@ -11,6 +11,8 @@ pub mod Plans
 -- DST has a shape of its own
 pub mod Razing
 pub mod Landing
+-- .. in one round
+pub mod Once
 use mathlib.Core.Bool.{true}
 use mathlib.Core.List.{List}
 use mathlib.Core.Logic.{_⊎_, inl, inr}

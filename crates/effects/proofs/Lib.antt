@@ -8,3 +8,4 @@ pub mod Blocks
 pub mod Counted
 pub mod Corrected
 pub mod Namings
+pub mod Allowed

@@ -3,3 +3,4 @@ pub mod Stage
 pub mod Counts
 pub mod Counted
 pub mod Corrected
+pub mod Allowed

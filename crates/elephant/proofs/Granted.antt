@@ -42,7 +42,7 @@ use Rattle.elephant.specs.Reading.{reading}
 use Rattle.elephant.specs.declared.reply.Sheet.the-variants.{Text, Lines, Deep}
 use Rattle.elephant.specs.Meant.{requestMeant, removalAsked}
 use Rattle.elephant.specs.Admitted.{Admitted}
-use Rattle.elephant.specs.Promised.{Promised}
+use Rattle.answers.specs.Promised.{Promised}
 use Rattle.answers.specs.declared.Answer.{Answer}
 use Rattle.elephant.proofs.Grants.{Silent, Storeless, crd-silent, wrs-silent, cpy-silent, dup-silent, chn-silent, dpr-silent, rewrite-silent, rds-storeless, lst-storeless, lst-base-storeless, lst-tree-storeless, lst-base-tree-storeless}
 use Rattle.elephant.proofs.Promises.{promised-storing, promised-writing, promised-names}

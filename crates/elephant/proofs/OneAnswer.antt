@@ -6,7 +6,7 @@ use Prim.Native.Nat.{ℕ}
 use Rattle.paper.specs.Layout.{boxed}
 use Rattle.paper.specs.Answer.{Outcome, requested, mending}
 use Rattle.answers.specs.declared.Answer.{Answer}
-use Rattle.elephant.specs.Promised.{Promised}
+use Rattle.answers.specs.Promised.{Promised}
 
 one-promise : (o : Outcome) (a b : Answer) (v w x y : List ℕ) → Promised o a v x → Promised o b w y → (a ≡ b) × (v ≡ w) × (x ≡ y)
 one-promise o a b v w x y p q = (p .answer ∙ sym (q .answer), p .table ∙ sym (q .table), p .reply ∙ sym (q .reply))

@@ -9,7 +9,7 @@ use Rattle.paper.specs.Check.{Refusal}
 use Rattle.paper.specs.Answer.{Outcome, plain, refusing, ran, single, NamePlan, deleting}
 use Rattle.answers.specs.Shown.{shown}
 use Rattle.elephant.specs.Done.{Did, Wrote}
-use Rattle.elephant.specs.Promised.{Promised}
+use Rattle.answers.specs.Promised.{Promised}
 use Rattle.answers.specs.declared.Answer.{Answer}
 use Rattle.elephant.proofs.Grants.{Silent, Storeless, same-answer, same-table, reply-kept, any-stop, table-kept, deleting-same}
 

@@ -16,7 +16,7 @@ use Rattle.answers.specs.Shown.{shown}
 use Rattle.elephant.specs.Meant.{requestMeant}
 use Rattle.elephant.specs.Entrance.{entranceNumber}
 use Rattle.elephant.specs.Admitted.{Admitted}
-use Rattle.elephant.specs.Promised.{Promised}
+use Rattle.answers.specs.Promised.{Promised}
 use Rattle.answers.specs.declared.Answer.{Answer}
 use Rattle.elephant.proofs.Entering.{entered, not-entered}
 use Rattle.elephant.proofs.Promises.{promised-refusing}

@@ -1,4 +1,3 @@
-pub mod Promised
 pub mod Done
 pub mod Reading
 pub mod Filing

@@ -27,7 +27,7 @@ ghost use Rattle.paper.specs.Request.{textTooLong};
 ghost use Rattle.elephant.specs.Entrance.{entranceNumber};
 ghost use Rattle.elephant.specs.Meant.{requestMeant};
 ghost use Rattle.elephant.specs.Admitted.{Admitted};
-ghost use Rattle.elephant.specs.Promised.{Promised};
+ghost use Rattle.answers.specs.Promised.{Promised};
 
 // Number 1, 2 or 3, or 0: "table length no multiple of 32, or above 65,536", "table not sound", "user above 999,999".
 pub(crate) fn entrance_number(table: &[u8], user: u32) -> u8

@@ -23,7 +23,7 @@ use records::heading::Heading;
 ghost use mathlib.Core.List.{[]};
 ghost use Rattle.paper.specs.Layout.{boxed};
 ghost use Rattle.paper.specs.Answer.{requested, mending};
-ghost use Rattle.elephant.specs.Promised.{Promised};
+ghost use Rattle.answers.specs.Promised.{Promised};
 
 // A request on a table, by its line, its text, its user and the stop number: the answer, with the table and the reply written.
 pub fn request(

@@ -13,7 +13,7 @@ use borrow.Author.Tests.{lt-ltb, le-ltb}
 use Rattle.laws.proofs.Tests.{and-no-right, or-right}
 use Rattle.paper.specs.Index.{Kept, keeping}
 use Rattle.answers.specs.Shown.{shown}
-use Rattle.indexed.specs.Keeps.{Keeps}
+use Rattle.answers.specs.Promised.{Keeps}
 use Rattle.answers.specs.declared.Answer.{Answer}
 use Rattle.filebox.specs.FirstWord.{after, stages, takes}
 use Rattle.filebox.specs.Box.{Box, between, kept, outcome, answered, grown, takesText, ended, stepped, fed, finished}

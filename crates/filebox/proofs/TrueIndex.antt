@@ -14,7 +14,8 @@ use Rattle.paper.specs.Table.{sized}
 use Rattle.paper.specs.Sound.{implies, sound}
 use Rattle.laws.proofs.Tests.{and-left, and-right, and-both, not-both}
 use Rattle.demands.proofs.Stops.{Uncut}
-use Rattle.index_demands.proofs.Requests.{Good, only-26, stays-true}
+use Rattle.index_laws.proofs.Good.{Good}
+use Rattle.index_demands.proofs.Requests.{only-26, stays-true}
 use Rattle.index_demands.proofs.Free.{free-good}
 use Rattle.filebox.specs.Box.{Box, beginsTrue, between, kept, outcome, answered, grown, takesText, ended, stepped, fed}
 use Rattle.filebox.specs.Uncut.{asks, uncut}

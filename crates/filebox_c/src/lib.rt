@@ -8,8 +8,9 @@ ghost use mathlib.Core.Path.{_≡_};
 ghost use Rattle.paper.specs.Layout.{old, six};
 ghost use Rattle.paper.specs.Convert.{converting};
 ghost use Rattle.paper.specs.Index.{lookedUp, keeping, mendKeeping};
+ghost use Rattle.paper.specs.Sweep.{sweeping};
 ghost use Rattle.index.specs.Shown.{foundShown};
-ghost use Rattle.indexed.specs.Keeps.{Keeps};
+ghost use Rattle.answers.specs.Promised.{Keeps};
 ghost use Rattle.job.specs.Lamp.{litKept};
 ghost use Rattle.lamp.specs.Shown.{Lighted};
 ghost use Rattle.disk.specs.Phase.{phase};
@@ -37,6 +38,14 @@ pub extern "C" fn filebox_mend(table: &mut [u8], index: &mut [u16], stop: u32) -
     ensures { λ r. ⌜ Keeps (mendKeeping (now (table .entry)) (now (index .entry)) stop) r (now (table .exit)) (now (index .exit)) [] ⌝ }
 {
     indexed::mend(table, index, stop)
+}
+
+// The sweep: what no chain of entries from any user's base files reaches is cleared, and then the counts are corrected.
+#[no_mangle]
+pub extern "C" fn filebox_sweep(table: &mut [u8], index: &mut [u16], stop: u32) -> Answer
+    ensures { λ r. ⌜ Keeps (sweeping (now (table .entry)) (now (index .entry)) stop) r (now (table .exit)) (now (index .exit)) [] ⌝ }
+{
+    sweep::sweep(table, index, stop)
 }
 
 // A name looked up through the index: in the base list of a user, heading 65,535, or in the directory of a heading.

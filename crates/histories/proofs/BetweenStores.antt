@@ -14,31 +14,31 @@ use lib.Seq.{take-all, take-nil, take-take, take-append-le}
 use borrow.Author.Tests.{eqb-true, eq-eqb, leb-true, leb-false}
 use Rattle.paper.specs.Record.{byte}
 use Rattle.paper.specs.Layout.{boxed}
-use Rattle.paper.specs.Table.{sized, rooms, rec}
+use Rattle.paper.specs.Table.{rooms, rec}
 use Rattle.paper.specs.Line.{Word}
 use Rattle.paper.specs.Check.{Verdict, passed, refused, verdict}
 use Rattle.paper.specs.Store.{Store, run}
 use Rattle.paper.specs.Effect.{Plan, Planned, plan, halted, freed}
-use Rattle.paper.specs.Mend.{mendStores, mended}
-use Rattle.paper.specs.Answer.{Outcome, done, cut, ran, single, oneName, deleting, requested, mending}
-use Rattle.laws.proofs.Tests.{not-both}
+use Rattle.paper.specs.Mend.{mendStores}
+use Rattle.paper.specs.Answer.{Outcome, done, cut, ran, single, oneName, deleting, requested, mendable, mendRun, mending}
+use Rattle.paper.specs.Index.{trueIndex}
+use Rattle.paper.specs.Sweep.{sweepStores, sweepable}
 use Rattle.laws.proofs.Lists.{Every, every-take, take-past}
 use Rattle.laws.proofs.Lay.{within, kind-blank}
-use Rattle.laws.proofs.Runs.{run-each, run-append, length-run, rooms-run}
+use Rattle.laws.proofs.Runs.{run-each, run-append, rooms-run}
 use Rattle.demands.proofs.Sound.Clauses.{Sound}
-use Rattle.demands.proofs.Sound.Right.{right-sound}
 use Rattle.demands.proofs.Request.Several.{Several, planOf}
 use Rattle.demands.proofs.SoundKept.Kept.{Keeps, named-keeps}
 use Rattle.demands.proofs.Mending.Part.{Below, free, stays}
 use Rattle.demands.proofs.Mending.Counts.{alike-kind}
-use Rattle.demands.proofs.MendAnswered.{MendCame, unsized, unsound, whole, cutOff, mend-came}
-use Rattle.histories.specs.History.{Call, asks, mends, called, cutAt, heads}
+use Rattle.histories.specs.History.{Call, asks, mends, sweeps, called, cutAt, heads}
 use Rattle.histories.proofs.Calls.Stores.{Puts, Put, Shaped, plain, freeing, razing}
 use Rattle.histories.proofs.Calls.Shapes.{Shape}
 use Rattle.histories.proofs.Calls.Ways.{Way, lent, by-plan, by-names, ways}
 use Rattle.histories.proofs.Calls.Moved.{put-over}
-use Rattle.histories.proofs.Calls.Falls.{Falls, falls-none, falls-less, falls-append, falls-take, falls-drop, clears-fall, mend-falls}
+use Rattle.histories.proofs.Calls.Falls.{Falls, falls-none, falls-less, falls-append, falls-take, falls-drop, clears-fall, mend-falls, sweep-falls}
 use Rattle.histories.proofs.Calls.Requests.{Falling, named-falls, freed-clears}
+use Rattle.histories.proofs.Calls.Sweeps.{sweep-run}
 use Rattle.histories.proofs.Calls.Mendable.{Mendable, mendable-whole}
 
 -- tables by stop number: those of one list of stores, of which the last only take away
@@ -135,32 +135,32 @@ del-wiped v (w ∷ ws) t u reply n made c =
 
 -- ---- every call
 
-mend-wiped : (t : List ℕ) → Mendable t → Wiped t (λ k. mending boxed t k .table)
-unfolding mended
-mend-wiped t m = record { stores = mendStores t; tables = λ k. go k (mend-came t k); falls = mend-falls t }
+-- a mend or a sweep, by its stores and its checks
+run-wiped : (t : List ℕ) (ss : List Store) (v : Verdict) → Falls t ss → Wiped t (λ k. mendRun t k ss v .table)
+run-wiped t ss (refused f) d = no-wipe t _ (λ _. refl)
+run-wiped t ss passed d = record { stores = ss; tables = λ k. one k _ refl; falls = d }
   where
-    size : sized t ≡ true
-    size = rw (length-run t (mendStores t)) at (right-sound (mended t) m .0)
+    one : (k : ℕ) (b : Bool) → leb (length ss) k ≡ b → mendRun t k ss passed .table ≡ run t (take k ss)
+    one k true q = rw (q, take-all k ss (leb-true _ _ q))
+    one k false q = rw q
 
-    go : (k : ℕ) → MendCame t k (mending boxed t k) → mending boxed t k .table ≡ run t (take k (mendStores t))
-    go k (unsized a e) = absurd (not-both size a)
-    go k (unsound a b e) = absurd (not-both (right-sound (mended t) m .1) b)
-    go k (whole a b l e) = rw (e, take-all k (mendStores t) l)
-    go k (cutOff a b l e) = rw e
+-- outcomes by stop number that are the same
+by : (t : List ℕ) (o p : ℕ → Outcome) → ((k : ℕ) → p k ≡ o k) → Stored t (λ k. o k .table) → Stored t (λ k. p k .table)
+by t o p e z =
+    record { first = z .first; last = z .last; tables = λ k. ap (λ (x : Outcome). x .table) (e k) ∙ z .tables k; puts = z .puts; falls = z .falls }
 
 -- the tables of a call, by its stop number
-pub between-stores : (t : List ℕ) (c : Call) → Mendable t → Stored t (λ k. called t (cutAt k c) .table)
-between-stores t (mends stop) m = wiped-stored t _ (mend-wiped t m)
-between-stores t (asks line text reply u stop) m = go (ways t line text reply u)
+pub between-stores : (t : List ℕ) (c : Call) → Stored t (λ k. called t (cutAt k c) .table)
+unfolding mending
+between-stores t (mends stop) = wiped-stored t _ (run-wiped t (mendStores t) (mendable boxed t) (mend-falls t))
+between-stores t (sweeps stop) =
+    by t _ _ (sweep-run t (trueIndex t)) (wiped-stored t _ (run-wiped t (sweepStores t) (sweepable t (trueIndex t)) (sweep-falls t)))
+between-stores t (asks line text reply u stop) = go (ways t line text reply u)
   where
-    -- tables by stop number that are the same
-    by : (o p : ℕ → List ℕ) → ((k : ℕ) → p k ≡ o k) → Stored t o → Stored t p
-    by o p e z = record { first = z .first; last = z .last; tables = λ k. e k ∙ z .tables k; puts = z .puts; falls = z .falls }
-
     go : Way t line text reply u → Stored t (λ k. requested boxed t line text reply u k .table)
     go (lent e) = no-store t _ e
-    go (by-plan c x h e) = by _ _ (λ k. ap (λ (o : Outcome). o .table) (e k)) (plan-stored t reply c x h)
-    go (by-names c v names q e) = by _ _ (λ k. ap (λ (o : Outcome). o .table) (e k)) (wiped-stored t _ (del-wiped v names t u reply 0 0 c))
+    go (by-plan c x h e) = by t _ _ e (plan-stored t reply c x h)
+    go (by-names c v names q e) = by t _ _ e (wiped-stored t _ (del-wiped v names t u reply 0 0 c))
 
 -- ---- no heading is cleared and laid again
 
@@ -222,5 +222,5 @@ pub heads-between : (t : List ℕ) (h : ℕ) (c : Call) (j k : ℕ) → Mendable
     → heads h (called t (cutAt k c) .table) ≡ true → heads h (called t (cutAt j c) .table) ≡ true
 heads-between t h c j k m a q z =
     let i : byte (rec t h) 0 ≡ 1 = eqb-true _ _ a in
-    eq-eqb _ _ (one-before t (λ k. called t (cutAt k c) .table) (between-stores t c m) h (within t h (mendable-whole t m) (omega arith)) i
+    eq-eqb _ _ (one-before t (λ k. called t (cutAt k c) .table) (between-stores t c) h (within t h (mendable-whole t m) (omega arith)) i
     j k q (eqb-true _ _ z))

@@ -11,6 +11,8 @@ pub mod Anywhere
 pub mod Held
 pub mod Moved
 pub mod Requests
+pub mod Tidied
 pub mod Mends
+pub mod Sweeps
 -- every table of a history
 pub mod Mendable

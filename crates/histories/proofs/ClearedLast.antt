@@ -1,5 +1,5 @@
 -- "Clearing happens only when its last entry goes. A later file in the same record is another file." A plan frees a file only where no
--- entry names it by then, and a mend clears only headings that none names; a DST clears a heading before its entries, and never a capped
+-- entry names it by then, and a mend or sweep clears only headings that none names; a DST clears a heading before its entries, and never a capped
 -- one. A new heading goes to a free record of a sound table.
 use mathlib.Core.Bool.{Bool, true, false}
 use mathlib.Core.List.{List, [], _∷_, _++_}
@@ -15,7 +15,7 @@ use Rattle.paper.specs.Table.{sized, rooms, rec}
 use Rattle.paper.specs.Code.{noWrite}
 use Rattle.paper.specs.Entry.{named}
 use Rattle.paper.specs.Sound.{sound}
-use Rattle.paper.specs.Answer.{requested, mending}
+use Rattle.paper.specs.Answer.{requested}
 use Rattle.laws.proofs.Tests.{truth, not-both, false-by, and-both}
 use Rattle.laws.proofs.Lay.{within, length-rec}
 use Rattle.laws.proofs.Rooms.{free-blank}
@@ -24,24 +24,26 @@ use Rattle.demands.proofs.Sound.Right.{sound-right, right-sound}
 use Rattle.demands.proofs.Sound.Points.{text-points, no-heading-unnamed}
 use Rattle.demands.proofs.SoundKept.Freed.{textOf}
 use Rattle.demands.proofs.Mending.Counts.{alike-kind}
-use Rattle.histories.specs.History.{Call, asks, mends, isRequest, called, after, heads, remains}
-use Rattle.histories.proofs.Calls.Stores.{Open, less-stays, unnamed-still}
+use Rattle.histories.specs.History.{Call, asks, mends, sweeps, isRequest, called, after, heads, remains}
+use Rattle.histories.proofs.Calls.Stores.{Open, less-stays}
 use Rattle.histories.proofs.Calls.Moved.{text-of}
 use Rattle.histories.proofs.Calls.Requests.{isDestroying, request-moved}
+use Rattle.histories.proofs.Calls.Tidied.{Tidied}
 use Rattle.histories.proofs.Calls.Mends.{mend-tidied}
+use Rattle.histories.proofs.Calls.Sweeps.{sweep-tidied}
 use Rattle.histories.proofs.Calls.Mendable.{Mendable, mendable-whole, sound-mendable, Asked, refused, entered, how-asked, called-mendable, after-mendable}
 
 -- the call is a DST
 abbrev pub destroys : Call → Bool
 destroys (asks line text reply user stop) = isDestroying line text
 destroys (mends stop) = false
+destroys (sweeps stop) = false
 
 -- one call that clears a heading leaves no entry that names it; or it is a DST, and write was not inhibited in the heading's own code
 called-last : (h : ℕ) (t : List ℕ) (c : Call) → Mendable t → heads h t ≡ true → heads h (called t c .table) ≡ false
     → (named (called t c .table) h ≡ false) ⊎ Open (destroys c) t h
-called-last h t (mends k) m a b =
-    let d = mend-tidied t (mendable-whole t m) k in
-    inl (unnamed-still t (mending boxed t k .table) h (mendable-whole t m) (d .less) (d .last h (eqb-true _ _ a) (eqb-false _ _ b)))
+called-last h t (mends k) m a b = inl (mend-tidied t (mendable-whole t m) k .last h (eqb-true _ _ a) (eqb-false _ _ b))
+called-last h t (sweeps k) m a b = inl (sweep-tidied t (mendable-whole t m) k .last h (eqb-true _ _ a) (eqb-false _ _ b))
 called-last h t (asks line text reply u k) m a b = go (how-asked t line text reply u k)
   where
     go : Asked t line text reply u k → (named (requested boxed t line text reply u k .table) h ≡ false) ⊎ Open (isDestroying line text) t h
@@ -49,8 +51,8 @@ called-last h t (asks line text reply u k) m a b = go (how-asked t line text rep
     go (entered c) = request-moved t line text reply u k (c .clauses) .last h (eqb-true _ _ a) (eqb-false _ _ b)
 
 -- heading h of a sound table, which it still is after any calls, and a call that clears it, where it is capped or the call is no DST: some
--- entry named it at the start, and none does after that call. The start may be the sound table before the request whose stores, or whose
--- mend, cleared it.
+-- entry named it at the start, and none does after that call. The start may be the sound table before the request or sweep whose stores,
+-- or whose mend, cleared it; and what a sweep clears no chain reached (ReachStays).
 pub cleared-last : (t : List ℕ) (h : ℕ) (cs : List Call) (c : Call) → sized t ≡ true → sound boxed t ≡ true → heads h t ≡ true
     → heads h (after t cs) ≡ true → (noWrite (headingCode (rec (after t cs) h)) ≡ true) ⊎ (destroys c ≡ false)
     → heads h (called (after t cs) c .table) ≡ false → (named t h ≡ true) × (named (called (after t cs) c .table) h ≡ false)
@@ -89,12 +91,16 @@ blank-at t s c e i n f =
     let l : i < rooms t = rw e at (within s i (rw e (c .whole)) n) in
     free-blank (rec t i) (length-rec t i l) (c .own i l .free f)
 
+-- a mend and a sweep lay none
+none-anew : (h : ℕ) (t s : List ℕ) → Mendable t → Tidied t s → heads h t ≡ false → heads h s ≡ true → ⊥
+none-anew h t s m d a b =
+    let z : byte (rec s h) 0 ≡ 1 = eqb-true _ _ b in
+    let y = less-stays t s (mendable-whole t m) (d .less) h (omega arith) in
+    eqb-false _ _ a (sym (alike-kind (rec t h) (rec s h) y) ∙ z)
+
 called-anew : (h : ℕ) (t : List ℕ) (c : Call) → Mendable t → heads h t ≡ false → heads h (called t c .table) ≡ true → Anew h t c (called t c .table)
-called-anew h t (mends k) m a b =
-    let z : byte (rec (mending boxed t k .table) h) 0 ≡ 1 = eqb-true _ _ b in
-    let d = mend-tidied t (mendable-whole t m) k .less in
-    let y = less-stays t (mending boxed t k .table) (mendable-whole t m) d h (omega arith) in
-    absurd (eqb-false _ _ a (sym (alike-kind (rec t h) (rec (mending boxed t k .table) h) y) ∙ z))
+called-anew h t (mends k) m a b = absurd (none-anew h t _ m (mend-tidied t (mendable-whole t m) k) a b)
+called-anew h t (sweeps k) m a b = absurd (none-anew h t _ m (sweep-tidied t (mendable-whole t m) k) a b)
 called-anew h t (asks line text reply u k) m a b = go (how-asked t line text reply u k)
   where
     go : Asked t line text reply u k → Anew h t (asks line text reply u k) (requested boxed t line text reply u k .table)

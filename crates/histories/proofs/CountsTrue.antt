@@ -11,13 +11,17 @@ use Rattle.paper.specs.Table.{sized}
 use Rattle.paper.specs.Sound.{countsTrue, sound}
 use Rattle.paper.specs.Mend.{mendStores, mended}
 use Rattle.paper.specs.Answer.{mending}
+use Rattle.paper.specs.Index.{trueIndex}
+use Rattle.paper.specs.Sweep.{sweeping}
 use Rattle.laws.proofs.Tests.{not-both, and-left, and-right}
 use Rattle.laws.proofs.Runs.{length-run}
 use Rattle.demands.proofs.Sound.Right.{Right, sound-right, right-sound}
 use Rattle.demands.proofs.Stops.{Uncut}
 use Rattle.demands.proofs.SoundKept.{sound-kept}
 use Rattle.demands.proofs.MendAnswered.{MendCame, unsized, unsound, whole, cutOff, mend-came}
-use Rattle.histories.specs.History.{Call, asks, mends, called, after, uncut}
+use Rattle.sweep_demands.proofs.Sound.{swept-right}
+use Rattle.sweep_demands.proofs.Calls.{SweepCame, unsized, unsound, untrue, done, cutOff, sweep-came}
+use Rattle.histories.specs.History.{Call, asks, mends, sweeps, called, after, uncut}
 use Rattle.histories.proofs.Calls.Mendable.{Mendable, sound-mendable, after-mendable}
 
 -- a table that a request takes, and what it says of its entries
@@ -43,9 +47,21 @@ whole-mend t k m n = go (mend-came t k)
     go (whole a b l e) = rw e m
     go (cutOff a b l e) = absurd (n (rw e))
 
+-- a sweep that is not cut, on a sound table
+whole-sweep : (t x : List ℕ) (k : ℕ) → Right t → Uncut (sweeping t x k .outcome) → Right (sweeping t x k .outcome .table)
+whole-sweep t x k r n = go (sweep-came t x k)
+  where
+    go : SweepCame t x k (sweeping t x k) → Right (sweeping t x k .outcome .table)
+    go (unsized a e) = rw e r
+    go (unsound a b e) = rw e r
+    go (untrue a b c e) = rw e r
+    go (done f l e) = rw e (swept-right t r)
+    go (cutOff f l e) = absurd (n (rw e))
+
 -- a call that is not cut, on a sound table
 called-right : (t : List ℕ) (c : Call) → Right t → Uncut (called t c) → Right (called t c .table)
 called-right t (mends k) r n = whole-mend t k (sound-mendable t r) n
+called-right t (sweeps k) r n = whole-sweep t (trueIndex t) k r n
 called-right t (asks line text reply u k) r n =
     let z = right-sound t r in
     let s = sound-kept t line text reply u k (z .0) (z .1) n in

@@ -41,7 +41,7 @@ use Rattle.demands.proofs.Request.Course.{Admitted, Course, untried, tried, cou
 use Rattle.demands.proofs.Request.Ended.{Passed, ran-by}
 use Rattle.demands.proofs.Request.Steps.{holder-by}
 use Rattle.demands.proofs.SoundKept.Retexted.{mine-not}
-use Rattle.histories.specs.History.{Call, asks, mends, called, cutAt, after, heads}
+use Rattle.histories.specs.History.{Call, asks, mends, sweeps, called, cutAt, after, heads}
 use Rattle.histories.specs.Copy.{CopyOf, Copies, Descends}
 use Rattle.histories.proofs.Calls.Stores.{Put, heading, text, entry, cleared, recodes, rewrites, retexts, again}
 use Rattle.histories.proofs.Calls.Falls.{falls-less, falls-take}
@@ -96,7 +96,7 @@ pub level-stays : (t : List ℕ) (h : ℕ) (c : Call) (k : ℕ) → Mendable t �
 level-stays t h c k m a b =
     let i : byte (rec t h) 0 ≡ 1 = eqb-true _ _ a in
     let j : byte (rec (called t (cutAt k c) .table) h) 0 ≡ 1 = eqb-true _ _ b in
-    go i j (stored-each t (λ k. called t (cutAt k c) .table) (between-stores t c m) k h (within t h (mendable-whole t m) (omega arith)))
+    go i j (stored-each t (λ k. called t (cutAt k c) .table) (between-stores t c) k h (within t h (mendable-whole t m) (omega arith)))
   where
     laid : (r : List ℕ) → byte (rec t h) 0 ≡ 1 → (r ≡ rec t h) ⊎ Put t h r → level r ≡ level (rec t h)
     laid r i (inl e) = rw e
@@ -255,6 +255,7 @@ level-kept t h n cs a b = from-here cs t h (sound-mendable t (sound-right t a b)
         same : (c : Call) → heads h (called t c .table) ≡ true → level (rec (called t c .table) h) ≡ level (rec t h)
         same (asks line body reply u k) j = level-stays t h (asks line body reply u k) k m i j
         same (mends k) j = level-stays t h (mends k) k m i j
+        same (sweeps k) j = level-stays t h (sweeps k) k m i j
     from-here (c ∷ cs) t h m i (inr (g, x, d)) = copied c x d (from-here cs (called t c .table) g (called-mendable t c m))
       where
         copied : (c : Call) → Copies t c h g → Descends (called t c .table) g cs n
@@ -263,3 +264,4 @@ level-kept t h n cs a b = from-here cs t h (sound-mendable t (sound-right t a b)
             → level (rec t h) ≤ level (rec (after (called t c .table) cs) n)
         copied (asks line body reply u k) (q, e, j) d r = omega (arith, no-copy-drops t line body reply u k h g q e j, r j d)
         copied (mends k) x d r = absurd x
+        copied (sweeps k) x d r = absurd x

@@ -3,6 +3,8 @@
 pub mod PenStays
 -- "Clearing happens only when its last entry goes. A later file in the same record is another file.": `cleared-last`, `another-file`
 pub mod ClearedLast
+-- "A sweep clears exactly what no chain of entries from any user's base files reaches": `reach-stays`, `cleared-unreached`
+pub mod ReachStays
 -- "Destroy a file everywhere": a capped sheet is never destroyed: `capped-fourteen`, `never-destroyed`
 pub mod NeverDestroyed
 -- nobody learns a byte of a file that is read-inhibited in its heading: `seal-stays`, `seal-gone`

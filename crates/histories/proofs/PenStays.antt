@@ -1,5 +1,6 @@
 -- "The pen stays capped": only DPR and `WRS*` lay a heading again but for its counts, and ask write of the joined code; only a heading that
--- no entry names is cleared, and text goes after its heading alone. So a capped heading that is one after every call is held with its text, call by call.
+-- no entry names is cleared, by a sweep too, and text goes after its heading alone. So a capped heading that is one after every call is held with
+-- its text, call by call.
 use mathlib.Core.Bool.{true}
 use mathlib.Core.List.{List, [], _∷_}
 use mathlib.Core.Logic.{_⊎_, inl, inr}
@@ -15,19 +16,21 @@ use Rattle.paper.specs.Code.{noWrite}
 use Rattle.paper.specs.Block.{fileText}
 use Rattle.paper.specs.Sound.{sound}
 use Rattle.paper.specs.Mend.{keepsText}
-use Rattle.paper.specs.Answer.{requested, mending}
+use Rattle.paper.specs.Answer.{requested}
 use Rattle.laws.proofs.Tests.{and-left, and-right}
 use Rattle.laws.proofs.Lay.{within}
 use Rattle.demands.proofs.Sound.Right.{Right, sound-right}
 use Rattle.demands.proofs.SoundKept.Freed.{textOf}
 use Rattle.demands.proofs.Mending.Part.{Alike}
 use Rattle.demands.proofs.Mending.Debris.{sound-keeps}
-use Rattle.histories.specs.History.{Call, asks, mends, called, cutAt, after, heads, remains}
+use Rattle.histories.specs.History.{Call, asks, mends, sweeps, called, cutAt, after, heads, remains}
 use Rattle.histories.proofs.Calls.Stores.{less-stays, less-same}
 use Rattle.histories.proofs.Calls.Held.{Held, alike-front, alike-back, held-refl, held-trans, held-kind, held-keeps, held-level, held-code, held-length, held-text}
 use Rattle.histories.proofs.Calls.Moved.{text-of}
 use Rattle.histories.proofs.Calls.Requests.{request-moved}
-use Rattle.histories.proofs.Calls.Mends.{Tidied, mend-tidied}
+use Rattle.histories.proofs.Calls.Tidied.{Tidied}
+use Rattle.histories.proofs.Calls.Mends.{mend-tidied}
+use Rattle.histories.proofs.Calls.Sweeps.{sweep-tidied}
 use Rattle.histories.proofs.Calls.Mendable.{Mendable, mendable-whole, sound-mendable, Asked, refused, entered, how-asked, called-mendable, after-mendable}
 use Rattle.histories.proofs.BetweenStores.{heads-between}
 
@@ -49,8 +52,8 @@ tidied-held h t s m d o k z =
 -- one call, on any table that mends to a sound one
 called-held : (h : ℕ) (t : List ℕ) (c : Call) → Mendable t → Owned h t → heads h t ≡ true → noWrite (headingCode (rec t h)) ≡ true
     → heads h (called t c .table) ≡ true → Held h t (called t c .table)
-called-held h t (mends k) m o a w b =
-    tidied-held h t (mending boxed t k .table) m (mend-tidied t (mendable-whole t m) k) o (eqb-true _ _ a) (eqb-true _ _ b)
+called-held h t (mends k) m o a w b = tidied-held h t _ m (mend-tidied t (mendable-whole t m) k) o (eqb-true _ _ a) (eqb-true _ _ b)
+called-held h t (sweeps k) m o a w b = tidied-held h t _ m (sweep-tidied t (mendable-whole t m) k) o (eqb-true _ _ a) (eqb-true _ _ b)
 called-held h t (asks line text reply u k) m o a w b = go (how-asked t line text reply u k)
   where
     go : Asked t line text reply u k → Held h t (requested boxed t line text reply u k .table)

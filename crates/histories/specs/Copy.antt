@@ -11,7 +11,7 @@ use Rattle.paper.specs.Request.{Begin, cpy, request, asked}
 use Rattle.paper.specs.Walk.{State, start, file, arrived, ended}
 use Rattle.paper.specs.Effect.{chainOf, listOf, begun}
 use Rattle.paper.specs.Answer.{requested}
-use Rattle.histories.specs.History.{Call, asks, mends, called, heads}
+use Rattle.histories.specs.History.{Call, asks, mends, sweeps, called, heads}
 
 -- the line is a CPY of user u whose old name leads to heading h of t
 pub record CopyOf (t line text : List ℕ) (u h : ℕ) : Type 0 where
@@ -32,6 +32,7 @@ abbrev pub Copies : List ℕ → Call → ℕ → ℕ → Type 0
 Copies t (asks line text reply user stop) h n =
     CopyOf t line text user h × (heads n t ≡ false) × (heads n (requested boxed t line text reply user stop .table) ≡ true)
 Copies t (mends stop) h n = ⊥
+Copies t (sweeps stop) h n = ⊥
 
 -- the file of heading n after a history is that of heading h before it, or a copy of it, or a copy of such a copy
 unfoldable pub Descends : List ℕ → ℕ → List Call → ℕ → Type 0

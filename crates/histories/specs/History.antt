@@ -1,4 +1,4 @@
--- A history: "any sequence of requests of any users from a sound table, cuts each followed by a mend included".
+-- A history: "any sequence of requests of any users from a sound table, cuts each followed by a mend included"; sweeps are calls of it too.
 use mathlib.Core.Bool.{Bool, true, false, _&&_, not}
 use mathlib.Core.List.{List, [], _∷_}
 use Prim.Native.Nat.{ℕ}
@@ -7,28 +7,34 @@ use Rattle.paper.specs.Record.{isKind}
 use Rattle.paper.specs.Layout.{boxed}
 use Rattle.paper.specs.Table.{rec}
 use Rattle.paper.specs.Answer.{Answer, Outcome, requested, mending}
+use Rattle.paper.specs.Index.{trueIndex}
+use Rattle.paper.specs.Sweep.{sweeping}
 
--- one call, whole or cut by its stop number: a request of some user, or a mend
+-- one call, whole or cut by its stop number: a request of some user, a mend, or a sweep
 pub data Call : Type 0 where
   asks : (line text reply : List ℕ) (user stop : ℕ) → Call
   mends : (stop : ℕ) → Call
+  sweeps : (stop : ℕ) → Call
 
--- its answer, the table after and the reply after
+-- its answer, the table after and the reply after; a sweep is lent the true index, for with any other it is refused and changes nothing
 abbrev pub called : List ℕ → Call → Outcome
 called t (asks line text reply user stop) = requested boxed t line text reply user stop
 called t (mends stop) = mending boxed t stop
+called t (sweeps stop) = sweeping t (trueIndex t) stop .outcome
 
 abbrev pub isRequest : Call → Bool
 isRequest (asks line text reply user stop) = true
 isRequest (mends stop) = false
+isRequest (sweeps stop) = false
 
 -- the same call with another stop number: the tables between its stores are those after it is cut
 abbrev pub cutAt : ℕ → Call → Call
 cutAt k (asks line text reply user stop) = asks line text reply user k
 cutAt k (mends stop) = mends k
+cutAt k (sweeps stop) = sweeps k
 
--- the table after a history, which is any list of calls: a request that answers 22 and the mends after it, each cut or whole, are
--- some of them, and no order is asked, since a request on a table that is not sound is refused
+-- the table after a history, which is any list of calls: a request or sweep that answers 22 and the mends after it, each cut or whole, are
+-- some of them, and no order is asked, since a request or sweep on a table that is not sound is refused
 unfoldable pub after : List ℕ → List Call → List ℕ
 after t [] = t
 after t (c ∷ cs) = after (called t c .table) cs

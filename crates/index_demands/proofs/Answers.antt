@@ -20,10 +20,10 @@ use Rattle.demands.proofs.Sound.Clauses.{Sound, sound-clauses}
 use Rattle.index_laws.specs.Judged.{ranks}
 use Rattle.index_laws.specs.Scanned.{metBy, scanned}
 use Rattle.index_laws.proofs.Truth.{true-length}
+use Rattle.index_laws.proofs.Good.{Good}
 use Rattle.index_laws.proofs.LookUps.{looked-up-scanned, looked-at}
 use Rattle.index_demands.proofs.Ranks.{soughtIn, entry-small, rank-bears}
 use Rattle.index_demands.proofs.Apart.{sound-apart}
-use Rattle.index_demands.proofs.Requests.{Good}
 
 module _ (t : List ℕ) (c : Sound t) (d : Holder) (n : List ℕ) where
   -- by its rank, and by its name

@@ -19,7 +19,7 @@ use Rattle.laws.proofs.Scans.{all-here}
 use Rattle.laws.proofs.Fields.{zero-at, zeros-by}
 use Rattle.laws.proofs.Lay.{byte-rec}
 use Rattle.laws.proofs.Sound.{untested, above-made, every-here}
-use Rattle.index_demands.proofs.Requests.{Good, is-true}
+use Rattle.index_laws.proofs.Good.{Good, is-true}
 
 -- where none passes, none stands in order
 order-none : (k : ℕ → ℕ) (p : ℕ → Bool) (n : ℕ) → ((i : ℕ) → p i ≡ false) → orderBy k p n ≡ []

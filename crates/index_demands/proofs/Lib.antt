@@ -11,5 +11,5 @@ pub mod Free
 pub mod Answers
 -- a mend: `length-alone`, `mend-any`, `mend-as-lent`
 pub mod Mends
--- any calls: `mend-cures`, `mend-true`, `never-26`
+-- any calls, sweeps among them: `kept-called`, `mend-cures`, `mend-true`, `never-26`
 pub mod Histories

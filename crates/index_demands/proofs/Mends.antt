@@ -20,7 +20,8 @@ use Rattle.demands.proofs.Answered.{answered}
 use Rattle.demands.proofs.MendAnswered.{mend-answered}
 use Rattle.demands.proofs.Mending.{mend-sound}
 use Rattle.index_laws.proofs.Truth.{index-length, true-length}
-use Rattle.index_demands.proofs.Requests.{Good, is-true, Ways, unfit, untrue, taken, ways}
+use Rattle.index_laws.proofs.Good.{Good, is-true}
+use Rattle.index_demands.proofs.Requests.{Ways, unfit, untrue, taken, ways}
 
 -- the three ways of a mend with an index
 pub data MendWays (t x : List ℕ) (o : Outcome) (r : Kept) : Type 0 where

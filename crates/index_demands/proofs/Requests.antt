@@ -14,27 +14,13 @@ use Rattle.paper.specs.Sound.{sound}
 use Rattle.paper.specs.Answer.{Outcome, refusing, entrance, requested}
 use Rattle.paper.specs.Index.{trueIndex, isTrue, Kept, keptAfter, admission, keeping}
 use Rattle.laws.proofs.Tests.{and-both, not-both}
-use Rattle.laws.proofs.Entries.{same-true, eq-same}
 use Rattle.demands.proofs.Stops.{Uncut}
 use Rattle.demands.proofs.Answered.{answered}
 use Rattle.demands.proofs.SoundKept.{sound-kept}
 use Rattle.index_laws.proofs.Truth.{true-one}
-
--- a table of fit size that is sound, and its true index
-pub record Good (t x : List ℕ) : Type 0 where
-  pub sized : sized t ≡ true
-  pub sound : sound boxed t ≡ true
-  pub index : isTrue t x ≡ true
+use Rattle.index_laws.proofs.Good.{Good, true-index, is-true}
 
 -- only one list is the true index
-pub true-index : (t x : List ℕ) → isTrue t x ≡ true → x ≡ trueIndex t
-unfolding isTrue
-true-index t x e = same-true x (trueIndex t) e
-
-pub is-true : (t : List ℕ) → isTrue t (trueIndex t) ≡ true
-unfolding isTrue
-is-true t = eq-same (trueIndex t) (trueIndex t) refl
-
 pub one-index : (t x y : List ℕ) → isTrue t x ≡ true → isTrue t y ≡ true → x ≡ y
 one-index = true-one
 

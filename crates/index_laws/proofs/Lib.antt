@@ -1,5 +1,6 @@
 pub mod Orders
 pub mod Truth
+pub mod Good
 pub mod Ranks
 pub mod Ends
 pub mod Halves

@@ -19,11 +19,10 @@ use Rattle.paper.specs.Answer.{Outcome, plain, refusing, mending, mendable}
 use Rattle.paper.specs.Index.{trueIndex, Kept, mendAdmission, mendKeeping}
 use Rattle.answers.specs.Shown.{shown}
 use Rattle.answers.specs.declared.Answer.{Answer}
-use Rattle.elephant.specs.Promised.{Promised}
+use Rattle.answers.specs.Promised.{Promised, Keeps}
 use Rattle.demands.proofs.MendAnswered.{MendCame, unsized, unsound, whole, cutOff, mend-came, mend-answered}
-use Rattle.index_demands.proofs.Requests.{Good, true-index}
+use Rattle.index_laws.proofs.Good.{Good, true-index}
 use Rattle.index_demands.proofs.Mends.{length-alone, mend-any, mend-as-lent}
-use Rattle.indexed.specs.Keeps.{Keeps}
 use Rattle.indexed.proofs.Unstored.{run-none, take-none}
 use Rattle.indexed.proofs.Requests.{Ready, ready}
 

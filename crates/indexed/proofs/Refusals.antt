@@ -13,7 +13,7 @@ use Rattle.paper.specs.Answer.{plain}
 use Rattle.answers.specs.Shown.{shown}
 use Rattle.answers.specs.declared.Answer.{Answer}
 use Rattle.judge.specs.Judged.{judged}
-use Rattle.indexed.specs.Keeps.{refusedWith}
+use Rattle.indexed.specs.Refused.{refusedWith}
 
 number-before : (t : List ℕ) (n : ℕ) → n ≡ judged t → (n ≡ 0 → ⊥) → n ≡ refusedWith t
 unfolding judged refusedWith

@@ -5,7 +5,6 @@ use mathlib.Core.List.{List}
 use mathlib.Core.Logic.{_≢_}
 use mathlib.Core.Path.{_≡_, refl, sym, ap, _∙_}
 use Prim.Native.Nat.{ℕ, _/_}
-use native.Mathlib.Omega.{arith}
 use lib.Dec.{eqb}
 use lib.ListN.{length}
 use borrow.Author.Tests.{eq-eqb}
@@ -18,13 +17,14 @@ use Rattle.paper.specs.Index.{trueIndex, isTrue, Kept, keeping}
 use Rattle.laws.proofs.Tests.{and-both, and-left, and-right, not-both}
 use Rattle.answers.specs.Shown.{shown}
 use Rattle.answers.specs.declared.Answer.{Answer}
-use Rattle.elephant.specs.Promised.{Promised}
+use Rattle.answers.specs.Promised.{Promised, Keeps}
 use Rattle.demands.proofs.Answered.{answered}
 use Rattle.index_laws.specs.Judged.{apart, judged, fitting}
 use Rattle.index_laws.proofs.Truth.{true-length}
+use Rattle.index_laws.proofs.Good.{Good, true-index}
 use Rattle.index_demands.proofs.Apart.{sound-apart, sound-judged}
-use Rattle.index_demands.proofs.Requests.{Good, true-index, Ways, unfit, untrue, taken, ways, kept-as-before, stays-true, cut-as-lent}
-use Rattle.indexed.specs.Keeps.{refusedWith, Keeps}
+use Rattle.index_demands.proofs.Requests.{Ways, unfit, untrue, taken, ways, kept-as-before, stays-true, cut-as-lent}
+use Rattle.indexed.specs.Refused.{refusedWith}
 use Rattle.indexed.proofs.Unstored.{unstored}
 
 -- what a repair stands on: no rank twice, and a place for each record

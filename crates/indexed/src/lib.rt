@@ -7,7 +7,8 @@ ghost use Rattle.paper.specs.Answer.{plain};
 ghost use Rattle.paper.specs.Check.{whole};
 ghost use Rattle.paper.specs.Index.{keeping, mendKeeping};
 ghost use Rattle.answers.specs.Shown.{shown};
-ghost use Rattle.indexed.specs.Keeps.{refusedWith, Keeps};
+ghost use Rattle.answers.specs.Promised.{Keeps};
+ghost use Rattle.indexed.specs.Refused.{refusedWith};
 
 // 1 or 2, and 26 where the table is sound.
 fn refuse(table: &[u8]) -> Answer

@@ -17,7 +17,7 @@ use Rattle.demands.proofs.Answered.{answered}
 use Rattle.demands.proofs.Long.{line-cut}
 use Rattle.answers.specs.Shown.{shown}
 use Rattle.answers.specs.declared.Answer.{Answer}
-use Rattle.indexed.specs.Keeps.{Keeps}
+use Rattle.answers.specs.Promised.{Keeps}
 use Rattle.job.specs.Sheet.{Sheet, count, linkOf, lengthOf, start, sheet, job}
 use Rattle.job.specs.Told.{Indexed, beside, ofIndexed}
 use Rattle.job.specs.Filing as F

@@ -12,7 +12,7 @@ ghost use mathlib.Core.List.{[]};
 ghost use mathlib.Core.Path.{_≡_};
 ghost use Prim.Native.Nat.{_≤_};
 ghost use lib.ListN.{length};
-ghost use Rattle.indexed.specs.Keeps.{Keeps};
+ghost use Rattle.answers.specs.Promised.{Keeps};
 ghost use Rattle.job.specs.Sheet.{count, start, job};
 ghost use Rattle.job.specs.Told.{beside};
 ghost use Rattle.job.specs.Reading.{brings, keptRead, keptReading};

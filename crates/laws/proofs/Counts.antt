@@ -10,7 +10,7 @@ use native.Mathlib.Decide.{ℕ-discrete}
 use lib.Dec.{eqb}
 use borrow.Author.Tests.{eqb-true, eq-eqb, ne-eqb}
 use Rattle.paper.specs.Scan.{anyBelow, countBelow}
-use Rattle.laws.proofs.Tests.{true-by}
+use Rattle.laws.proofs.Tests.{not-both, true-by}
 use Rattle.laws.proofs.Scans.{any-false, any-none}
 
 pub count-cong : (p q : ℕ → Bool) (n : ℕ) → ((i : ℕ) → i < n → p i ≡ q i) → countBelow p n ≡ countBelow q n
@@ -79,6 +79,17 @@ count-mono p q (suc n) h = go (p n) refl (count-mono p q n (λ i l. h i (omega a
         → cond b (countBelow p n + 1) (countBelow p n) ≤ cond (q n) (countBelow q n + 1) (countBelow q n)
     go true e r = rw (h n (omega arith) e) (omega arith)
     go false e r = raised (q n) _ _ r
+
+-- .. and, where it passes once more, more
+pub count-less : (p q : ℕ → Bool) (n a : ℕ) → a < n → p a ≡ false → q a ≡ true → ((i : ℕ) → i < n → p i ≡ true → q i ≡ true)
+    → countBelow p n < countBelow q n
+count-less p q n a l e f h =
+    let others : ℕ → Bool = λ k. cond (eqb k a) false (q k) in
+    let more : countBelow q n ≡ countBelow others n + 1 =
+    count-more-at others q n a l (rw (eq-eqb a a refl)) f (λ k b d. rw (ne-eqb k a d)) in
+    let less : countBelow p n ≤ countBelow others n =
+    count-mono p others n (λ i b y. rw (ne-eqb i a (λ (z : i ≡ a). not-both y (rw z e))) (h i b y)) in
+    omega arith
 
 -- what is counted once is there, and there is no second
 pub count-least : (p : ℕ → Bool) (n i : ℕ) → i < n → p i ≡ true → 1 ≤ countBelow p n

@@ -8,7 +8,6 @@ pub mod Lists
 -- names and entries, six-bit names, records built and read, blocks of text
 pub mod Entries
 pub mod Packing
-pub mod Places
 pub mod Fields
 pub mod Blocks
 -- a table: one store, a list of stores, records laid by a test, counts corrected, its free records

@@ -1,21 +1,21 @@
--- Mending twins: each step clears by a test that is the same on both, on tables that are twins after the step before, and the counts are
+-- Mending twins: each step clears by a test that is the same on both, on tables that are twins after the step before, in each round, and the counts are
 -- corrected alike. So the stores are alike, the tables after any first part of them are twins, and the result is sound on both or on neither.
 use mathlib.Core.Bool.{Bool}
 use mathlib.Core.List.{List}
 use mathlib.Core.Path.{_≡_, refl}
-use Prim.Native.Nat.{ℕ}
+use Prim.Native.Nat.{ℕ, zero, suc}
 use native.Mathlib.Omega.{arith}
 use lib.Dec.{leb}
 use lib.ListN.{length}
-use Rattle.paper.specs.Record.{headingNamed, headingOf}
+use Rattle.paper.specs.Record.{holderOf, headingNamed, headingOf}
 use Rattle.paper.specs.Layout.{Layout}
 use Rattle.paper.specs.Table.{rooms, rec}
 use Rattle.paper.specs.Check.{Verdict, passed, refused}
 use Rattle.paper.specs.Store.{clears}
-use Rattle.paper.specs.Mend.{anchored, adrift, orphan, keepsText, stray, mendFirst, mendSecond, mendThird, after₁, after₂, clearStores, cleared, mendStores, mended}
+use Rattle.paper.specs.Mend.{anchored, adrift, orphan, keepsText, stray, mendFirst, mendSecond, mendThird, after₁, after₂, roundStores, round, roundsStores, clearStores, cleared, mendStores, mended}
 use Rattle.paper.specs.Answer.{mendRun, mendable, mending}
 use Rattle.layouts.proofs.Twin.{same-number, same-kind, same-simple, same-marked}
-use Rattle.layouts.proofs.Twins.{Twins, Alike, run-twins, alike-length, alike-append, alike-take, alike-clears}
+use Rattle.layouts.proofs.Twins.{Twins, Alike, none, run-twins, alike-length, alike-append, alike-take, alike-clears}
 use Rattle.layouts.proofs.Shown.{named-twin, recounts-twin}
 use Rattle.layouts.proofs.Sound.{sound-twin, sized-twin}
 use Rattle.layouts.proofs.Outcomes.{both-ways, Same}
@@ -25,7 +25,8 @@ module _ {A B : Layout} {t s : List ℕ} (w : Twins A B t s) where
   unfolding anchored
   adrift-twin i =
       let h : headingNamed (rec t i) ≡ headingNamed (rec s i) = same-number (w .each i) 2 4 (omega arith) in
-      rw (same-kind (w .each i) 2, h, same-kind (w .each (headingNamed (rec s i))) 1)
+      let d : holderOf (rec t i) ≡ holderOf (rec s i) = same-number (w .each i) 2 2 (omega arith) in
+      rw (same-kind (w .each i) 2, h, same-kind (w .each (headingNamed (rec s i))) 1, d, same-kind (w .each (holderOf (rec s i))) 1)
 
   orphan-twin : (i : ℕ) → orphan t i ≡ orphan s i
   orphan-twin i = rw (same-kind (w .each i) 1, named-twin w i)
@@ -58,9 +59,23 @@ module _ {A B : Layout} {t s : List ℕ} (w : Twins A B t s) where
   third-twin : Alike A B (mendThird (after₂ t)) (mendThird (after₂ s))
   third-twin = clears-twin two (stray (after₂ t)) (stray (after₂ s)) (stray-twin two)
 
+  round-twin : Alike A B (roundStores t) (roundStores s)
+  unfolding roundStores
+  round-twin = alike-append first-twin (alike-append second-twin third-twin)
+
+  next-twin : Twins A B (round t) (round s)
+  unfolding round
+  next-twin = run-twins round-twin w
+
+rounds-twin : {A B : Layout} (n : ℕ) {t s : List ℕ} → Twins A B t s → Alike A B (roundsStores n t) (roundsStores n s)
+unfolding roundsStores
+rounds-twin zero w = none
+rounds-twin (suc n) w = alike-append (round-twin w) (rounds-twin n (next-twin w))
+
+module _ {A B : Layout} {t s : List ℕ} (w : Twins A B t s) where
   clear-twin : Alike A B (clearStores t) (clearStores s)
   unfolding clearStores
-  clear-twin = alike-append first-twin (alike-append second-twin third-twin)
+  clear-twin = rw (← (w .size)) (rounds-twin (rooms t) w)
 
   cleared-twin : Twins A B (cleared t) (cleared s)
   unfolding cleared

@@ -1,5 +1,5 @@
 -- The four ways of mending, by the number that the judge gives for the table without the records that go and by the count of stores.
--- Each way is one line of the definition, with the marks' table and stores for mending's own.
+-- Each way is one line of the definition, with the table and stores of the order for mending's own.
 use mathlib.Core.Bool.{true, false, cond}
 use mathlib.Core.List.{List, []}
 use mathlib.Core.Logic.{_⊎_, inl, inr, _≢_}
@@ -13,22 +13,21 @@ use Rattle.paper.specs.Layout.{boxed}
 use Rattle.paper.specs.Answer.{plain, mending, mendable}
 use Rattle.paper.specs.Check as place
 use Rattle.paper.specs.Check.{verdict}
-use Rattle.paper.specs.Mend.{cleared, mendStores, mended}
+use Rattle.paper.specs.Mend.{clearStores, cleared, mendStores, mended}
 use Rattle.paper.specs.Sound.{sound}
 use Rattle.paper.specs.Store.{run}
-use Rattle.paper.specs.Table.{sized, rooms}
+use Rattle.paper.specs.Table.{sized}
 use Rattle.judge.specs.Judged.{judgedShape}
 use Rattle.judge_laws.specs.Mask.{without}
 use Rattle.laws.proofs.Runs.{length-run}
 use Rattle.laws.proofs.Tests.{truth, false-by}
-use Rattle.laws.proofs.Sound.{sized-whole}
 use Rattle.demands.proofs.MendAnswered.{MendCame, unsized, unsound, whole, cutOff, mend-came}
 use Rattle.mending.specs.declared.Mended.{Mended}
-use Rattle.mending.specs.Allowed.{Allowed}
-use Rattle.mending.specs.Gone.{GoneBelow, allStores}
+use Rattle.effects.specs.Allowed.{Allowed}
+use Rattle.mending.specs.Found.{Found, allStores}
 use Rattle.mending.specs.Shown.{mendShown}
 use Rattle.mending.proofs.Corrected.{sound-mended}
-use Rattle.mending.proofs.Marks.{stores-by-marks, without-gone}
+use Rattle.mending.proofs.Rounds.{without-found}
 
 -- what `mend` promises of its answer and of the table after it
 abbrev pub Mends : List ℕ → ℕ → Mended → List ℕ → Type 0
@@ -38,12 +37,13 @@ pub mends-unsized : (t : List ℕ) (k : ℕ) → sized t ≡ false → Mends t k
 unfolding mending mendable verdict
 mends-unsized t k e = (rw e, rw e)
 
-module _ (t gone : List ℕ) (k n : ℕ) (s : sized t ≡ true) (g : GoneBelow t gone (rooms t)) (e : n ≡ judgedShape (without gone t)) where
+module _ (t gone order : List ℕ) (count k n : ℕ) (s : sized t ≡ true) (g : Found t gone order count (clearStores t))
+    (e : n ≡ judgedShape (without gone t)) where
   number-mended : n ≡ cond (sound boxed (mended t)) 0 2
   unfolding judgedShape
   number-mended =
       let z : sized (cleared t) ≡ true = unfold cleared in rw length-run s in
-      e ∙ rw (without-gone t gone (sized-whole t s .0) g, z, sound-mended t s)
+      e ∙ rw (without-found t gone order count g, z, sound-mended t s)
 
   sound-after : n ≡ 0 → sound boxed (mended t) ≡ true
   sound-after q = go (truth (sound boxed (mended t)))
@@ -58,10 +58,10 @@ module _ (t gone : List ℕ) (k n : ℕ) (s : sized t ≡ true) (g : GoneBelow t
       let y : sound boxed (mended t) ≡ false = false-by (sound boxed (mended t)) (λ y. q (number-mended ∙ rw y)) in
       (rw (s, y), rw (s, y))
 
-  module _ (q : n ≡ 0) (u : List ℕ) (m : ℕ) (c : Allowed t u k m (allStores gone t)) where
-    stores-mended : allStores gone t ≡ mendStores t
+  module _ (q : n ≡ 0) (u : List ℕ) (m : ℕ) (c : Allowed t u k m (allStores order count t)) where
+    stores-mended : allStores order count t ≡ mendStores t
     unfolding allStores mendStores cleared
-    stores-mended = rw (stores-by-marks t gone (sized-whole t s .0) g)
+    stores-mended = rw (g .made)
 
     table-mended : u ≡ run t (take k (mendStores t))
     table-mended = c .table ∙ rw stores-mended

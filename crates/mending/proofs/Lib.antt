@@ -1,4 +1,6 @@
-pub mod Stores
-pub mod Marks
+pub mod Order
+pub mod Left
+pub mod Steps
+pub mod Rounds
 pub mod Corrected
 pub mod Answers

@@ -1,3 +1,2 @@
-pub mod Gone
-pub mod Allowed
+pub mod Found
 pub mod Shown

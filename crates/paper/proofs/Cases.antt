@@ -23,14 +23,15 @@ use Rattle.paper.specs.Store.{fills, run}
 use Rattle.paper.specs.Count.{namings, countsRight, recounted}
 use Rattle.paper.specs.Listing.{typeShown, lifetimeShown, levelShown, line, insert, inOrder, listed, lines, opens, entryBy, linesBy, tree}
 use Rattle.paper.specs.Effect.{freed, lost, settled, losing, making, newFile, crdPlan, wrsPlan, cpyPlan, dupPlan, renamed, chnPlan, recoded, dprPlan, delPlan, destroying, dstPlan, part, rdsPlan, lstPlan, lstBasePlan, lstTreePlan, lstBaseTreePlan, emptying, laying, rewriting, rewritePlan}
-use Rattle.paper.specs.Mend.{anchored, keepsText, after₁, after₂, clearStores, cleared, mendStores, mended}
+use Rattle.paper.specs.Mend.{anchored, keepsText, after₁, after₂, roundStores, round, roundsStores, clearStores, cleared, mendStores, mended}
 use Rattle.paper.specs.Answer.{deleting, granted, entrance, requested, mendable, mending}
 use Rattle.paper.specs.Index.{rank, insertBy, orderBy, trueIndex, isTrue, halving, ending, used, lookedUp, admission, keeping, mendAdmission, mendKeeping}
+use Rattle.paper.specs.Sweep.{reachedIn, reached, sweepClears, live, sweepStores, swept, sweepable, sweeping}
 use Rattle.paper.specs.Case.{Case, holds, holdAll, linksA, cases}
 
 -- `holdAll`, with every definition open
 unfoldable pub hold : List Case → Bool
-unfolding numberAt bytesOf allBelow anyBelow countBelow firstBelow joinBelow held zeros blank headingRecord rewritten textRecord entryRecord packing ahead unpacking sixName sixField rec lay frees textRoom same all linkName pointed chain linkNames wellFormed legalBase userName counting userNumber before typeLetter lifetimeLetter levelLetter digit codeAt levelAt pointAt lifetimeAt declaration declared digits octal legalLine placed skipped atColon close closed grow split solid words word verdict counted firstWrong oldFrom newTo each between declaredAt octalAt readCrd readWrs readRds readLst readCpy readDup readChn readDpr readNames depthOf readTree readRewrite readFunction read asked stands bears find crowd named peopled share block fileText asAbove holdersThere headingsThere usersRight namesPadded noneTwice allNamed noneCrowded directoriesPlain textsWhole noOtherText namesLegal countsTrue shaped sound applies look enter follow toDirectory lastName ended run typeShown lifetimeShown levelShown line insert inOrder listed lines opens entryBy linesBy tree freed lost settled losing making newFile crdPlan wrsPlan cpyPlan dupPlan renamed chnPlan recoded dprPlan delPlan destroying dstPlan part rdsPlan lstPlan lstBasePlan lstTreePlan lstBaseTreePlan emptying laying rewriting rewritePlan anchored keepsText after₁ after₂ fills namings countsRight recounted clearStores cleared mendStores mended deleting granted entrance requested mendable mending rank insertBy orderBy trueIndex isTrue halving ending used lookedUp admission keeping mendAdmission mendKeeping linksA holds holdAll
+unfolding numberAt bytesOf allBelow anyBelow countBelow firstBelow joinBelow held zeros blank headingRecord rewritten textRecord entryRecord packing ahead unpacking sixName sixField rec lay frees textRoom same all linkName pointed chain linkNames wellFormed legalBase userName counting userNumber before typeLetter lifetimeLetter levelLetter digit codeAt levelAt pointAt lifetimeAt declaration declared digits octal legalLine placed skipped atColon close closed grow split solid words word verdict counted firstWrong oldFrom newTo each between declaredAt octalAt readCrd readWrs readRds readLst readCpy readDup readChn readDpr readNames depthOf readTree readRewrite readFunction read asked stands bears find crowd named peopled share block fileText asAbove holdersThere headingsThere usersRight namesPadded noneTwice allNamed noneCrowded directoriesPlain textsWhole noOtherText namesLegal countsTrue shaped sound applies look enter follow toDirectory lastName ended run typeShown lifetimeShown levelShown line insert inOrder listed lines opens entryBy linesBy tree freed lost settled losing making newFile crdPlan wrsPlan cpyPlan dupPlan renamed chnPlan recoded dprPlan delPlan destroying dstPlan part rdsPlan lstPlan lstBasePlan lstTreePlan lstBaseTreePlan emptying laying rewriting rewritePlan anchored keepsText after₁ after₂ fills namings countsRight recounted roundStores round roundsStores clearStores cleared mendStores mended deleting granted entrance requested mendable mending rank insertBy orderBy trueIndex isTrue halving ending used lookedUp admission keeping mendAdmission mendKeeping reachedIn reached sweepClears live sweepStores swept sweepable sweeping linksA holds holdAll
 hold = holdAll
 
 pub all-cases-hold : holdAll cases ≡ true

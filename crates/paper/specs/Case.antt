@@ -14,6 +14,7 @@ use Rattle.paper.specs.Block.{blocks}
 use Rattle.paper.specs.Entry.{Holder, baseList, inDirectory}
 use Rattle.paper.specs.Answer.{Answer, Outcome, yesNo, requested, mending}
 use Rattle.paper.specs.Index.{trueIndex, Met, lookedUp, Kept, keeping, mendKeeping}
+use Rattle.paper.specs.Sweep.{sweeping}
 
 pub data Case : Type 0 where
   -- a code joined with another is this code
@@ -34,6 +35,8 @@ pub data Case : Type 0 where
   keeps : (table index line : List ℕ) (user stop number : ℕ) (after kept : List ℕ) → Case
   -- .. and mending's
   mendsKept : (table index : List ℕ) (stop number : ℕ) (after kept : List ℕ) → Case
+  -- a sweep's table, index and stop number; then the answer, the table after and the index after
+  sweeps : (table index : List ℕ) (stop : ℕ) (answer : Answer) (after kept : List ℕ) → Case
 
 abbrev pub isRight : Declared → Bool
 isRight (right p) = true
@@ -76,6 +79,8 @@ holds (looks table index d name found entry count) = meets found entry count (lo
 holds (keeps table index line user stop number after kept) =
     leaves number after kept (keeping table index line [] [] user stop)
 holds (mendsKept table index stop number after kept) = leaves number after kept (mendKeeping table index stop)
+holds (sweeps table index stop a after kept) =
+    comesTo a after [] (sweeping table index stop .outcome) && same (sweeping table index stop .index) kept
 
 unfoldable pub holdAll : List Case → Bool
 holdAll [] = true
@@ -310,6 +315,32 @@ unsound table = asks table delR [] [] 1 9 (answer 2 0 0 0 0 0 0) table []
 -- places after the last entry
 abbrev pub padding : ℕ → List ℕ
 padding n = replicate n 65535
+
+-- n free records
+abbrev pub free : ℕ → List ℕ
+free n = replicate (n * 32) 0
+
+-- `.R` of user 1, that so many entries name; and, which no base file reaches, a directory that holds so many: this one, and A, which names a
+-- second directory; that holds A, which names the first, and B, which names a file with a text
+abbrev pub lostOf : (named holds : ℕ) (entry : List ℕ) → List ℕ
+lostOf named holds entry =
+    box named 0 ++ entryR ++ box 1 holds ++ entry ++ box 1 2 ++ within 2 65 4 0 ++ within 4 65 2 0 ++ limits 0 1 0 1 ++ within 4 66 7 0
+    ++ but 2 7 (written 0 65 1)
+
+-- .. this one is B, which names the file of `.R`; and its index
+abbrev pub lost : List ℕ
+lost = lostOf 2 2 (within 2 66 0 0)
+
+abbrev pub lostIndex : List ℕ
+lostIndex = 5 ∷ 3 ∷ 6 ∷ 8 ∷ 1 ∷ padding 5
+
+-- `.R` of user 1 holds A, which holds B
+abbrev pub deep : List ℕ
+deep = box 1 1 ++ entryR ++ box 1 1 ++ within 0 65 2 0 ++ headingR ++ within 2 66 4 0
+
+-- `.R` of user 1 holds A, which holds `.R`; what its entries allow doesn't matter
+abbrev pub ring : List ℕ
+ring = box 2 1 ++ coded 7 entryR ++ box 1 1 ++ within 0 65 2 7 ++ within 2 65 0 7
 
 unfoldable pub cases : List Case
 cases =
@@ -606,4 +637,32 @@ cases =
     ∷ mendsKept shelf (7 ∷ 7 ∷ 7 ∷ 7 ∷ []) 9 0 shelf (1 ∷ 3 ∷ padding 2)
     ∷ mendsKept shelf (1 ∷ 3 ∷ padding 1) 9 26 shelf (1 ∷ 3 ∷ padding 1)
     ∷ mendsKept (headingR ++ headingR ++ but 19 1 entryR) [] 9 2 (headingR ++ headingR ++ but 19 1 entryR) []
+    -- document 02: "Mending's first step now also clears entries, base files' apart, whose directory is no heading": no heading of any type
+    ∷ mends (box 2 0 ++ entryR ++ blank ++ within 2 65 0 0) 9 (answer 0 0 0 0 0 0 2) (headingR ++ entryR ++ pair)
+    ∷ mends (sheetOf 0 2 ++ entryR ++ within 0 65 0 0) 9 (answer 2 0 0 0 0 0 0) (sheetOf 0 2 ++ entryR ++ within 0 65 0 0)
+    -- "mending repeats until nothing changes": the entry of `.R` is lost, and its tree goes in three rounds
+    ∷ mends (take 32 (branches 4) ++ blank ++ drop 64 (branches 4)) 9 (answer 0 0 0 0 0 0 6) (free 7)
+    ∷ mends (take 32 (branches 4) ++ blank ++ drop 64 (branches 4)) 4 (answer 22 0 0 0 0 0 4) (free 4 ++ sheetOf 1 2 ++ blank ++ within 2 70 4 1)
+    -- "counts last": here those of `.R`, when three rounds have cleared what was left of a cut sweep
+    ∷ mends (take 160 (lostOf 2 2 blank) ++ blank ++ drop 192 lost) 9 (answer 0 0 0 0 0 0 7) (headingR ++ entryR ++ free 8)
+    ∷ mends (take 160 (lostOf 2 2 blank) ++ blank ++ drop 192 lost) 6 (answer 22 0 0 0 0 0 6) (box 2 0 ++ entryR ++ free 8)
+    -- "A sweep clears exactly what no chain of entries from any user's base files reaches": "entries, then headings, then text, each by record
+    -- number, then corrects counts"; "Granted, it leaves the index true"
+    ∷ sweeps lost lostIndex 9 (answer 0 0 0 0 0 0 9) (headingR ++ entryR ++ free 8) (1 ∷ padding 9)
+    ∷ sweeps lost lostIndex 8 (answer 22 0 0 0 0 0 8) (box 2 0 ++ entryR ++ free 8) lostIndex
+    ∷ sweeps lost lostIndex 7 (answer 22 0 0 0 0 0 7) (box 2 0 ++ entryR ++ free 7 ++ drop 288 lost) lostIndex
+    ∷ sweeps lost lostIndex 5 (answer 22 0 0 0 0 0 5) (box 2 0 ++ entryR ++ free 2 ++ box 1 2 ++ free 2 ++ limits 0 1 0 1 ++ blank ++ drop 288 lost) lostIndex
+    -- "A sweep cut anywhere, mended and swept again ends in the same table as one uncut"
+    ∷ sweeps lost lostIndex 1 (answer 22 0 0 0 0 0 1) (lostOf 2 2 blank) lostIndex
+    ∷ mendsKept (lostOf 2 2 blank) lostIndex 9 0 (lostOf 1 1 blank) (5 ∷ 6 ∷ 8 ∷ 1 ∷ padding 6)
+    ∷ sweeps (lostOf 1 1 blank) (5 ∷ 6 ∷ 8 ∷ 1 ∷ padding 6) 9 (answer 0 0 0 0 0 0 7) (headingR ++ entryR ++ free 8) (1 ∷ padding 9)
+    -- nothing to do: a swept table; a loop that a base file reaches, "whatever the codes on it"; a file three links down; another user's
+    ∷ sweeps (headingR ++ entryR ++ free 8) (1 ∷ padding 9) 0 (answer 0 0 0 0 0 0 0) (headingR ++ entryR ++ free 8) (1 ∷ padding 9)
+    ∷ sweeps ring (3 ∷ 4 ∷ 1 ∷ padding 2) 9 (answer 0 0 0 0 0 0 0) ring (3 ∷ 4 ∷ 1 ∷ padding 2)
+    ∷ sweeps deep (3 ∷ 5 ∷ 1 ∷ padding 3) 9 (answer 0 0 0 0 0 0 0) deep (3 ∷ 5 ∷ 1 ∷ padding 3)
+    ∷ sweeps shelf (1 ∷ 3 ∷ padding 2) 9 (answer 0 0 0 0 0 0 0) shelf (1 ∷ 3 ∷ padding 2)
+    -- "Refusals: 1, 2 and 26 as for a request"
+    ∷ sweeps (0 ∷ []) [] 9 (answer 1 0 0 0 0 0 0) (0 ∷ []) []
+    ∷ sweeps (lostOf 2 2 blank) [] 9 (answer 2 0 0 0 0 0 0) (lostOf 2 2 blank) []
+    ∷ sweeps lost (3 ∷ 5 ∷ 6 ∷ 8 ∷ 1 ∷ padding 5) 9 (answer 26 0 0 0 0 0 0) lost (3 ∷ 5 ∷ 6 ∷ 8 ∷ 1 ∷ padding 5)
     ∷ []

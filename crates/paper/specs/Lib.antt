@@ -22,4 +22,5 @@ pub mod Mend
 pub mod Answer
 pub mod Convert
 pub mod Index
+pub mod Sweep
 pub mod Case

@@ -26,7 +26,7 @@ fn names() -> Vec<String> {
 }
 
 /// One directory, `.T` of the user, which every entry names: 112 that stand in it, spread over the table, and base files of others, four each.
-fn full() -> Vec<u8> {
+pub fn full() -> Vec<u8> {
     let mut table = Table::free(RECORDS);
     let mut ask = |user, line: String| {
         let answer = table.request(user, &line, &[], &mut []);
@@ -52,7 +52,7 @@ fn full() -> Vec<u8> {
 }
 
 /// The number of a name: ten codes of six bits, the first character highest.
-fn packed(name: &str) -> u64 {
+pub fn packed(name: &str) -> u64 {
     let characters = name.bytes().chain([b' '; 10]).take(10);
     characters.fold(0, |number, byte| number << 6 | u64::from(byte - 32))
 }

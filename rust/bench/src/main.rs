@@ -3,8 +3,8 @@
 //!
 //! `bench [TURNS]` prints a Markdown table, the time of the lamp beside its requests made one by one, that of a walk among
 //! names of other lengths beside one among names of one length, that of a part of a sheet beside a sheet of its length, that of
-//! refusing a tree of more lines than anyone can write, that of a rewrite beside a WRS over the same file, and that of looking a name up beside the plain
-//! scan; it ends with status 1 if a ratio at 2,048 records, or one of these six, is above its bar. `bench count OPERATION RECORDS
+//! refusing a tree of more lines than anyone can write, that of a rewrite beside a WRS over the same file, that of looking a name up beside the plain
+//! scan, and that of sweeps beside the judge; it ends with status 1 if a ratio at 2,048 records, or one of these seven, is above its bar. `bench count OPERATION RECORDS
 //! TIMES` runs one operation so many times (`pass`: the pass), to count its instructions with
 //! `valgrind --tool=callgrind --toggle-collect='*counted*' target/release/bench count rds 2048 10`: what is collected is
 //! the calls alone, without setting the table right.
@@ -18,6 +18,7 @@ mod names;
 mod operations;
 mod parts;
 mod rewrites;
+mod sweeps;
 mod tables;
 mod trees;
 
@@ -90,6 +91,9 @@ fn bench(turns: usize) -> ExitCode {
     }
     if !looks::bench(turns) {
         missing.push("looking a name up");
+    }
+    if !sweeps::bench(turns) {
+        missing.push("a sweep");
     }
     if missing.is_empty() {
         println!("Each is within its bar.");

@@ -1,6 +1,6 @@
 //! What is timed: calls on a table with its index, which are set right before each turn.
 
-use filebox::{mend, request, Number, LONGEST_TEXT, NO_STOP};
+use filebox::{mend, request, sweep, Number, LONGEST_TEXT, NO_STOP};
 use turns::nanoseconds;
 
 use crate::names::{of_one_length, of_other_lengths, ONE_LENGTH, OTHER_LENGTHS};
@@ -13,6 +13,7 @@ use crate::trees::{full_of_loops, tree};
 /// One call of the library.
 enum Call {
     Mend,
+    Sweep,
     Request { line: String, text: Vec<u8> },
 }
 
@@ -37,7 +38,7 @@ fn files(line: &str, bytes: usize) -> Call {
     Call::Request { line, text }
 }
 
-pub const OPERATIONS: [Operation; 17] = [
+pub const OPERATIONS: [Operation; 18] = [
     Operation {
         name: "rds",
         title: "RDS of 24 bytes",
@@ -144,6 +145,13 @@ pub const OPERATIONS: [Operation; 17] = [
         calls: |_| vec![Call::Mend],
     },
     Operation {
+        name: "sweep",
+        title: "sweeping a table with nothing lost",
+        bar: None,
+        table: hundred,
+        calls: |_| vec![Call::Sweep],
+    },
+    Operation {
         name: "walk",
         title: "RDS past nine links, names of other lengths",
         bar: None,
@@ -209,6 +217,7 @@ impl Ready {
         for call in &self.calls {
             let answer = match call {
                 Call::Mend => mend(&mut self.table, &mut self.index, NO_STOP),
+                Call::Sweep => sweep(&mut self.table, &mut self.index, NO_STOP),
                 Call::Request { line, text } => {
                     let (table, index, reply) = (&mut self.table, &mut self.index, &mut self.reply);
                     request(table, index, line.as_bytes(), text, reply, USER, NO_STOP)
@@ -262,6 +271,7 @@ mod tests {
                 "loops",
                 "wrs-del",
                 "mend",
+                "sweep",
                 "walk",
                 "walk-alike",
             ] {

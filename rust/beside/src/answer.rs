@@ -1,12 +1,13 @@
-//! The two calls, `request` and `mend`, and their answer.
+//! The three calls, `request`, `mend` and `sweep`, and their answer.
 
 use crate::effects::{outcome, Asked, Outcome};
 use crate::index::{build, has_a_place_for_each, is_true};
 use crate::layout::Layout;
-use crate::mend::{make, stores};
+use crate::mend::{make, stores, Mended};
 use crate::records::RECORD_BYTES;
 use crate::request::{read, refusal, Place, Refusal};
 use crate::sound::{is_sound, sound_in, HIGHEST_USER};
+use crate::sweep::clearings;
 use crate::table::{length_fits, Table};
 
 /// The reply numbers: 0 to 22 of document 01, and 23 to 28 of document 02.
@@ -116,6 +117,15 @@ pub fn request_in(
 
 /// Numbers 1, 2, 26 and 3: 26 "straight after 2".
 fn admitted(layout: Layout, bytes: &[u8], index: &[u16], user: u32) -> Result<Table, Refusal> {
+    let table = judged(layout, bytes, index)?;
+    if user > HIGHEST_USER {
+        return Err(refusal(3, Place::NONE));
+    }
+    Ok(table)
+}
+
+/// "1, 2 and 26 as for a request": the table as it is lent is sound, and the index is true.
+fn judged(layout: Layout, bytes: &[u8], index: &[u16]) -> Result<Table, Refusal> {
     if !length_fits(bytes) {
         return Err(refusal(1, Place::NONE));
     }
@@ -124,9 +134,6 @@ fn admitted(layout: Layout, bytes: &[u8], index: &[u16], user: u32) -> Result<Ta
         .ok_or(refusal(2, Place::NONE))?;
     if !is_true(layout, bytes, index) {
         return Err(refusal(26, Place::NONE));
-    }
-    if user > HIGHEST_USER {
-        return Err(refusal(3, Place::NONE));
     }
     Ok(table)
 }
@@ -201,6 +208,38 @@ pub fn mend_in(layout: Layout, table: &mut [u8], index: &mut [u16], stop: u32) -
     if !has_a_place_for_each(table, index) {
         return Answer::refused(refusal(26, Place::NONE));
     }
+    store(layout, table, index, &stores, stop)
+}
+
+/// Sweep a table, with a stop number: clear "exactly what no chain of entries from any user's base files reaches ... It is a call like
+/// mending, with a stop number and the same answer." "Granted, it leaves the index true."
+#[must_use = "the answer may be a refusal"]
+pub fn sweep(table: &mut [u8], index: &mut [u16], stop: u32) -> Answer {
+    sweep_in(Layout::Six, table, index, stop)
+}
+
+/// The same of a table whose names lie so.
+#[must_use = "the answer may be a refusal"]
+pub fn sweep_in(layout: Layout, table: &mut [u8], index: &mut [u16], stop: u32) -> Answer {
+    match judged(layout, table, index) {
+        Err(refusal) => Answer::refused(refusal),
+        Ok(judged) => {
+            let clearings = clearings(&judged).into_iter();
+            let written = clearings.map(|store| (store.number, store.record.write(layout)));
+            let stores: Vec<Mended> = written.collect();
+            store(layout, table, index, &stores, stop)
+        }
+    }
+}
+
+/// The stores of a mend or a sweep made, as many as the stop number allows: "the same answer".
+fn store(
+    layout: Layout,
+    table: &mut [u8],
+    index: &mut [u16],
+    stores: &[Mended],
+    stop: u32,
+) -> Answer {
     let made = first(stores.len(), stop);
     make(table, &stores[..made]);
     let number = if made < stores.len() { STOPPED } else { 0 };

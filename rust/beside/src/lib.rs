@@ -22,10 +22,11 @@ mod program;
 mod records;
 mod request;
 mod sound;
+mod sweep;
 mod table;
 mod walk;
 
-pub use answer::{mend, mend_in, request, request_in, Answer, COUNTS, NUMBERS};
+pub use answer::{mend, mend_in, request, request_in, sweep, sweep_in, Answer, COUNTS, NUMBERS};
 pub use declarations::{Declared, DeclaredLifetime, Guard};
 pub use index::{look_up, true_index, true_index_in, Found};
 pub use lamp::{light, Light};

@@ -1,9 +1,9 @@
-//! Mending, "with kind and type read from bytes 0 and 1 alone", and of document 02 what an entry names from its bytes 4-5, the
-//! mark from byte 5 and the counts from bytes 12-15.
+//! Mending, "with kind and type read from bytes 0 and 1 alone", and of document 02 an entry's directory from its bytes 2-3 and what it
+//! names from its bytes 4-5, the mark from byte 5 and the counts from bytes 12-15.
 
 use std::collections::HashMap;
 
-use crate::records::{two_bytes, RECORD_BYTES};
+use crate::records::{two_bytes, BASE_FILE, RECORD_BYTES};
 
 const HEADING: u8 = 1;
 const ENTRY: u8 = 2;
@@ -18,17 +18,37 @@ const NAMED_BY_ENTRY: usize = 4;
 /// One store of mending: the number of a record and its bytes after.
 pub type Mended = (usize, [u8; RECORD_BYTES]);
 
-/// The stores that mending makes, in order: "Mending now first clears entries that name no heading"; "clear every heading that no
-/// entry names; then every text record whose heading is not a simple-file heading; each by record number." "Mending a marked file
-/// clears its text", with the other text. "At its end mending corrects untrue counts, one store a heading, by record number." Each
-/// step sees the table after the one before.
+/// A step of mending: the stores that it makes on a table.
+type Step = fn(&[u8]) -> Vec<Mended>;
+
+/// "Mending now first clears entries that name no heading", and "entries, base files' apart, whose directory is no heading"; "clear every
+/// heading that no entry names; then every text record whose heading is not a simple-file heading; each by record number." "Mending a
+/// marked file clears its text", with the other text.
+const ROUND: &[Step] = &[lost_entries, unnamed_headings, stray_texts];
+
+/// The stores that mending makes, in order: "mending repeats until nothing changes, counts last." "At its end mending corrects untrue
+/// counts, one store a heading, by record number."
 pub fn stores(table: &[u8]) -> Vec<Mended> {
     let mut after = table.to_vec();
     let mut stores = Vec::new();
-    for step in [lost_entries, unnamed_headings, stray_texts, untrue_counts] {
-        let made = step(&after);
-        make(&mut after, &made);
-        stores.extend(made);
+    loop {
+        let round = made(&mut after, ROUND);
+        if round.is_empty() {
+            break;
+        }
+        stores.extend(round);
+    }
+    stores.extend(made(&mut after, &[untrue_counts]));
+    stores
+}
+
+/// The stores of these steps, each of which sees the table after the one before; they are made on it.
+fn made(table: &mut [u8], steps: &[Step]) -> Vec<Mended> {
+    let mut stores = Vec::new();
+    for step in steps {
+        let of_step = step(table);
+        make(table, &of_step);
+        stores.extend(of_step);
     }
     stores
 }
@@ -53,15 +73,17 @@ fn said_by_entries(table: &[u8], at: usize) -> HashMap<usize, u16> {
     said
 }
 
-/// "entries that name no heading": by bytes 4-5, where no record has this number, or one of another kind.
+/// "entries that name no heading": by bytes 4-5, where no record has this number, or one of another kind; or "whose directory is no
+/// heading": by bytes 2-3, the same, whatever type the heading is of. A base file's entry, whose directory is 65,535, is no such.
 fn lost_entries(table: &[u8]) -> Vec<Mended> {
-    let is_heading = |number: usize| {
-        let record = table.chunks_exact(RECORD_BYTES).nth(number);
+    let is_heading = |number: u16| {
+        let record = table.chunks_exact(RECORD_BYTES).nth(number.into());
         record.is_some_and(|record| record[0] == HEADING)
     };
     let is_lost = |(_, record): &(usize, &[u8])| {
-        let named = two_bytes(record[NAMED_BY_ENTRY], record[NAMED_BY_ENTRY + 1]);
-        record[0] == ENTRY && !is_heading(named.into())
+        let says = |at: usize| two_bytes(record[at], record[at + 1]);
+        let (holder, named) = (says(HOLDER_OF_ENTRY), says(NAMED_BY_ENTRY));
+        record[0] == ENTRY && !(is_heading(named) && (holder == BASE_FILE || is_heading(holder)))
     };
     cleared(table, is_lost)
 }

@@ -767,8 +767,7 @@ fn a_heading_that_goes_gets_no_count() {
 fn counts_of_what_is_not_sound_otherwise_are_left() {
     let wrong = after(&shelf(), &[(0, dir(0, 0))]);
     for (number, record) in [
-        // an entry in a directory that is none, and one in a simple file
-        (10, entry(0, 11, 2, 0, "B")),
+        // an entry in a simple file
         (10, entry(0, 7, 2, 0, "B")),
         // a name twice, a text twice
         (10, entry(0, 0, 2, 0, "A")),

@@ -562,9 +562,14 @@ fn what_was_beyond_mending_by_such_an_entry_alone_is_mended() {
 }
 
 #[test]
-fn an_entry_in_a_directory_that_is_none_is_beyond_mending_as_before() {
-    is_beyond_mending(&[entry(0, 2, 1, 0, "A"), file(0, 1), FREE]);
-    is_beyond_mending(&[directory(), file(0, 1), entry(0, 0, 1, 0, "A")]);
+fn an_entry_in_a_simple_file_is_beyond_mending_as_before() {
+    is_beyond_mending(&[entry(0, 1, 1, 0, "A"), file(0, 1), FREE]);
+    is_beyond_mending(&[
+        file(0, 1),
+        file(0, 1),
+        base(0, ".R"),
+        entry(0, 0, 1, 0, "A"),
+    ]);
 }
 
 #[test]

@@ -105,9 +105,9 @@ fn super_type() -> [u8; 32] {
 #[test]
 fn what_cannot_be_mended_gets_2_before_22_and_is_left_as_found() {
     let cases = [
-        // An entry in a directory that is none, beside debris that could be cleared.
+        // An entry in a simple file, beside debris that could be cleared; of one in no heading `rounds` has more.
         vec![
-            entry(0, 5, 1, 0, "A"),
+            entry(0, 1, 1, 0, "A"),
             simple(0),
             base(7, ".R"),
             directory(),
@@ -123,8 +123,6 @@ fn what_cannot_be_mended_gets_2_before_22_and_is_left_as_found() {
         vec![simple(1), base(0, ".R"), text(0, 0, b"T"), text(0, 0, b"T")],
         // A name twice.
         vec![directory(), base(0, ".R"), base(0, ".R"), simple(0)],
-        // An entry in a directory that mending clears.
-        vec![directory(), simple(0), entry(0, 0, 1, 0, "A")],
         // A free record that is not zero.
         vec![{
             let mut free = FREE;
@@ -217,25 +215,33 @@ fn mark(heading: &mut [u8]) {
     heading[10..12].fill(0);
 }
 
-/// Each record is as before, or was an entry of no heading, a heading or a text and is cleared, or is a heading with other
-/// counts: how many of the second kind there are, of the third, and of the entries among the second.
-fn only_mended(before: &[u8], after: &[u8]) -> [usize; 3] {
-    let named = |entry: &[u8]| usize::from(u16::from_le_bytes([entry[4], entry[5]])) * 32;
-    let is_heading = |entry: &[u8]| before.get(named(entry)) == Some(&1);
-    let mut mended = [0; 3];
-    for (before, after) in before.chunks(32).zip(after.chunks(32)) {
-        if before == after {
+/// Does this entry name a heading of the table, and stand in one or in a base list?
+fn stands(table: &[u8], entry: &[u8]) -> bool {
+    let two = |at: usize| usize::from(u16::from_le_bytes([entry[at], entry[at + 1]]));
+    let is_heading = |number: usize| table.get(number * 32) == Some(&1);
+    is_heading(two(4)) && (two(2) == 65_535 || is_heading(two(2)))
+}
+
+/// Each record is as before, or was an entry that names no heading or stands in none, a heading or a text and is cleared, or is a heading
+/// with other counts: how many of the second kind there are, of the third, and, of the entries among the second, of those lost to begin
+/// with and of the others.
+fn only_mended(before: &[u8], after: &[u8]) -> [usize; 4] {
+    let mut mended = [0; 4];
+    for (old, new) in before.chunks(32).zip(after.chunks(32)) {
+        if old == new {
             continue;
         }
-        if after == FREE {
-            assert!([1, 3].contains(&before[0]) || before[0] == 2 && !is_heading(before));
+        if new == FREE {
+            assert!([1, 3].contains(&old[0]) || old[0] == 2 && !stands(after, old));
             mended[0] += 1;
-            mended[2] += usize::from(before[0] == 2);
+            let lost = !stands(before, old);
+            mended[2] += usize::from(old[0] == 2 && lost);
+            mended[3] += usize::from(old[0] == 2 && !lost);
         } else {
-            let counts = if before[1] == 0 { 12..16 } else { 12..14 };
-            assert_eq!((before[0], after[0]), (1, 1));
-            assert_eq!(before[..counts.start], after[..counts.start]);
-            assert_eq!(before[counts.end..], after[counts.end..]);
+            let counts = if old[1] == 0 { 12..16 } else { 12..14 };
+            assert_eq!((old[0], new[0]), (1, 1));
+            assert_eq!(old[..counts.start], new[..counts.start]);
+            assert_eq!(old[counts.end..], new[counts.end..]);
             mended[1] += 1;
         }
     }
@@ -248,7 +254,7 @@ fn tables_damaged_at_random() {
     println!("seed {seed}");
     let mut dice = Dice(seed);
     let (mut mended, mut untouched, mut lost, mut marked) = (0, 0, 0, 0);
-    let (mut recounted, mut both, mut lost_entries) = (0, 0, 0);
+    let (mut recounted, mut both, mut lost_entries, mut rounds) = (0, 0, 0, 0);
     for _ in 0..20_000 {
         let mut table = grown(&mut dice);
         damage(&mut dice, &mut table);
@@ -261,28 +267,26 @@ fn tables_damaged_at_random() {
             }
             [0, 0, 0, 0, 0, 0, stores] => {
                 assert!(sound(&table));
-                let [cleared, counts, entries] = only_mended(&before, &table);
+                let [cleared, counts, entries, later] = only_mended(&before, &table);
                 assert_eq!(cleared + counts, stores as usize);
                 lost_entries += usize::from(entries > 0);
+                rounds += usize::from(later > 0);
                 recounted += usize::from(counts > 0);
                 both += usize::from(cleared > 0 && counts > 0);
                 assert_eq!(stores == 0, sound(&before));
                 let is_marked = |record: &[u8]| record[0] == 1 && record[5] == 1;
                 marked += usize::from(stores > 0 && table.chunks(32).any(is_marked));
                 cut_everywhere(&before, &table, seen.stores);
-                *(if stores == 0 {
-                    &mut untouched
-                } else {
-                    &mut mended
-                }) += 1;
+                mended += usize::from(stores > 0);
+                untouched += usize::from(stores == 0);
             }
             _ => panic!("{seen:?}"),
         }
     }
     println!("mended {mended}, with a marked file {marked}, sound as it was {untouched}, not to be mended {lost}");
-    println!("counts corrected {recounted}, after clearing {both}; entries of no heading cleared {lost_entries}");
+    println!("counts corrected {recounted}, after clearing {both}; entries of no heading cleared {lost_entries}, in a later round {rounds}");
     assert!(mended > 2_000 && marked > 100 && untouched > 500 && lost > 5_000);
-    assert!(recounted > 1_000 && both > 300 && lost_entries > 300);
+    assert!(recounted > 1_000 && both > 300 && lost_entries > 300 && rounds > 100);
 }
 
 /// "a mend cut anywhere and run again ends as an uncut one."
@@ -290,10 +294,10 @@ fn cut_everywhere(before: &[u8], after: &[u8], stores: u32) {
     for stop in 0..stores {
         let mut table = before.to_vec();
         assert_eq!(mend(&mut table, stop), answer([22, 0, 0, 0, 0, 0, stop]));
-        // first the entries of no heading, then what else is cleared, then what is counted
-        let [cleared, counts, entries] = only_mended(before, &table);
+        // first the entries that are lost to begin with, then what else is cleared, then what is counted
+        let [cleared, counts, entries, _] = only_mended(before, &table);
         assert_eq!(cleared + counts, stop as usize);
-        let [all, _, all_entries] = only_mended(before, after);
+        let [all, _, all_entries, _] = only_mended(before, after);
         assert!(counts == 0 || cleared == all);
         assert!(cleared == entries || entries == all_entries);
         let left = stores - stop;

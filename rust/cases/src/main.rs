@@ -4,7 +4,7 @@
 //! With `gives`, two users give and take.
 
 use beside::{COUNTS, NUMBERS};
-use random::{counts, destroys, lines, lists, rewrites, shelves, Random};
+use random::{counts, destroys, lines, lists, loops, rewrites, shelves, Random};
 use std::fmt::{Display, Write};
 
 const HEAD: &str = "-- Random cases: the second program's outcomes, held against the definitions.
@@ -13,12 +13,14 @@ use mathlib.Core.List.{List, [], _∷_}
 use mathlib.Core.Path.{_≡_, refl}
 use Prim.Native.Nat.{ℕ}
 use Rattle.paper.specs.Entry.{Holder}
-use Rattle.paper.specs.Case.{Case, asks, mends, orders, looks, keeps, mendsKept, answer, holdAll}
+use Rattle.paper.specs.Case.{Case, asks, mends, orders, looks, keeps, mendsKept, sweeps, answer, holdAll}
 use Rattle.paper.proofs.Cases.{hold}
 ";
 
 /// The most cases of the list on one table.
 const LISTED: usize = 8;
+/// The sweeps told with one table, each mended and swept again where it was cut.
+const SWEPT: usize = 2;
 
 /// The most places of a list without any meaning: the checker works a place out of the one before it each time it is asked for, so that its steps grow
 /// with every halving.
@@ -72,12 +74,18 @@ struct Story {
     cases: Vec<String>,
     /// The cases of the list beside the table, told apart from the others: a declaration may take so many steps and no more.
     listed: Vec<String>,
+    /// .. and of sweeps, of tables of their own.
+    swept: Vec<String>,
     met: [u32; COUNTS],
     off: u32,
 }
 
 impl Story {
+    /// Not of those who give and take, whose tables are larger: the checker's steps grow with the fourth power of the records, since mending goes in rounds.
     fn mend(&mut self, table: &[u8], stop: u32) {
+        if self.gives {
+            return;
+        }
         let mut after = table.to_vec();
         let answer = mend(&mut after, stop);
         self.cases.push(format!(
@@ -161,11 +169,14 @@ impl Story {
         let left = format!("{} {} {}", asked.number, list(&after), list(&kept));
         self.listed
             .push(format!("keeps {lent} {} {user} {stop} {left}", list(line)));
+        self.met[asked.number as usize] += 1;
+        if self.gives {
+            return;
+        }
         let (mut after, mut kept) = (table.to_vec(), list_lent);
         let mended = beside::mend(&mut after, &mut kept, stop);
         let left = format!("{} {} {}", mended.number, list(&after), list(&kept));
         self.listed.push(format!("mendsKept {lent} {stop} {left}"));
-        self.met[asked.number as usize] += 1;
     }
 
     /// The list of a sound table; and a name looked up through it, or through one without any meaning.
@@ -187,6 +198,44 @@ impl Story {
         let lent = format!("{} {} {holder} {}", list(table), list(&index), list(&name));
         self.listed
             .push(format!("looks {lent} {found} {entry} {count}"));
+    }
+
+    /// A sweep of a table with something lost, most often with its true index; cut, it is mended and swept again.
+    fn sweep(&mut self, random: &mut Random) {
+        let table = losing(random);
+        let index = beside::true_index(&table);
+        let lent = match random.once_in(6) {
+            true => lists::wrong(random, &index, &index),
+            false => index,
+        };
+        let stop = random.pick(&[0, 1, 2, 3, 4, 6, 99, 99]);
+        let (answer, cut, kept) = self.sweeps(&table, &lent, stop);
+        if answer.number == 22 {
+            let (mut mended, mut index) = (cut.clone(), kept.clone());
+            let told = beside::mend(&mut mended, &mut index, 99);
+            let left = format!("{} {} {}", told.number, list(&mended), list(&index));
+            let lent = format!("{} {}", list(&cut), list(&kept));
+            self.swept.push(format!("mendsKept {lent} 99 {left}"));
+            self.sweeps(&mended, &index, 99);
+        }
+    }
+
+    /// One more case of a sweep: its answer, and the table and the list after it.
+    fn sweeps(
+        &mut self,
+        table: &[u8],
+        index: &[u16],
+        stop: u32,
+    ) -> (beside::Answer, Vec<u8>, Vec<u16>) {
+        let (mut after, mut kept) = (table.to_vec(), index.to_vec());
+        let answer = beside::sweep(&mut after, &mut kept, stop);
+        let lent = format!("{} {}", list(table), list(index));
+        let left = format!("{} {}", list(&after), list(&kept));
+        let seven = seven(answer, 0);
+        self.swept
+            .push(format!("sweeps {lent} {stop} {seven} {left}"));
+        self.met[answer.number as usize] += 1;
+        (answer, after, kept)
     }
 
     /// One more case: what is lent, the answer, and what is left.
@@ -243,6 +292,28 @@ fn few(random: &mut Random) -> Vec<u8> {
     table
 }
 
+/// A table with a directory that holds itself and a sheet, which an entry leads to no longer, in most; and what a few more requests make of it.
+fn losing(random: &mut Random) -> Vec<u8> {
+    let mut table = vec![0; (10 + random.below(4)) * 32];
+    let first = [
+        "CRD .R",
+        "CRD .R:A",
+        "DUP .R:A .R:A:A",
+        "WRS M .R:A:S",
+        "DEL .R:A",
+    ];
+    for line in first.iter().take(2 + random.below(4)) {
+        ask(&mut table, line.as_bytes(), b"sheet", &mut [], 1, 65_535);
+    }
+    for _ in 0..random.below(6) {
+        let user = random.pick(&[1, 1, 2]);
+        let line = loops::about(random, &table, user);
+        // granted or not, as it comes
+        ask(&mut table, &line, b"sheet", &mut [], user, 65_535);
+    }
+    table
+}
+
 /// A table of a sheet and two users with their shelves, some of them missing, simple or inhibited.
 fn shelved(random: &mut Random) -> Vec<u8> {
     let mut table = vec![0; (13 + random.below(6)) * 32];
@@ -273,6 +344,7 @@ fn story(random: &mut Random, met: [u32; COUNTS], gives: bool, off: u32) -> Stor
         table,
         cases: Vec::new(),
         listed: Vec::new(),
+        swept: Vec::new(),
         met,
         off,
     }
@@ -315,9 +387,13 @@ fn main() {
         while story.cases.len() < number(2) as usize {
             story.request(&mut random);
         }
+        if !story.gives {
+            (0..SWEPT).for_each(|_| story.sweep(&mut random));
+        }
         met = story.met;
         tell("story", table, &story.cases);
         tell("listed", table, &story.listed);
+        tell("swept", table, &story.swept);
     }
     let shown = NUMBERS.map(|number| format!("{number}:{}", met[number as usize]));
     eprintln!("seed {}: reply numbers met: {}", number(0), shown.join(" "));

@@ -1,5 +1,5 @@
-//! A case: one call, made by the proved library and by the second program, and compared byte for byte; a request and mending also with the
-//! second program on the old table.
+//! A case: one call, made by the proved library and by the second program, and compared byte for byte; a request, mending and a sweep also
+//! with the second program on the old table.
 
 use beside::Layout;
 
@@ -12,7 +12,9 @@ use crate::links::{self, Links};
 use crate::met::Met;
 use crate::parted::Parted;
 use crate::rewritten::{self, Rewritten};
+use crate::rounded::{self, Rounded};
 use crate::sixed::{self, Sixed};
+use crate::swept::{self, Swept};
 use crate::treed::{self, Treed};
 
 /// The byte that fills a reply buffer before the call.
@@ -36,7 +38,7 @@ pub struct Sought {
     pub name: Vec<u8>,
 }
 
-/// One call: a request; where nothing is asked a conversion, a look-up, or mending.
+/// One call: a request; where nothing is asked a conversion, a look-up, a sweep, or mending.
 #[derive(Debug, Clone)]
 pub struct Case {
     pub table: Vec<u8>,
@@ -46,6 +48,7 @@ pub struct Case {
     /// The layout that the table is converted from.
     pub from: Option<Layout>,
     pub sought: Option<Sought>,
+    pub sweep: bool,
     pub stop: u32,
 }
 
@@ -95,7 +98,17 @@ impl Case {
             asked: None,
             from: None,
             sought: None,
+            sweep: false,
             stop,
+        }
+    }
+
+    /// A sweep that is not stopped, with the true index.
+    pub fn sweep(table: &[u8]) -> Case {
+        Case {
+            index: beside::true_index(table),
+            sweep: true,
+            ..Case::mend(table, filebox::NO_STOP)
         }
     }
 
@@ -170,6 +183,7 @@ impl Case {
             (None, None) => match self.from {
                 Some(Layout::Old) => alone(filebox::to_six(table).code()),
                 Some(Layout::Six) => alone(filebox::from_six(table).code()),
+                None if self.sweep => filebox::sweep(table, index, self.stop).numbers(),
                 None => filebox::mend(table, index, self.stop).numbers(),
             },
         })
@@ -194,10 +208,11 @@ impl Case {
         }
     }
 
-    /// A request or mending by the second program, on a table whose names lie so.
+    /// A request, a sweep or mending by the second program, on a table whose names lie so.
     fn beside_in(&self, layout: Layout) -> Outcome {
         self.outcome(|table, index, reply| {
             let answer = match &self.asked {
+                None if self.sweep => beside::sweep_in(layout, table, index, self.stop),
                 None => beside::mend_in(layout, table, index, self.stop),
                 Some(Asked {
                     line, text, user, ..
@@ -207,7 +222,7 @@ impl Case {
         })
     }
 
-    /// A request or mending by the second program on the old table, with the table converted after it, record by record; nothing where there
+    /// The same on the old table, with the table converted after it, record by record; nothing where there
     /// is no old table, since an entry's name is not as it may lie.
     pub fn on_the_old_table(&self) -> Option<Outcome> {
         let alike = self.from.is_none() && self.sought.is_none();
@@ -263,6 +278,10 @@ pub struct Comparison {
     pub sixed: Sixed,
     /// What the index and look-ups met.
     pub indexed: Indexed,
+    /// What mending in rounds met.
+    pub rounded: Rounded,
+    /// What sweeps met.
+    pub swept: Swept,
     /// The requests of the stories.
     pub requests: u64,
     /// The calls made by both: these requests again and again, and mending.
@@ -273,7 +292,7 @@ pub struct Comparison {
 
 impl Comparison {
     /// What requests and mends met besides their numbers and links.
-    pub fn branches(&self) -> [&Branches; 7] {
+    pub fn branches(&self) -> [&Branches; 8] {
         [
             self.parted.branches(),
             self.treed.branches(),
@@ -282,6 +301,7 @@ impl Comparison {
             self.destroyed.branches(),
             self.sixed.branches(),
             self.indexed.branches(),
+            self.rounded.branches(),
         ]
     }
 
@@ -306,6 +326,11 @@ impl Comparison {
                 self.indexed.count(case, &proved);
                 indexed::broken(case, &proved)
             }
+            (None, None) if case.sweep => {
+                self.met.count(case, proved.number());
+                self.swept.count(case, &proved);
+                swept::broken(case, &proved).or(indexed::broken(case, &proved))
+            }
             (None, None) => {
                 self.count(case, &proved, old.is_some());
                 broken(case, &proved)
@@ -329,6 +354,7 @@ impl Comparison {
         self.destroyed.count(case, outcome);
         self.sixed.count(case, outcome, old);
         self.indexed.count(case, outcome);
+        self.rounded.count(case, outcome);
     }
 }
 
@@ -343,6 +369,7 @@ fn broken(case: &Case, outcome: &Outcome) -> Option<&'static str> {
         destroyed::broken,
         sixed::broken,
         indexed::broken,
+        rounded::broken,
     ];
     broken.iter().find_map(|broken| broken(case, outcome))
 }

@@ -67,7 +67,7 @@ impl Landings {
 }
 
 /// The stop numbers to try, from 0 up to the stores needed, less one.
-fn stops(random: &mut Random, needed: u32) -> Vec<u32> {
+pub fn stops(random: &mut Random, needed: u32) -> Vec<u32> {
     let mut stops: Vec<u32> = (0..needed.min(ALL_BELOW)).collect();
     if needed > ALL_BELOW {
         let beyond = (needed - ALL_BELOW) as usize;
@@ -156,7 +156,7 @@ fn between(
 }
 
 /// Mend a cut table; and cut the mending itself and mend again, which must end alike.
-fn mend(
+pub fn mend(
     comparison: &mut Comparison,
     random: &mut Random,
     cut: &Outcome,

@@ -6,8 +6,8 @@ use std::collections::BTreeSet;
 use crate::branches::Branches;
 use crate::case::{Asked, Case, Outcome};
 use crate::records::{
-    count, differing, entries_of, heading, is_heading, is_lost, naming, texts, two, walked, Walked,
-    BASE_FILE, READ, WRITE,
+    count, differing, entries_of, heading, is_adrift, is_heading, is_lost, naming, reached, texts,
+    two, walked, Walked, BASE_FILE, READ, WRITE,
 };
 
 /// The numbers of DST, in their order.
@@ -98,22 +98,6 @@ fn destroys(case: &Case) -> Option<(&Asked, Vec<Chain<'_>>)> {
 pub fn is_dst(line: &[u8]) -> bool {
     let words = beside::words(line);
     words.first().and_then(|word| word.whole()) == Some(b"DST")
-}
-
-/// The headings that a chain of entries from some user's base files reaches.
-fn reached(table: &[u8]) -> BTreeSet<u16> {
-    let mut reached = BTreeSet::from([BASE_FILE]);
-    loop {
-        let before = reached.len();
-        for entry in table.chunks_exact(32).filter(|record| record[0] == 2) {
-            if reached.contains(&two(entry, 2)) {
-                reached.insert(two(entry, 4));
-            }
-        }
-        if reached.len() == before {
-            return reached;
-        }
-    }
 }
 
 /// The directories that hold entries of a file, base lists apart.
@@ -339,16 +323,18 @@ fn broken_dst(case: &Case, outcome: &Outcome) -> Option<&'static str> {
     (outcome.stores() as usize != needed).then_some("other stores than a DST needs")
 }
 
-/// What of a DST that was not stopped, or of a mend, is broken: a mend clears the entries that name no heading, and no others.
+/// What of a DST that was not stopped, or of a mend, is broken: a mend clears the entries that name no heading or stand in none once it is
+/// done, and no others.
 pub fn broken(case: &Case, outcome: &Outcome) -> Option<&'static str> {
     if case.asked.is_none() {
-        let differ = differing(&case.table, &outcome.table);
+        let after = &outcome.table;
+        let differ = differing(&case.table, after);
         let kept = differ
             .iter()
-            .any(|(_, old, _)| old[0] == 2 && !is_lost(&case.table, old));
-        let left = count(&outcome.table, |record| is_lost(&outcome.table, record));
+            .any(|(_, old, _)| old[0] == 2 && !is_adrift(after, old));
+        let left = count(after, |record| is_adrift(after, record));
         let wrong = kept || outcome.number() == 0 && left > 0;
-        return wrong.then_some("other entries cleared than those that name no heading");
+        return wrong.then_some("other entries cleared than those adrift");
     }
     destroys(case)
         .filter(|_| !matches!(outcome.number(), 1..=3 | 22))

@@ -154,9 +154,9 @@ pub fn broken(case: &Case, outcome: &Outcome) -> Option<&'static str> {
     if !lent && !is_true(&outcome.table, &outcome.index) {
         return Some("the list is not true after it");
     }
-    let fits = match case.asked {
-        Some(_) => is_true(&case.table, &case.index),
-        None => case.index.len() == case.table.len() / 32,
+    let fits = match case.asked.is_some() || case.sweep {
+        true => is_true(&case.table, &case.index),
+        false => case.index.len() == case.table.len() / 32,
     };
     let judged = number > 2 || number == 0;
     match judged && fits == (number == 26) {

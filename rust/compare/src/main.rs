@@ -12,6 +12,9 @@
 //! `compare gives [COUNT [SEED]]`: COUNT requests of three users who give, take, list and read each other's shelves, cut and
 //! mended as the first; ends with status 1 also when a number was met fewer than a hundred times by gives, or by takes, or with a
 //! link.
+//!
+//! `compare sweeps [COUNT [SEED]]`: COUNT sweeps of tables with loops that no base file reaches, each cut at its stop numbers, mended and
+//! swept again; ends with status 1 also when a branch of a sweep, or of mending in rounds, was met fewer than a hundred times.
 
 mod branches;
 mod case;
@@ -30,10 +33,13 @@ mod parted;
 mod pieces;
 mod records;
 mod rewritten;
+mod rounded;
 mod sheets;
 mod shown;
 mod sixed;
 mod story;
+mod sweeps;
+mod swept;
 mod tables;
 mod treed;
 
@@ -119,10 +125,20 @@ fn gives(count: u64, seed: u64) -> ExitCode {
     verdict(ended, format!("{handed}\n{links}"), &missed)
 }
 
+fn sweeps(count: u64, seed: u64) -> ExitCode {
+    let start = Instant::now();
+    let mut comparison = Comparison::default();
+    let ended = sweeps::run(&mut comparison, count, seed);
+    show(&comparison, seed, start);
+    let (swept, rounded) = (comparison.swept.branches(), comparison.rounded.branches());
+    let missed = [swept.missed(), rounded.missed()].concat();
+    verdict(ended, format!("{swept}\n{rounded}"), &missed)
+}
+
 fn show(comparison: &Comparison, seed: u64, start: Instant) {
     let seconds = start.elapsed().as_secs_f64();
     println!(
-        "seed {seed}: {} requests, {} calls compared, {} cut and mended, {seconds:.1} s",
+        "seed {seed}: {} requests or sweeps, {} calls compared, {} cut and mended, {seconds:.1} s",
         comparison.requests, comparison.calls, comparison.cuts
     );
 }
@@ -142,18 +158,22 @@ fn jobs(count: u64, seed: u64) -> ExitCode {
 fn main() -> ExitCode {
     let words: Vec<String> = std::env::args().skip(1).collect();
     let (what, numbers) = match words.split_first() {
-        Some((first, rest)) if ["jobs", "gives"].contains(&&first[..]) => (&first[..], rest),
+        Some((first, rest)) if ["jobs", "gives", "sweeps"].contains(&&first[..]) => {
+            (&first[..], rest)
+        }
         _ => ("requests", &words[..]),
     };
     let number = |at: usize, otherwise: u64| {
         let word = numbers.get(at);
         word.map_or(otherwise, |word| {
-            word.parse().expect("compare [jobs | gives] [COUNT [SEED]]")
+            word.parse()
+                .expect("compare [jobs | gives | sweeps] [COUNT [SEED]]")
         })
     };
     match what {
         "jobs" => jobs(number(0, 12_000), number(1, 1971)),
         "gives" => gives(number(0, 40_000), number(1, 1971)),
+        "sweeps" => sweeps(number(0, 12_000), number(1, 1971)),
         _ => requests(number(0, 120_000), number(1, 1971)),
     }
 }

@@ -6,16 +6,17 @@ use beside::{COUNTS, NUMBERS};
 
 use crate::case::Case;
 
-const ROWS: [&str; 14] = [
+const ROWS: [&str; 15] = [
     "CRD", "WRS", "WRS*", "RDS", "CPY", "DUP", "CHN", "DEL", "DST", "DPR", "LST", "LST*", "none",
-    "mend",
+    "mend", "sweep",
 ];
 const NONE: usize = 12;
 const MEND: usize = 13;
+const SWEEP: usize = 14;
 /// How often each number must be met.
 const ENOUGH: u64 = 100;
 
-/// A count for each function and number; lines of no function, and mending, have rows of their own.
+/// A count for each function and number; lines of no function, mending, and sweeps have rows of their own.
 #[derive(Default)]
 pub struct Met([[u64; COUNTS]; ROWS.len()]);
 
@@ -23,6 +24,7 @@ impl Met {
     /// One more answer with this number.
     pub fn count(&mut self, case: &Case, number: u32) {
         let row = match &case.asked {
+            None if case.sweep => SWEEP,
             None => MEND,
             Some(asked) => function(&asked.line),
         };

@@ -1,5 +1,7 @@
 //! A table by its records: what the branches are told by.
 
+use std::collections::BTreeSet;
+
 use beside::Chain;
 use random::names::name;
 
@@ -102,4 +104,56 @@ pub fn is_heading(table: &[u8], number: u16) -> bool {
 /// Is this an entry that names no heading of the table?
 pub fn is_lost(table: &[u8], record: &[u8]) -> bool {
     record[0] == 2 && !is_heading(table, two(record, 4))
+}
+
+/// Is this an entry that names no heading of the table or, base files' apart, stands in none?
+pub fn is_adrift(table: &[u8], record: &[u8]) -> bool {
+    let holder = || two(record, 2);
+    let stands = || holder() == BASE_FILE || is_heading(table, holder());
+    record[0] == 2 && !(is_heading(table, two(record, 4)) && stands())
+}
+
+/// The headings that a chain of entries from some user's base files reaches, and 65,535.
+pub fn reached(table: &[u8]) -> BTreeSet<u16> {
+    let mut reached = BTreeSet::from([BASE_FILE]);
+    loop {
+        let before = reached.len();
+        for entry in table.chunks_exact(32).filter(|record| record[0] == 2) {
+            if reached.contains(&two(entry, 2)) {
+                reached.insert(two(entry, 4));
+            }
+        }
+        if reached.len() == before {
+            return reached;
+        }
+    }
+}
+
+/// The table without the records that this test picks out by their numbers; how many these are.
+fn clear(table: &mut [u8], test: impl Fn(u16, &[u8]) -> bool) -> usize {
+    let numbered = (0..).zip(table.chunks_exact_mut(32));
+    let picked = numbered.filter(|(number, record)| test(*number, record));
+    picked.map(|(_, record)| record.fill(0)).count()
+}
+
+/// The table without its entries that are adrift; how many these are.
+fn clear_entries(table: &mut [u8]) -> usize {
+    let before = table.to_vec();
+    clear(table, |_, record| is_adrift(&before, record))
+}
+
+/// The same of the headings that no entry names.
+fn clear_headings(table: &mut [u8]) -> usize {
+    let entries = table.chunks_exact(32).filter(|record| record[0] == 2);
+    let named: BTreeSet<u16> = entries.map(|entry| two(entry, 4)).collect();
+    clear(table, |n, record| record[0] == 1 && !named.contains(&n))
+}
+
+/// In how many rounds entries and headings are mended away.
+pub fn rounds(table: &[u8]) -> usize {
+    let mut left = table.to_vec();
+    let mut round = || clear_entries(&mut left) + clear_headings(&mut left);
+    std::iter::repeat_with(&mut round)
+        .take_while(|gone| *gone > 0)
+        .count()
 }

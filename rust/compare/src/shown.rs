@@ -56,6 +56,7 @@ fn case(f: &mut fmt::Formatter, case: &Case) -> fmt::Result {
 fn outcome(f: &mut fmt::Formatter, program: &str, case: &Case, outcome: &Outcome) -> fmt::Result {
     let call = match (&case.asked, case.from) {
         _ if case.sought.is_some() => "look_up(&table, &index, heading, user, name)",
+        (None, None) if case.sweep => "sweep(&mut table, &mut index, stop)",
         (None, None) => "mend(&mut table, &mut index, stop)",
         (None, Some(Layout::Old)) => "to_six(&mut table)",
         (None, Some(Layout::Six)) => "from_six(&mut table)",

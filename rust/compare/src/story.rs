@@ -2,7 +2,7 @@
 
 use beside::Layout;
 use random::names::{misname, misname_before};
-use random::{counts, destroys, lists, requests, rewrites, shelves, trees, Random};
+use random::{counts, damage, destroys, lists, loops, requests, rewrites, shelves, trees, Random};
 
 use crate::case::{must_not_be, Asked, Case, Comparison, Difference, Sought};
 use crate::cut::cut_everywhere;
@@ -70,6 +70,9 @@ impl<'a> Story<'a> {
             }
             if self.lists.once_in(4) {
                 self.with_another_list(asked.clone())?;
+            }
+            if self.lists.once_in(6) {
+                self.with_a_tree_cut_off()?;
             }
             self.looked_up()?;
             match self.random.once_in(5) {
@@ -160,6 +163,21 @@ impl<'a> Story<'a> {
             self.stale = case.index;
         }
         Ok(())
+    }
+
+    /// Mending of a copy of the table in which a tree, or several, are cut off or stand in no heading.
+    fn with_a_tree_cut_off(&mut self) -> Told {
+        let mut table = self.table.clone();
+        for _ in 0..self.lists.pick(&[1, 1, 1, 2, 3]) {
+            loops::unhook(&mut self.lists, &mut table);
+        }
+        if self.lists.once_in(4) {
+            damage::damage(&mut self.lists, &mut table);
+        }
+        let mend = Case::mend(&table, filebox::NO_STOP);
+        let mended = self.comparison.compare(&mend)?;
+        let stop = self.lists.below(mended.stores() as usize + 1) as u32;
+        self.comparison.compare(&mend.stopped(stop)).map(|_| ())
     }
 
     /// Names looked up through the true list; now and then through another one, or in a table that is cut off or whose entries are none.

@@ -215,6 +215,44 @@ pub fn withdrawn() -> Vec<u8> {
     table
 }
 
+/// Directories that no base file reaches. In ATTIC, which only its own entry names, are a sheet with text, one marked, a shut directory that
+/// links back, and links to `.R` and to a sheet in it; OLD and NEW name each other. User 2 has a loop that he reaches and one that he lost.
+pub fn attic() -> Vec<u8> {
+    let mut table = vec![0; 72 * 32];
+    let lines = [
+        "CRD .R",
+        "WRS M .R:A",
+        "CRD .R:D",
+        "WRS M .R:D:A",
+        "CRD .R:ATTIC",
+        "DUP .R:ATTIC .R:ATTIC:ME",
+        "WRS M .R:ATTIC:A",
+        "WRS M .R:ATTIC:CUT",
+        "CRD .R:ATTIC:SHUT",
+        "DUP .R:ATTIC .R:ATTIC:SHUT:UP",
+        "DUP .R:A .R:ATTIC:KEEP",
+        "DUP .R .R:ATTIC:R",
+        "DUP .R:D .R:ATTIC:D",
+        "DPR .R:ATTIC:SHUT .7",
+        "CRD .OLD",
+        "CRD .OLD:NEW",
+        "DUP .OLD .OLD:NEW:OLD",
+    ];
+    grow(&mut table, lines.map(String::from), &[b's'; 30]);
+    assert_eq!(ask(&mut table, b"WRS* M .R:ATTIC:CUT", b"", 1, 3), 22);
+    let lost = ["DEL .R:ATTIC", "DEL .OLD"].map(String::from);
+    grow(&mut table, lost, b"");
+    let lines = [
+        "CRD .R",
+        "DUP .R .R:ME",
+        "CRD .AB",
+        "DUP .AB .AB:ME",
+        "DEL .AB",
+    ];
+    grow_for(2, &mut table, lines.map(String::from), b"");
+    table
+}
+
 /// A table to begin with.
 pub struct Start {
     pub table: Vec<u8>,
@@ -428,7 +466,7 @@ mod tests {
             &starts.long,
             &starts.sheets,
             &starts.shared,
-            &[starts.nest, starts.knot, starts.withdrawn],
+            &[starts.nest, starts.knot, starts.withdrawn, attic()],
         ];
         for table in all.concat().iter() {
             assert!(beside::sound(table));

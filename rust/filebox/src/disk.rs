@@ -15,6 +15,9 @@
 //! flush, the heading as it is after, a flush. Cut anywhere, it is mended to one of the two tables, or to the table after with that one
 //! file marked and empty.
 //!
+//! A sweep has two phases, which the table before it tells: what differs and was no text, so that entries and headings are cleared, a flush, then what
+//! differs and was text, a flush. Cut anywhere, it is mended to a table that, swept again, is the one after.
+//!
 //! ```
 //! use filebox::disk::{phase, Phase};
 //! use filebox::Table;

@@ -1,8 +1,8 @@
 //! The file box for a fixture's programmer: document 01's requests and mending and document 02's lamp and gives, from
 //! the proved static library.
 //!
-//! [`request`], [`mend`], [`light`] and [`look_up`] are four of the library's calls as they are: slices and numbers in, an [`Answer`], a
-//! [`Light`] or a [`Found`] out; [`disk::phase`] is the fifth, for a host that keeps a table in a file, and [`to_six`] and [`from_six`] are for tables
+//! [`request`], [`mend`], [`sweep`], [`light`] and [`look_up`] are five of the library's calls as they are: slices and numbers in, an [`Answer`], a
+//! [`Light`] or a [`Found`] out; [`disk::phase`] is the sixth, for a host that keeps a table in a file, and [`to_six`] and [`from_six`] are for tables
 //! from before names had six bits a character. [`Table`] holds the bytes of a table, owned or lent, with its index, and has a method for each thing that
 //! a fixture asks. Every call ends and answers, for every table, index, line, text, user and stop number. A box keeps nothing between calls but
 //! the table's bytes and the index, which can be built from them.
@@ -74,6 +74,8 @@
 //!
 //! Destroy a sheet, and every path to it goes. See [`Table::destroy`].
 //!
+//! Sweep what no base file reaches any longer, and its records come back. See [`Table::sweep`].
+//!
 //! Look a name up by the sorted index, in at most 12 comparisons. See [`Table::look_up`].
 //!
 //! A table from before names had six bits a character is not sound; convert it once. See [`Table::to_six`].
@@ -124,6 +126,6 @@ mod table;
 pub use answer::{Answer, Refused};
 pub use index::{index_of, Found, Holder, BASE, PADDING};
 pub use lamp::{Light, NoRecord, NotGreen, Phase, Red, Sheet, Unfit};
-pub use library::{from_six, light, look_up, mend, request, to_six};
+pub use library::{from_six, light, look_up, mend, request, sweep, to_six};
 pub use number::{NoSuchNumber, Number};
 pub use table::{Table, LONGEST_TEXT, MOST_RECORDS, NO_STOP, RECORD_BYTES};

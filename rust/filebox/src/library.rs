@@ -1,4 +1,4 @@
-//! The seven functions of the static library, and the only unsafe code.
+//! The eight functions of the static library, and the only unsafe code.
 //!
 //! The declarations are those of the library's C interface: a lent slice is a pointer and a length, the answer comes by
 //! value. Nothing but reading checks them against the library.
@@ -25,6 +25,13 @@ extern "C" {
         stop: u32,
     ) -> SevenNumbers;
     fn filebox_mend(
+        table: *mut u8,
+        table_len: usize,
+        index: *mut u16,
+        index_len: usize,
+        stop: u32,
+    ) -> SevenNumbers;
+    fn filebox_sweep(
         table: *mut u8,
         table_len: usize,
         index: *mut u16,
@@ -120,9 +127,9 @@ pub fn request(
     Answer::from(seven)
 }
 
-/// Mend a table: clear the entries that name no heading, then the headings that no entry names, then the text of no simple file or of a marked one, and correct
-/// the counts in the headings that are left. Exactly the first `stop` stores are made; a mend that was cut is run again. A table without counts is brought up to
-/// date by one mend.
+/// Mend a table, in rounds: clear the entries that name no heading or, base files' apart, whose directory is no heading, then the headings that no entry
+/// names, then the text of no simple file or of a marked one, until nothing is left to clear; then correct the counts in the headings that are left. Exactly
+/// the first `stop` stores are made; a mend that was cut is run again. A table without counts is brought up to date by one mend.
 ///
 /// Done, it builds the index afresh, whatever the list held; only a list of another length than the table has records gets 26. Stopped or
 /// refused, it leaves the list as it was.
@@ -148,6 +155,45 @@ pub fn mend(table: &mut [u8], index: &mut [u16], stop: u32) -> Answer {
     // Sound: as above; both slices are lent `mut`.
     let seven = unsafe {
         filebox_mend(
+            table.as_mut_ptr(),
+            table.len(),
+            index.as_mut_ptr(),
+            index.len(),
+            stop,
+        )
+    };
+    Answer::from(seven)
+}
+
+/// Sweep a table: clear exactly what no chain of entries from any user's base files reaches, whatever the codes on it, entries, then headings, then
+/// text, and correct the counts in the headings that are left. Exactly the first `stop` stores are made; a sweep that was cut, mended and swept again
+/// ends in the same table as one uncut.
+///
+/// Done, it leaves the index true. A table that is not sound, or a list that is not its true index, is refused, by 1, 2 or 26, and nothing is done; stopped,
+/// the list is as it was, for [`mend`] to build afresh. [`Table::sweep`](crate::Table::sweep) needs no index.
+///
+/// ```
+/// use filebox::{mend, request, sweep, Number, NO_STOP, PADDING};
+///
+/// let (mut table, mut index) = ([0; 4 * 32], [PADDING; 4]);
+/// // a directory that holds itself, and its base file deleted
+/// for line in ["CRD .R", "DUP .R .R:LOOP", "DEL .R"] {
+///     assert_eq!(request(&mut table, &mut index, line.as_bytes(), b"", &mut [], 1, NO_STOP).number, Number::Done);
+/// }
+/// assert_eq!(index, [2, PADDING, PADDING, PADDING]);
+/// let cut = sweep(&mut table, &mut index, 1);
+/// assert_eq!((cut.number, cut.stores), (Number::Stopped, 1));
+/// // without its entry the heading is unnamed, and goes with the mend
+/// assert_eq!(mend(&mut table, &mut index, NO_STOP).stores, 1);
+/// assert_eq!(sweep(&mut table, &mut index, NO_STOP).stores, 0);
+/// assert_eq!((table, index), ([0; 4 * 32], [PADDING; 4]));
+/// assert_eq!(sweep(&mut table, &mut index[..3], NO_STOP).number, Number::Index);
+/// ```
+#[must_use = "the answer may be a refusal"]
+pub fn sweep(table: &mut [u8], index: &mut [u16], stop: u32) -> Answer {
+    // Sound: as above; both slices are lent `mut`.
+    let seven = unsafe {
+        filebox_sweep(
             table.as_mut_ptr(),
             table.len(),
             index.as_mut_ptr(),

@@ -4,7 +4,7 @@ use std::hash::{Hash, Hasher};
 
 use crate::answer::{Answer, Refused};
 use crate::index::{index_of, PADDING};
-use crate::library::{from_six, mend, request, to_six};
+use crate::library::{from_six, mend, request, sweep, to_six};
 use crate::number::Number;
 
 /// "The table is records of 32 bytes".
@@ -14,7 +14,7 @@ pub const MOST_RECORDS: usize = 2_048;
 /// The longest text of a file, in bytes.
 pub const LONGEST_TEXT: usize = 24_000;
 /// A stop number that no call reaches: a request makes fewer than 4,096 stores (a DST of eight names clears a record once, and stores at most a
-/// count for each entry that it clears), a mend at most 2,048. `FILEBOX_NO_STOP` of the C header.
+/// count for each entry that it clears), a mend or a sweep at most 2,048. `FILEBOX_NO_STOP` of the C header.
 pub const NO_STOP: u32 = 65_535;
 
 /// The bytes of the longest listing: 112 lines of a name of ten characters.
@@ -361,13 +361,45 @@ impl<B: AsMut<[u8]>> Table<B> {
         Ok(&reply[..answer.bytes])
     }
 
-    /// Mend the table, as the first thing after the power is back.
+    /// Mend the table, as the first thing after the power is back. See [`mend`].
     pub fn mend(&mut self) -> Result<Answer, Refused> {
         let bytes = self.as_mut();
         let mut index = vec![PADDING; bytes.len() / RECORD_BYTES];
         let mended = mend(bytes, &mut index, NO_STOP).granted()?;
         self.index = index;
         Ok(mended)
+    }
+
+    /// Sweep the table: clear exactly what no chain of entries from any user's base files reaches, whatever the codes on it. At most `stop` stores are
+    /// made, [`NO_STOP`] for all. The answer says how many there were, the counts that were corrected among them; none where nothing is lost.
+    /// Stopped (22), the table is mended before it is asked again, and swept again it ends as by one uncut sweep.
+    ///
+    /// A directory that holds itself outlives the one entry that led to it:
+    ///
+    /// ```
+    /// use filebox::{Number, Table, NO_STOP};
+    ///
+    /// let mut table = Table::free(16);
+    /// table.ask(1, "CRD .R").unwrap();
+    /// let before = table.clone();
+    /// table.ask(1, "CRD .R:LINE1").unwrap();
+    /// table.file(1, "M", ".R:LINE1:LIMITS", b"5.0 V").unwrap();
+    /// table.ask(1, "DUP .R:LINE1 .R:LINE1:LOOP").unwrap();
+    /// table.ask(1, "DEL .R:LINE1").unwrap();
+    /// assert_ne!(table, before);
+    /// assert_eq!(table.clone().sweep(2).unwrap_err().answer().number, Number::Stopped);
+    /// // two entries, two headings, one text
+    /// assert_eq!(table.sweep(NO_STOP).unwrap().stores, 5);
+    /// assert_eq!(table, before);
+    /// assert_eq!(table.sweep(NO_STOP).unwrap().stores, 0);
+    /// ```
+    pub fn sweep(&mut self, stop: u32) -> Result<Answer, Refused> {
+        let (bytes, index) = self.lent();
+        let answer = sweep(bytes, index, stop);
+        if answer.number == Number::Stopped {
+            self.index.clear();
+        }
+        answer.granted()
     }
 
     /// A table of the old layout, a byte for each character of a name, converted to six-bit names; every request of the old one answers

@@ -10,7 +10,7 @@ use crate::convert::convert;
 use crate::desk::say;
 use crate::serving::{serve, Served};
 use crate::show::show;
-use crate::tools::{ask, job, mend, print};
+use crate::tools::{ask, job, mend, print, sweep};
 
 /// What `--help` says.
 pub const HELP: &str = include_str!("help.txt");
@@ -56,6 +56,7 @@ fn done(words: &[OsString]) -> Result<u8, String> {
             job(&path(1), user(who)?, chain, &files)
         }
         ["mend", _] => mend(&path(1)),
+        ["sweep", _] => sweep(&path(1)),
         ["convert", _] => convert(&path(1)),
         ["show", _] => show(&path(1)),
         [] => Err(usage("no command")),

@@ -3,7 +3,7 @@
 use std::fmt;
 use std::io;
 
-use filebox::{to_six, Answer, Number, Refused, Table, RECORD_BYTES};
+use filebox::{to_six, Answer, Number, Refused, Table, NO_STOP, RECORD_BYTES};
 
 use crate::disk::Disk;
 use crate::phases;
@@ -100,6 +100,17 @@ impl<D: Disk> Kept<D> {
         let (lit, steps) = job.steps(&self.table);
         self.store(steps)?;
         Ok(lit)
+    }
+
+    /// Sweep what no base file reaches. It is answered when it is on the disk. After a disk error it has no answer: what the disk holds is mended
+    /// before the next call, and another sweep ends as this one would have.
+    pub fn sweep(&mut self) -> Result<Answer, Wrong> {
+        self.settle()?;
+        let mut after = self.table.clone();
+        let refused = |refused: Refused| Wrong::refused(refused.answer().number, self.table());
+        let answer = after.sweep(NO_STOP).map_err(refused)?;
+        self.store(vec![Step::Sweep(after)])?;
+        Ok(answer)
     }
 
     /// After a disk error: what the disk holds, mended.

@@ -8,9 +8,12 @@ use filebox::RECORD_BYTES;
 use crate::disk::Disk;
 use crate::steps::Step;
 
+/// Byte 0 of a text record.
+const TEXT: u8 = 3;
+
 /// Write one step on the table before it, phase after phase, a flush after each; a phase without a record has no flush. Cut anywhere,
 /// with any part of what was not flushed on the disk, mending gives the table before or after; of a rewrite, from its first
-/// phase to its last, the table after with that one file marked and empty.
+/// phase to its last, the table after with that one file marked and empty; of a sweep a table that, swept again, is the one after.
 pub fn write(disk: &mut impl Disk, before: &[u8], step: &Step) -> io::Result<()> {
     match step {
         Step::Whole(after) => write_whole(disk, before, after.as_ref()),
@@ -23,6 +26,7 @@ pub fn write(disk: &mut impl Disk, before: &[u8], step: &Step) -> io::Result<()>
             write_differing(disk, before, headless.as_ref())?;
             write_differing(disk, headless.as_ref(), after.as_ref())
         }
+        Step::Sweep(after) => write_swept(disk, before, after.as_ref()),
     }
 }
 
@@ -40,15 +44,30 @@ fn write_whole(disk: &mut impl Disk, before: &[u8], after: &[u8]) -> io::Result<
     Ok(())
 }
 
+/// Of a sweep: first the entries and headings, cleared or counted anew, then the text. Text that went before its heading would leave a file
+/// that mending does not make sound.
+fn write_swept(disk: &mut impl Disk, before: &[u8], after: &[u8]) -> io::Result<()> {
+    for now in [false, true] {
+        let was_text = |number: usize| before[number * RECORD_BYTES] == TEXT;
+        let of_now = differing(before, after).filter(|(number, _)| was_text(*number) == now);
+        write_all(disk, of_now)?;
+    }
+    Ok(())
+}
+
 /// Write what differs, which may land in any order: one flush. What mending cleared or counted anew, or one phase of a rewrite or of a DST.
 pub fn write_differing(disk: &mut impl Disk, before: &[u8], after: &[u8]) -> io::Result<()> {
+    write_all(disk, differing(before, after))
+}
+
+/// The records that differ, by number, as they are after.
+fn differing<'a>(before: &'a [u8], after: &'a [u8]) -> impl Iterator<Item = (usize, &'a [u8])> {
     let old = before.chunks(RECORD_BYTES);
     let new = after.chunks(RECORD_BYTES);
-    let differing = new
-        .enumerate()
-        .zip(old)
-        .filter(|((_, new), old)| new != old);
-    write_all(disk, differing.map(|(new, _)| new))
+    let pairs = new.enumerate().zip(old);
+    pairs
+        .filter(|((_, new), old)| new != old)
+        .map(|(new, _)| new)
 }
 
 /// Write these records, and flush if there is one.

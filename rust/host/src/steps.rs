@@ -1,10 +1,10 @@
 //! The tables between a call's start and its end: after each name of a DEL or a DST, after each sheet of a job, and between the phases of a
-//! rewrite and of a DST.
+//! rewrite and of a DST; and the table after a sweep.
 
 use filebox::{Answer, NotGreen, Number, Phase, Sheet, Table, NO_STOP, RECORD_BYTES};
 
-/// What is written as one: cut anywhere, mending gives the table before it or after it, or, of a rewrite, after it with that one file marked
-/// and empty.
+/// What is written as one: cut anywhere, mending gives the table before it or after it; of a rewrite perhaps after it with that one file marked
+/// and empty, of a sweep perhaps one that is swept to the table after it.
 #[derive(Debug, Clone, PartialEq, Eq)]
 pub enum Step {
     /// The table after a request, one name of a DEL, or one sheet of a job. Which record is written when is told by the tables before and after.
@@ -15,13 +15,16 @@ pub enum Step {
     /// One name of a DST: the tables with its heading cleared, and after it. It is the heading that counts, and entries may be many, so that the
     /// tables before and after do not tell.
     Destroy([Table; 2]),
+    /// The table after a sweep. What a record was before says when it is written.
+    Sweep(Table),
 }
 
 impl Step {
     /// The table after it, with its index.
     pub fn after(self) -> Table {
         match self {
-            Step::Whole(after) | Step::Rewrite([_, _, after]) | Step::Destroy([_, after]) => after,
+            Step::Whole(after) | Step::Sweep(after) => after,
+            Step::Rewrite([_, _, after]) | Step::Destroy([_, after]) => after,
         }
     }
 }

@@ -1,10 +1,10 @@
-//! The commands that do one thing to a table's file: `ask`, `job` and `mend`.
+//! The commands that do one thing to a table's file: `ask`, `job`, `mend` and `sweep`.
 
 use std::fs::File;
 use std::io::{stdout, Read, Write};
 use std::path::{Path, PathBuf};
 
-use filebox::{NotGreen, Sheet, LONGEST_TEXT};
+use filebox::{NotGreen, Sheet, LONGEST_TEXT, RECORD_BYTES};
 
 use crate::desk::say;
 use crate::disk::TableFile;
@@ -116,6 +116,26 @@ pub fn mend(path: &Path) -> Result<u8, String> {
     let (kept, mended) = open::open(path)?;
     print(format!("{}\n", mending(path, &kept, mended)).as_bytes())?;
     Ok(0)
+}
+
+/// Sweep a table, and say how many records came back.
+pub fn sweep(path: &Path) -> Result<u8, String> {
+    let mut kept = opened(path)?;
+    let before = free(kept.table());
+    kept.sweep().map_err(|wrong| open::wrong(path, &wrong))?;
+    let records = kept.table().len() / RECORD_BYTES;
+    let said = match free(kept.table()) - before {
+        0 => "nothing to sweep".to_string(),
+        1 => "swept: 1 record came back".to_string(),
+        back => format!("swept: {back} records came back"),
+    };
+    print(format!("{}: {records} records, {said}\n", path.display()).as_bytes())?;
+    Ok(0)
+}
+
+/// How many records are free.
+fn free(table: &[u8]) -> usize {
+    table.chunks(RECORD_BYTES).filter(|r| r[0] == 0).count()
 }
 
 /// Write to standard output.

@@ -7,12 +7,13 @@ use std::process::Command;
 use common::{ended, held, run, table, Folder};
 
 /// Every command that opens a table, with this one.
-fn commands<'a>(path: &'a str, sheet: &'a str) -> [Vec<&'a str>; 6] {
+fn commands<'a>(path: &'a str, sheet: &'a str) -> [Vec<&'a str>; 7] {
     [
         vec!["serve", path],
         vec!["ask", path, "1", "CRD .R"],
         vec!["job", path, "1", ".R", sheet],
         vec!["mend", path],
+        vec!["sweep", path],
         vec!["convert", path],
         vec!["show", path],
     ]
@@ -39,9 +40,9 @@ fn a_length_that_no_table_has() {
 fn a_table_that_is_not_to_be_mended() {
     let folder = Folder::new();
     let sheet = folder.file("sheet", b"5.0 V");
-    // an entry of a sheet, in a directory that is none
+    // an entry of a sheet in that very sheet, a heading and no directory
     let mut astray = [0; 64];
-    astray[..5].copy_from_slice(&[2, 0, 5, 0, 1]);
+    astray[..5].copy_from_slice(&[2, 0, 1, 0, 1]);
     astray[16..18].copy_from_slice(&[64, 8]);
     astray[32..37].copy_from_slice(&[1, 1, 0, 0, 1]);
     let text = vec![b'#'; 1_024];
@@ -167,11 +168,13 @@ fn a_full_disk() {
 fn a_command_line_that_is_none() {
     let folder = Folder::new();
     let path = folder.at("line.table");
-    let bad: [&[&str]; 16] = [
+    let bad: [&[&str]; 18] = [
         &[],
         &["serve"],
         &["dance", &path],
         &["mend", &path, "now"],
+        &["sweep"],
+        &["sweep", &path, "1"],
         &["convert"],
         &["convert", &path, "back"],
         &["ask", &path, "1"],

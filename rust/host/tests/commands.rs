@@ -1,4 +1,4 @@
-//! `ask`, `job`, `mend`, `convert`, `show` and `--help`.
+//! `ask`, `job`, `mend`, `sweep`, `convert`, `show` and `--help`.
 
 mod common;
 
@@ -197,6 +197,54 @@ fn mend_mends_and_says_what() {
         run(&["mend", &path]).out(),
         format!("{path}: 16 records, nothing to mend\n")
     );
+}
+
+/// A directory that holds itself, with a sheet of 30 bytes in it, which its base file no longer leads to; and `.T`.
+const LOST: [(&str, &[u8]); 5] = [
+    ("CRD .R", b""),
+    ("WRS M .R:A", &[b'x'; 30]),
+    ("DUP .R .R:LOOP", b""),
+    ("DEL .R", b""),
+    ("CRD .T", b""),
+];
+
+#[test]
+fn sweep_says_how_many_records_came_back() {
+    let folder = Folder::new();
+    let path = folder.file("line.table", &table(16, &LOST));
+    let ran = run(&["sweep", &path]);
+    // two headings, two entries, two texts
+    let said = format!("{path}: 16 records, swept: 6 records came back\n");
+    assert_eq!((ran.status, ran.out(), &ran.err[..]), (0, said, ""));
+    assert_eq!(
+        run(&["ask", &path, "1", "LST ."]).out(),
+        "0 0 0 1 0 13 0\nDM.U0    .T\r\n"
+    );
+    let drawn = run(&["show", &path]).out();
+    assert!(drawn.contains(". free 14, D directories 1, F files 0, e entries 1, t text 0"));
+    let before = held(&path);
+    let ran = run(&["sweep", &path]);
+    let said = format!("{path}: 16 records, nothing to sweep\n");
+    assert_eq!((ran.status, ran.out()), (0, said));
+    assert_eq!(held(&path), before);
+}
+
+#[test]
+fn sweep_mends_first_and_a_cut_one_is_swept_again() {
+    let folder = Folder::new();
+    let lost = table(16, &LOST);
+    let mut uncut = filebox::Table::of(lost.clone());
+    uncut.sweep(filebox::NO_STOP).unwrap();
+    for stop in 1..6 {
+        let mut cut = filebox::Table::of(lost.clone());
+        let answer = cut.sweep(stop).unwrap_err().answer();
+        assert_eq!(answer.stores, stop);
+        let path = folder.file("cut", cut.as_ref());
+        let ran = run(&["sweep", &path]);
+        assert!(ran.err.contains("mended: "), "{ran:?}");
+        assert_eq!(ran.status, 0);
+        assert_eq!(held(&path), uncut.as_ref(), "cut at {stop}");
+    }
 }
 
 #[test]
@@ -444,6 +492,7 @@ fn help_says_every_command_and_its_examples_work() {
         "ask",
         "job",
         "mend",
+        "sweep",
         "convert",
         "show",
         "--records",

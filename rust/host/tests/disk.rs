@@ -310,6 +310,61 @@ fn opening_clears_the_entries_that_a_cut_dst_left() {
     assert_eq!(calls, "0 1 2 3 4 5 6 7 | 0 3 4 5 |");
 }
 
+/// A table of 16 records: `.T` with the sheet B in it, and, led to by no base file, a directory that holds itself, the sheet A of 30 bytes, and B.
+fn lost() -> Vec<u8> {
+    let requests: [(&str, &[u8]); 7] = [
+        ("CRD .R", b""),
+        ("WRS M .R:A", &[b'x'; 30]),
+        ("DUP .R .R:LOOP", b""),
+        ("CRD .T", b""),
+        ("WRS M .T:B", b"y"),
+        ("DUP .T:B .R:B", b""),
+        ("DEL .R", b""),
+    ];
+    table(16, &requests)
+}
+
+/// What a sweep leaves of it.
+fn swept() -> Vec<u8> {
+    let mut table = filebox::Table::of(lost());
+    assert_eq!(table.sweep(filebox::NO_STOP).unwrap().stores, 8);
+    table.into_bytes()
+}
+
+#[test]
+fn a_sweep_clears_entries_and_headings_then_text() {
+    let (mut kept, disk) = kept(&lost());
+    assert_eq!(kept.sweep().unwrap().numbers(), [0, 0, 0, 0, 0, 0, 8]);
+    // the loop's heading and A's, the entries A and LOOP, B counted anew, its entry in the loop; then A's text
+    assert_eq!(disk.calls.borrow().join(" "), "0 2 5 6 9 12 | 3 4 |");
+    assert_eq!(kept.table(), swept());
+    assert_eq!(&disk.bytes.borrow()[..], kept.table());
+    disk.calls.borrow_mut().clear();
+    assert_eq!(kept.sweep().unwrap().stores, 0);
+    assert_eq!(disk.calls.borrow().join(" "), "");
+    // the index is that of the table after
+    let answer = ask(&mut kept, "RDS .T:B", b"").unwrap();
+    assert_eq!((answer.number, answer.bytes), (Number::Done, 1));
+}
+
+#[test]
+fn after_a_disk_error_in_a_sweep_another_one_ends_as_it_would_have() {
+    // six records, a flush, two of text, a flush
+    for fails in 0..10 {
+        let (mut kept, disk) = kept(&lost());
+        *disk.fails.borrow_mut() = Some(fails);
+        let Err(Wrong::Disk(_)) = kept.sweep() else {
+            panic!("answered, though call {fails} failed");
+        };
+        // it is a table as any
+        let answer = ask(&mut kept, "RDS .T:B", b"").unwrap();
+        assert_eq!((answer.number, answer.bytes), (Number::Done, 1));
+        assert_eq!(kept.sweep().unwrap().number, Number::Done);
+        assert_eq!(kept.table(), swept(), "call {fails}");
+        assert_eq!(&disk.bytes.borrow()[..], kept.table());
+    }
+}
+
 #[test]
 fn a_job_goes_sheet_by_sheet() {
     let (mut kept, disk) = kept(&table(12, &[("CRD .R", b"")]));

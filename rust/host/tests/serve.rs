@@ -143,11 +143,12 @@ fn a_second_host_is_refused() {
     let sheet = folder.file("sheet", b"5.0 V");
     let _serving = Serving::start(&["serve", &path], 2);
     let before = held(&path);
-    let seconds: [&[&str]; 5] = [
+    let seconds: [&[&str]; 6] = [
         &["serve", &path],
         &["ask", &path, "1", "CRD .R"],
         &["job", &path, "1", ".R", &sheet],
         &["mend", &path],
+        &["sweep", &path],
         &["show", &path],
     ];
     for words in seconds {

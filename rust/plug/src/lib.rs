@@ -6,7 +6,7 @@
 
 //!
 //! The second half drives the host of `rust/host` itself: its writing over a disk that keeps writes back and lets any of them
-//! land ([`reorder`](reorder::reorder)), and the program under fourteen clients, whole or killed ([`crowd`]).
+//! land ([`reorder`](reorder::reorder), [`sweeps`](sweeps::sweeps)), and the program under fourteen clients, whole or killed ([`crowd`]).
 
 pub mod crowd;
 pub mod fixture;
@@ -18,6 +18,7 @@ pub mod reorder;
 mod second;
 mod seen;
 mod sent;
+pub mod sweeps;
 mod wire;
 
 pub use fixture::{pull, Counts};

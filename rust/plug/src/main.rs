@@ -2,7 +2,7 @@
 //! is that host.
 //!
 //! `plug reorder [REQUESTS [SEED]]`: the writing of `rust/host` over a disk that lets any of its writes land. `plug rewrites [REQUESTS
-//! [SEED]]`, `plug destroys [REQUESTS [SEED]]`: the same, mostly WRS*, mostly DST.
+//! [SEED]]`, `plug destroys [REQUESTS [SEED]]`: the same, mostly WRS*, mostly DST. `plug sweeps [SWEEPS [SEED]]`: sweeps over such a disk.
 //! `plug crowd [REQUESTS [SEED]]`: `filebox-host` under fourteen clients with so many requests each. `plug killed [KILLS
 //! [SEED]]`: the same, killed. `plug serve ..` is `filebox-host serve ..`.
 
@@ -10,10 +10,11 @@ use std::path::Path;
 use std::process::ExitCode;
 
 use plug::reorder::reorder;
+use plug::sweeps::sweeps;
 use plug::About;
 
 fn usage() -> String {
-    "plug [KILLS [SEED]], plug reorder|rewrites|destroys|crowd|killed [COUNT [SEED]], or plug host FILE"
+    "plug [KILLS [SEED]], plug reorder|rewrites|destroys|sweeps|crowd|killed [COUNT [SEED]], or plug host FILE"
         .to_string()
 }
 
@@ -37,13 +38,14 @@ fn pull(program: &Path, words: &[&str]) -> Result<(), String> {
     }
 }
 
-/// The host of `rust/host`, tried in one of five ways.
+/// The host of `rust/host`, tried in one of six ways.
 fn hosted(program: &Path, way: &str, words: &[&str]) -> Result<(), String> {
     let (count, seed) = numbers(words, 1_000)?;
     let seen = match way {
         "reorder" => format!("{:?}", reorder(About::Anything, count, seed, None)?),
         "rewrites" => format!("{:?}", reorder(About::Rewrites, count, seed, None)?),
         "destroys" => format!("{:?}", reorder(About::Destroys, count, seed, None)?),
+        "sweeps" => format!("{:?}", sweeps(count, seed, None)?),
         "crowd" => format!("{:?}", plug::crowd::whole(program, count as usize, seed)?),
         _ => format!("{:?}", plug::crowd::killed(program, count, seed)?),
     };
@@ -55,7 +57,7 @@ fn tried(words: &[&str]) -> Result<(), String> {
     let program = std::env::current_exe().map_err(|error| error.to_string())?;
     match *words {
         ["host", file] => plug::host::serve(Path::new(file)).map_err(|error| error.to_string()),
-        [way @ ("reorder" | "rewrites" | "destroys" | "crowd" | "killed"), ref rest @ ..] => {
+        [way @ ("reorder" | "rewrites" | "destroys" | "sweeps" | "crowd" | "killed"), ref rest @ ..] => {
             hosted(&program, way, rest)
         }
         _ => pull(&program, words),

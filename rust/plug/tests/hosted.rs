@@ -3,6 +3,7 @@
 use std::path::Path;
 
 use plug::reorder::reorder;
+use plug::sweeps::sweeps;
 use plug::{crowd, About};
 
 fn program() -> &'static Path {
@@ -41,6 +42,25 @@ fn any_part_of_a_dst_is_mended_to_the_table_before_or_after_some_of_its_names() 
         "{tried:?}"
     );
     assert!(tried.flushes <= 3 * tried.changing, "{tried:?}");
+}
+
+#[test]
+fn any_part_of_a_sweep_is_mended_and_swept_again_to_the_table_after() {
+    let tried = sweeps(300, 1971, None).expect("every pull");
+    println!("{tried:?}");
+    assert!(
+        tried.losing > 200 && tried.texts > 200 && tried.halves > 100_000,
+        "{tried:?}"
+    );
+    assert!(tried.flushes <= 2 * tried.losing, "{tried:?}");
+}
+
+/// The flush between a sweep's headings and its text left out is found; the one at its end is for what comes after it.
+#[test]
+fn one_flush_fewer_in_a_sweep_is_found() {
+    let found = sweeps(300, 1971, Some(0)).expect_err("found");
+    println!("without flush 0: {found}");
+    assert!(found.contains("mending does not make it sound"), "{found}");
 }
 
 /// A flush of each request left out is found, and where it is a rewrite's or a DST's. A DST's second flush is for what comes after it.

@@ -6,6 +6,7 @@ pub mod damage;
 pub mod destroys;
 pub mod lines;
 pub mod lists;
+pub mod loops;
 pub mod names;
 pub mod parts;
 pub mod requests;
@@ -343,5 +344,49 @@ mod tests {
         assert!(made
             .iter()
             .all(|table| headings(table) == headings(&small())));
+    }
+
+    #[test]
+    fn every_kind_of_line_that_makes_and_loses_loops_comes() {
+        let mut random = Random::new(1);
+        let lines: Vec<Vec<u8>> = (0..3_000)
+            .map(|_| loops::about(&mut random, &small(), 1))
+            .collect();
+        for line in [
+            "CRD .R:A",
+            "DUP .R .R:B",
+            "DUP .R .R:A",
+            "DEL .R",
+            "DEL .R:A .R",
+            "WRS M .R:AB",
+            "WRS M .R:A",
+            "DPR .R .7",
+        ] {
+            assert!(lines.iter().any(|met| met == line.as_bytes()), "{line}");
+        }
+    }
+
+    #[test]
+    fn trees_are_cut_off() {
+        let mut random = Random::new(1);
+        let mut met = [0; 4];
+        for _ in 0..3_000 {
+            let mut table = small();
+            loops::unhook(&mut random, &mut table);
+            let differ = (0..5).filter(|at| table[at * 32..][..32] != small()[at * 32..][..32]);
+            let differ: Vec<usize> = differ.collect();
+            assert!(differ.len() < 2, "{differ:?}");
+            match differ.first() {
+                Some(1) => met[0] += 1,
+                Some(2) if table[64] == 0 => met[1] += 1,
+                Some(2) => met[2] += 1,
+                Some(0) => met[3] += 1,
+                _ => {}
+            }
+        }
+        assert!(met.iter().all(|times| *times > 50), "{met:?}");
+        loops::unhook(&mut random, &mut []);
+        loops::unhook(&mut random, &mut [1; 32]);
+        loops::unhook(&mut random, &mut [3; 32]);
     }
 }

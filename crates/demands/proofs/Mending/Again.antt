@@ -4,22 +4,22 @@ use mathlib.Core.Bool.{Bool}
 use mathlib.Core.List.{List, _++_}
 use mathlib.Core.Logic.{_⊎_, inl, inr}
 use mathlib.Core.Path.{_≡_, refl, sym, _∙_}
-use Prim.Native.Nat.{ℕ, _<_}
+use Prim.Native.Nat.{ℕ, zero, suc, _<_}
 use native.Mathlib.Omega.{arith}
 use lib.ListN.{length, take}
 use Rattle.paper.specs.Record.{blank}
 use Rattle.paper.specs.Table.{rooms, rec}
 use Rattle.paper.specs.Store.{Store, clears, run}
 use Rattle.paper.specs.Count.{recounted, recounts}
-use Rattle.paper.specs.Mend.{adrift, orphan, stray, wiped, mendFirst, mendSecond, mendThird, after₁, after₂, clearStores, cleared, mendStores, mended}
+use Rattle.paper.specs.Mend.{adrift, orphan, stray, wiped, mendFirst, mendSecond, mendThird, after₁, after₂, roundStores, round, roundsStores, clearStores, cleared, mendStores, mended}
 use Rattle.laws.proofs.Lists.{Every, every-append, every-imp, every-take}
 use Rattle.laws.proofs.Lay.{Whole, length-rec, kind-blank}
 use Rattle.laws.proofs.Runs.{Lays, run-each, length-run, rooms-run}
 use Rattle.laws.proofs.Recounts.{Recount, every-recounts}
-use Rattle.demands.proofs.Mending.Wipe.{rec-wiped, Blanks, every-clears, cleared-is, mended-is}
+use Rattle.demands.proofs.Mending.Wipe.{rec-wiped, Blanks, every-clears, round-is, rounds-next, mended-is}
 use Rattle.demands.proofs.Mending.Part.{Alike, equal, counts, Below, free, stays, Less}
 use Rattle.demands.proofs.Mending.Counts.{alike-sym, alike-trans, is-blank, but-recount, recounts-each}
-use Rattle.demands.proofs.Mending.Less.{less-refl, less-trans, below-trans, less-free, less₁, less₂, less₁₂, less₃, cleared-less, mended-less}
+use Rattle.demands.proofs.Mending.Less.{less-trans, below-trans, less-free, less₁, less₂, less₁₂, less₃, round-less, rounds-less, cleared-less, mended-less}
 use Rattle.demands.proofs.Mending.Squeeze.{squeeze}
 
 -- ---- stores that tidy s over f: each lays a record alike to the one there, or clears one that is free in f
@@ -87,7 +87,7 @@ mended-twice s w = again-any s (mended s) w (mended-less s .long) (λ i l. inr r
 -- ---- the stores of a mend tidy
 
 -- a step on u, which comes to f
-step-tidies : (s u f : List ℕ) (p : ℕ → Bool) → rooms u ≡ rooms s → Less (wiped p u) f → Every (Tidies f s) (clears p (rooms u))
+pub step-tidies : (s u f : List ℕ) (p : ℕ → Bool) → rooms u ≡ rooms s → Less (wiped p u) f → Every (Tidies f s) (clears p (rooms u))
 step-tidies s u f p e d = every-imp (Lays (Blanks p) (rooms u)) (Tidies f s) (clears p (rooms u)) one (every-clears p (rooms u))
   where
     one : (x : Store) → Lays (Blanks p) (rooms u) x → Tidies f s x
@@ -101,37 +101,51 @@ step-tidies s u f p e d = every-imp (Lays (Blanks p) (rooms u)) (Tidies f s) (cl
           );
         }
 
+-- the round of u, and rounds, whatever comes after them
+round-tidies : (s u f : List ℕ) → rooms u ≡ rooms s → Less (round u) f → Every (Tidies f s) (roundStores u)
+unfolding roundStores
+round-tidies s u f e d =
+    every-append (Tidies f s) (mendFirst u) (mendSecond (after₁ u) ++ mendThird (after₂ u))
+    (step-tidies s u f (adrift u) e
+    (unfold after₁ in less-trans (after₁ u) (after₂ u) f (less₂ u) (less-trans (after₂ u) (round u) f (less₃ u) d)))
+    (every-append (Tidies f s) (mendSecond (after₁ u)) (mendThird (after₂ u))
+    (step-tidies s (after₁ u) f (orphan (after₁ u)) (rw (less₁ u .long) e) (unfold after₂ in less-trans (after₂ u) (round u) f (less₃ u) d))
+    (step-tidies s (after₂ u) f (stray (after₂ u)) (rw (less₁₂ u .long) e) (rw (round-is u) at d)))
+
+rounds-tidy : (n : ℕ) (s u : List ℕ) → rooms u ≡ rooms s → Every (Tidies (run u (roundsStores n u)) s) (roundsStores n u)
+unfolding roundsStores
+rounds-tidy zero s u e = tt
+rounds-tidy (suc n) s u e =
+    rw (rounds-next n u)
+    (every-append (Tidies last s) (roundStores u) (roundsStores n (round u)) (round-tidies s u last e (rounds-less n (round u)))
+    (rounds-tidy n s (round u) (rw (round-less u .long) e)))
+  where
+    last : List ℕ
+    last = run (round u) (roundsStores n (round u))
+
+-- the counts of what is left: a heading there is one of s
+pub count-tidies : (s c : List ℕ) → Less s c → Every (Tidies c s) (recounts c)
+count-tidies s c d = every-imp (Lays (Recount c) (rooms c)) (Tidies c s) (recounts c) one (every-recounts c)
+  where
+    laid : (i : ℕ) (r : List ℕ) → i < rooms s → Recount c i r → Below (rec s i) (rec c i) → Alike (rec s i) r
+    laid i r l h (free z) = let n : ⊥ = omega (arith, kind-blank (rec c i) z, h .1 .0) in absurd n
+    laid i r l h (stays y) =
+        rw (h .0) (alike-trans (rec s i) (rec c i) (recounted c i (rec c i)) y
+        (counts (but-recount c i (rec c i) (length-rec c i (rw (d .long) l)) (h .1 .0))))
+
+    one : (x : Store) → Lays (Recount c) (rooms c) x → Tidies c s x
+    one x h =
+        let l : x .at < rooms s = rw (d .long) at (h .within) in
+        record { within = l; size = h .size; holds = inl (laid (x .at) (x .bytes) l (h .holds) (d .each (x .at) l)) }
+
 module _ (s : List ℕ) where
   clear-tidies : Every (Tidies (cleared s) s) (clearStores s)
-  unfolding clearStores
-  clear-tidies =
-      every-append (Tidies (cleared s) s) (mendFirst s) (mendSecond (after₁ s) ++ mendThird (after₂ s))
-      (step-tidies s s (cleared s) (adrift s) refl (unfold after₁ in less-trans (after₁ s) (after₂ s) (cleared s) (less₂ s) (less₃ s)))
-      (every-append (Tidies (cleared s) s) (mendSecond (after₁ s)) (mendThird (after₂ s))
-      (step-tidies s (after₁ s) (cleared s) (orphan (after₁ s)) (rw (less₁ s .long)) (unfold after₂ in less₃ s))
-      (step-tidies s (after₂ s) (cleared s) (stray (after₂ s)) (rw (less₁₂ s .long)) (rw (cleared-is s) (less-refl _))))
-
-  -- a heading that is left is one of s
-  count-tidies : Every (Tidies (cleared s) s) (recounts (cleared s))
-  count-tidies = every-imp (Lays (Recount (cleared s)) (rooms (cleared s))) (Tidies (cleared s) s) (recounts (cleared s)) one (every-recounts (cleared s))
-    where
-      c : List ℕ
-      c = cleared s
-
-      laid : (i : ℕ) (r : List ℕ) → i < rooms s → Recount c i r → Below (rec s i) (rec c i) → Alike (rec s i) r
-      laid i r l h (free z) = let n : ⊥ = omega (arith, kind-blank (rec c i) z, h .1 .0) in absurd n
-      laid i r l h (stays y) =
-          rw (h .0) (alike-trans (rec s i) (rec c i) (recounted c i (rec c i)) y
-          (counts (but-recount c i (rec c i) (length-rec c i (rw (cleared-less s .long) l)) (h .1 .0))))
-
-      one : (x : Store) → Lays (Recount c) (rooms c) x → Tidies c s x
-      one x h =
-          let l : x .at < rooms s = rw (cleared-less s .long) at (h .within) in
-          record { within = l; size = h .size; holds = inl (laid (x .at) (x .bytes) l (h .holds) (cleared-less s .each (x .at) l)) }
+  unfolding clearStores cleared
+  clear-tidies = rounds-tidy (rooms s) s s refl
 
   pub mend-tidies : Every (Tidies (cleared s) s) (mendStores s)
   unfolding mendStores
-  mend-tidies = every-append (Tidies (cleared s) s) (clearStores s) (recounts (cleared s)) clear-tidies count-tidies
+  mend-tidies = every-append (Tidies (cleared s) s) (clearStores s) (recounts (cleared s)) clear-tidies (count-tidies s (cleared s) (cleared-less s))
 
 -- any of its stores made, in any order
 pub again-run : (s : List ℕ) → Whole s → (ss : List Store) → Every (Tidies (cleared s) s) ss → mended (run s ss) ≡ mended s

@@ -1,6 +1,6 @@
--- Mending takes away what a cut request left, and nothing else. Its three steps find the entries, the headings and the text of the debris, so
--- they leave of s no more than f: f stands between s and what is left of s, and both mend to the same table.
-use mathlib.Core.Bool.{Bool, true, false, _&&_, not}
+-- Mending takes away what a cut request left, and nothing else. One round finds the entries, the headings and the text of the debris, so it
+-- leaves of s no more than f: f stands between s and what the rounds leave of s, and both mend to the same table.
+use mathlib.Core.Bool.{Bool, true, false, _&&_, _||_, not}
 use mathlib.Core.List.{List, []}
 use mathlib.Core.Logic.{_⊎_, inl, inr, by-cases}
 use mathlib.Core.Path.{_≡_, refl, sym, _∙_}
@@ -9,15 +9,15 @@ use native.Mathlib.Omega.{arith}
 use native.Mathlib.Decide.{decLt}
 use lib.ListN.{length}
 use borrow.Author.Tests.{eqb-true, ltb-true}
-use Rattle.paper.specs.Record.{byte, isKind, marked, textLength, simple, names, headingNamed, headingOf, position, blank}
+use Rattle.paper.specs.Record.{byte, isKind, marked, textLength, directory, simple, holderOf, names, headingNamed, headingOf, position, blank}
 use Rattle.paper.specs.Table.{rooms, rec}
 use Rattle.paper.specs.Entry.{named}
 use Rattle.paper.specs.Block.{blocks}
 use Rattle.paper.specs.Store.{run}
 use Rattle.paper.specs.Count.{recounts}
-use Rattle.paper.specs.Sound.{textInPlace}
-use Rattle.paper.specs.Mend.{anchored, adrift, keepsText, orphan, stray, after₁, after₂, clearStores, cleared, mendStores, mended}
-use Rattle.laws.proofs.Tests.{and-left, and-right, and-both, not-both, false-by}
+use Rattle.paper.specs.Sound.{isBase, textInPlace}
+use Rattle.paper.specs.Mend.{anchored, adrift, keepsText, orphan, stray, after₁, after₂, roundStores, round, cleared, mendStores, mended}
+use Rattle.laws.proofs.Tests.{and-left, and-right, and-both, and-no-left, or-cases, or-left, or-right, not-both, false-by}
 use Rattle.laws.proofs.Scans.{any-true}
 use Rattle.laws.proofs.Entries.{names-kind, names-heading}
 use Rattle.laws.proofs.Lay.{Whole, rec-past, within}
@@ -25,11 +25,12 @@ use Rattle.laws.proofs.Recounts.{recounts-none}
 use Rattle.demands.proofs.Sound.Clauses.{Sound, heading-marked, named-by}
 use Rattle.demands.proofs.Sound.Right.{Right}
 use Rattle.demands.proofs.Sound.Points.{text-points}
-use Rattle.demands.proofs.Mending.Wipe.{rec-wiped, cleared-is}
+use Rattle.demands.proofs.Mending.Wipe.{rec-wiped, round-is}
 use Rattle.demands.proofs.Mending.Part.{Alike, heading, text, entry, Part, own, loose, Parts, Kept, Below, free, stays, Less}
 use Rattle.demands.proofs.Mending.Counts.{alike-sym, alike-kind, alike-same, alike-names, counts-at}
-use Rattle.demands.proofs.Mending.Less.{below-trans, less-trans, less-free, up-keeps, up-named, less₁, less₂, less₁₂, less₃, cleared-less}
-use Rattle.demands.proofs.Mending.Squeeze.{quiet, still, squeeze}
+use Rattle.demands.proofs.Mending.Less.{below-trans, less-refl, less-trans, less-both, less-free, up-keeps, up-named, adrift-still, orphan-still, stray-still, less₁, less₂, less₁₂, less₃, round-less, round-mono}
+use Rattle.demands.proofs.Mending.Settled.{still-round, still-stores, still}
+use Rattle.demands.proofs.Mending.Squeeze.{quiet, round-cleared, squeeze}
 
 -- a free record keeps no text
 pub keeps-none : keepsText blank ≡ false
@@ -63,15 +64,22 @@ module _ (t : List ℕ) (anchored-all : (i : ℕ) → i < rooms t → byte (rec 
       go false e = refl
 
   -- nothing to clear: the counts are all there is
-  nothing-to-clear : clearStores t ≡ []
+  nothing-to-clear : roundStores t ≡ []
   nothing-to-clear = quiet t no-adrift no-orphan no-stray
 
   only-counts : mendStores t ≡ recounts t
   unfolding mendStores
-  only-counts = rw (nothing-to-clear, still t nothing-to-clear)
+  only-counts = rw (still-stores t nothing-to-clear, still t nothing-to-clear)
 
 pub nothing-to-mend : (t : List ℕ) → Kept t → mendStores t ≡ []
 nothing-to-mend t k = only-counts t (k .entries) (k .headings) (k .texts) ∙ recounts-none t (k .counts)
+
+-- one round is enough
+abbrev pub Once : List ℕ → Type 0
+Once x = roundStores (round x) ≡ []
+
+pub kept-once : (t : List ℕ) → Kept t → Once t
+kept-once t k = let e = nothing-to-clear t (k .entries) (k .headings) (k .texts) in rw (still-round t e) e
 
 pub mended-kept : (t : List ℕ) → Kept t → mended t ≡ t
 unfolding mended run
@@ -99,7 +107,11 @@ keeps-by t c i l k =
 
 anchored-by : (t : List ℕ) → Sound t → (i : ℕ) → i < rooms t → byte (rec t i) 0 ≡ 2 → anchored t (rec t i) ≡ true
 unfolding anchored
-anchored-by t c i l k = rw (c .targets i l k)
+anchored-by t c i l k = rw (c .targets i l k) (go (or-cases (isBase (rec t i)) _ (c .holders i l k)))
+  where
+    go : (isBase (rec t i) ≡ true) ⊎ (directory (rec t (holderOf (rec t i))) ≡ true) → (isBase (rec t i) || isKind 1 (rec t (holderOf (rec t i)))) ≡ true
+    go (inl b) = or-left (isBase (rec t i)) _ b
+    go (inr d) = or-right (isBase (rec t i)) _ (and-left (isKind 1 (rec t (holderOf (rec t i)))) _ d)
 
 pub sound-keeps : (t : List ℕ) → Right t → Kept t
 sound-keeps t c =
@@ -183,25 +195,28 @@ module _ (f s : List ℕ) (w : Whole f) (p : Parts f s) where
       past o = unfold keepsText in rw (rec-past (after₂ s) h (rw (less₁₂ s .long) whole) (rw (less₁₂ s .long, p .long) (omega arith)))
 
   -- after the third
-  under₃ : (i : ℕ) → i < rooms f → Below (rec f i) (rec (after₂ s) i) ⊎ Text f (rec s i) → Below (rec f i) (rec (cleared s) i)
+  under₃ : (i : ℕ) → i < rooms f → Below (rec f i) (rec (after₂ s) i) ⊎ Text f (rec s i) → Below (rec f i) (rec (round s) i)
   under₃ i l = go
     where
       l₂ : i < rooms (after₂ s)
       l₂ = rw (less₁₂ s .long) (inside i l)
 
-      goes : Text f (rec s i) → Below (rec s i) (rec (after₂ s) i) → rec (cleared s) i ≡ blank
-      goes q (free e) = less-free (after₂ s) (cleared s) (less₃ s) i l₂ e
+      goes : Text f (rec s i) → Below (rec s i) (rec (after₂ s) i) → rec (round s) i ≡ blank
+      goes q (free e) = less-free (after₂ s) (round s) (less₃ s) i l₂ e
       goes q (stays y) =
-          rw (cleared-is s)
+          rw (round-is s)
           (rec-wiped (after₂ s) (stray (after₂ s)) i l₂
           ∙ rw (alike-same (rec s i) (rec (after₂ s) i) y (rw (q .0)), q .0, keeps₂ (headingOf (rec s i)) (q .1)))
 
-      go : Below (rec f i) (rec (after₂ s) i) ⊎ Text f (rec s i) → Below (rec f i) (rec (cleared s) i)
-      go (inl b) = below-trans (rec f i) (rec (after₂ s) i) (rec (cleared s) i) b (less₃ s .each i l₂)
+      go : Below (rec f i) (rec (after₂ s) i) ⊎ Text f (rec s i) → Below (rec f i) (rec (round s) i)
+      go (inl b) = below-trans (rec f i) (rec (after₂ s) i) (rec (round s) i) b (less₃ s .each i l₂)
       go (inr q) = free (goes q (less₁₂ s .each i (inside i l)))
 
+  pub round-under : Less f (round s)
+  round-under = record { long = round-less s .long ∙ p .long; each = λ i l. under₃ i l (under₂ i l (p .each i l)) }
+
   pub cleared-under : Less f (cleared s)
-  cleared-under = record { long = cleared-less s .long ∙ p .long; each = λ i l. under₃ i l (under₂ i l (p .each i l)) }
+  cleared-under = less-trans f (round s) (cleared s) round-under (round-cleared s whole)
 
   -- whatever f is, both mend to the same table, which is f where f keeps the clauses
   pub debris : Kept f → mended s ≡ f
@@ -211,6 +226,35 @@ module _ (f s : List ℕ) (w : Whole f) (p : Parts f s) where
   pub between : Kept f → (a : List ℕ) → Less s a → Less a f → mended a ≡ f
   between k a d e = squeeze s a whole d (less-trans a f (cleared s) e cleared-under) ∙ debris k
 
+  -- .. and after its first round there is nothing to clear
+  pub between-once : Kept f → (a : List ℕ) → Less s a → Less a f → Once a
+  between-once k a da e =
+      quiet u
+      (λ i l. none i (adrift u) (adrift f) l (adrift-still u f wu d i) (no-adrift f (k .entries) (k .headings) (k .texts) i))
+      (λ i l. none i (orphan u) (orphan f) l (orphan-still u f wu d i) (no-orphan f (k .entries) (k .headings) (k .texts) i))
+      (λ i l. none i (stray u) (stray f) l (stray-still u f wu d i) (no-stray f (k .entries) (k .headings) (k .texts) i))
+    where
+      u : List ℕ
+      u = round a
+
+      wa : Whole a
+      wa = rw (da .long) whole
+
+      wu : Whole u
+      wu = rw (round-less a .long) wa
+
+      d : Less u f
+      d = rw (still-round f (nothing-to-clear f (k .entries) (k .headings) (k .texts))) at (round-mono a f wa e)
+
+      over : Less f u
+      over = less-trans f (round s) u round-under (round-mono s a whole da)
+
+      none : (i : ℕ) (q r : ℕ → Bool) → i < rooms u → (Alike (rec u i) (rec f i) → q i ≡ true → r i ≡ true) → (i < rooms f → r i ≡ false) → q i ≡ false
+      none i q r l g n = false-by (q i) (λ y. not-both (g (less-both u f d over i l) y) (n (rw (d .long) l)))
+
+  pub one-round : Kept f → Once s
+  one-round k = between-once k s (less-refl s) part-less
+
 -- ---- the debris of one request
 
 -- r is a heading, or text without a heading in f that keeps it
@@ -218,10 +262,10 @@ pub data Loose (f r : List ℕ) : Type 0 where
   head : byte r 0 ≡ 1 → Loose f r
   body : byte r 0 ≡ 3 → keepsText (rec f (headingOf r)) ≡ false → Loose f r
 
--- .. or an entry that names no heading of s
+-- .. or an entry that names no heading of s: one whose directory is none, no request leaves
 pub data Debris (f s r : List ℕ) : Type 0 where
   laid : Loose f r → Debris f s r
-  link : byte r 0 ≡ 2 → anchored s r ≡ false → Debris f s r
+  link : byte r 0 ≡ 2 → isKind 1 (rec s (headingNamed r)) ≡ false → Debris f s r
 
 pub data Left (f s x r : List ℕ) : Type 0 where
   ours : Alike x r → Left f s x r
@@ -229,11 +273,11 @@ pub data Left (f s x r : List ℕ) : Type 0 where
 
 anchored-heading : (t r : List ℕ) → anchored t r ≡ true → isKind 1 (rec t (headingNamed r)) ≡ true
 unfolding anchored
-anchored-heading t r e = e
+anchored-heading t r = and-left (isKind 1 (rec t (headingNamed r))) _
 
-unanchored-no : (t r : List ℕ) → anchored t r ≡ false → isKind 1 (rec t (headingNamed r)) ≡ false
+names-none : (t r : List ℕ) → isKind 1 (rec t (headingNamed r)) ≡ false → anchored t r ≡ false
 unfolding anchored
-unanchored-no t r e = e
+names-none t r = and-no-left (isKind 1 (rec t (headingNamed r))) _
 
 -- where f keeps the clauses no entry of s names a loose heading: its entries are f's, and those name headings of f, or name no heading
 module _ (f s : List ℕ) (k : Kept f) (e : length s ≡ length f) (h : (i : ℕ) → i < rooms f → Left f s (rec f i) (rec s i)) where
@@ -251,7 +295,7 @@ module _ (f s : List ℕ) (k : Kept f) (e : length s ≡ length f) (h : (i : ℕ
           not-both g (rw (names-heading i (rec f j) m, z) (unfold blank in refl))
       at j l n (litter b (laid (head q))) = omega (arith, names-kind i (rec s j) n)
       at j l n (litter b (laid (body q g))) = omega (arith, names-kind i (rec s j) n)
-      at j l n (litter b (link q g)) = not-both (rw (names-heading i (rec s j) n, ki)) (unanchored-no s (rec s j) g)
+      at j l n (litter b (link q g)) = not-both (rw (names-heading i (rec s j) n, ki)) g
 
   pub left-parts : Parts f s
   left-parts = record { long = e; each = λ i l. go i (h i l) }
@@ -260,7 +304,10 @@ module _ (f s : List ℕ) (k : Kept f) (e : length s ≡ length f) (h : (i : ℕ
       go i (ours x) = own x
       go i (litter z (laid (head q))) = loose z (heading q (unnamed i z q))
       go i (litter z (laid (body q g))) = loose z (text q g)
-      go i (litter z (link q g)) = loose z (entry q g)
+      go i (litter z (link q g)) = loose z (entry q (names-none s (rec s i) g))
 
   pub left-mends : Whole f → mended s ≡ f
   left-mends w = debris f s w left-parts k
+
+  pub left-once : Whole f → Once s
+  left-once w = one-round f s w left-parts k

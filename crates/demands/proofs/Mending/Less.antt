@@ -1,26 +1,27 @@
 -- Mending is monotone. Clearing takes headings and names away and brings none, so each test that holds still holds when more is cleared:
--- what goes still goes. So each step of a lesser table leaves a lesser table, and so does all that mending clears.
-use mathlib.Core.Bool.{Bool, true, false, not, cond}
+-- what goes still goes. So each step, each round and any number of rounds of a lesser table leave a lesser table.
+use mathlib.Core.Bool.{Bool, true, false, _||_, not, cond}
 use mathlib.Core.List.{List}
 use mathlib.Core.Logic.{_⊎_, inl, inr, by-cases}
 use mathlib.Core.Path.{_≡_, refl, sym, _∙_}
-use Prim.Native.Nat.{ℕ, _<_}
+use Prim.Native.Nat.{ℕ, zero, suc, _<_}
 use native.Mathlib.Omega.{arith}
 use native.Mathlib.Decide.{decLt}
 use borrow.Author.Tests.{eqb-true}
-use Rattle.paper.specs.Record.{byte, isKind, names, headingNamed, headingOf, blank}
+use Rattle.paper.specs.Record.{byte, isKind, names, holderOf, headingNamed, headingOf, blank}
 use Rattle.paper.specs.Table.{rooms, rec}
 use Rattle.paper.specs.Entry.{named}
 use Rattle.paper.specs.Store.{run}
 use Rattle.paper.specs.Count.{recounts}
-use Rattle.paper.specs.Mend.{anchored, adrift, keepsText, orphan, stray, wiped, after₁, after₂, cleared, mended}
-use Rattle.laws.proofs.Tests.{truth, not-both, and-left, and-right, and-both, either}
+use Rattle.paper.specs.Sound.{isBase}
+use Rattle.paper.specs.Mend.{anchored, adrift, keepsText, orphan, stray, wiped, after₁, after₂, round, roundsStores, cleared, mended}
+use Rattle.laws.proofs.Tests.{truth, not-both, and-left, and-right, and-both, or-cases, or-left, or-right, either}
 use Rattle.laws.proofs.Scans.{any-true, any-here}
 use Rattle.laws.proofs.Lay.{Whole, rec-past}
 use Rattle.laws.proofs.Runs.{length-run, rooms-run}
-use Rattle.demands.proofs.Mending.Wipe.{rec-wiped, cleared-is, mended-is}
+use Rattle.demands.proofs.Mending.Wipe.{rec-wiped, round-is, rounds-next, cleared-is, mended-is}
 use Rattle.demands.proofs.Mending.Part.{Alike, equal, Below, free, stays, Less}
-use Rattle.demands.proofs.Mending.Counts.{alike-trans, alike-kind, alike-keeps, alike-same, is-blank, alike-names, recounts-each}
+use Rattle.demands.proofs.Mending.Counts.{alike-sym, alike-trans, alike-kind, alike-keeps, alike-same, is-blank, alike-names, recounts-each}
 
 -- ---- the order
 
@@ -58,17 +59,17 @@ less-free s a d i l e = go (d .each i l)
 
 -- ---- a test that a blank record does not pass: what passes it passed before
 
-up : (q : List ℕ → Bool) → q blank ≡ false → ((x r : List ℕ) → Alike x r → q r ≡ q x) → (x r : List ℕ) → Below x r → q r ≡ true → q x ≡ true
+pub up : (q : List ℕ → Bool) → q blank ≡ false → ((x r : List ℕ) → Alike x r → q r ≡ q x) → (x r : List ℕ) → Below x r → q r ≡ true → q x ≡ true
 up q z k x r (free e) t = absurd (not-both t (rw e z))
 up q z k x r (stays a) t = sym (k x r a) ∙ t
 
 pub up-keeps : (x r : List ℕ) → Below x r → keepsText r ≡ true → keepsText x ≡ true
 up-keeps = up keepsText (unfold blank keepsText in refl) alike-keeps
 
-up-heading : (x r : List ℕ) → Below x r → isKind 1 r ≡ true → isKind 1 x ≡ true
+pub up-heading : (x r : List ℕ) → Below x r → isKind 1 r ≡ true → isKind 1 x ≡ true
 up-heading = up (isKind 1) (unfold blank in refl) (λ x r a. rw (alike-kind x r a))
 
-up-names : (h : ℕ) (x r : List ℕ) → Below x r → names h r ≡ true → names h x ≡ true
+pub up-names : (h : ℕ) (x r : List ℕ) → Below x r → names h r ≡ true → names h x ≡ true
 up-names h = up (names h) (unfold blank in refl) (alike-names h)
 
 not-down : (a b : Bool) → (a ≡ true → b ≡ true) → not b ≡ true → not a ≡ true
@@ -91,7 +92,16 @@ module _ (s a : List ℕ) (w : Whole s) (d : Less s a) where
 
   up-anchored : (r : List ℕ) → anchored a r ≡ true → anchored s r ≡ true
   unfolding anchored
-  up-anchored r = up-heading (rec s (headingNamed r)) (rec a (headingNamed r)) (below (headingNamed r))
+  up-anchored r e =
+      and-both (isKind 1 (rec s (headingNamed r))) _ (heading (headingNamed r) (and-left (isKind 1 (rec a (headingNamed r))) _ e))
+      (go (or-cases (isBase r) (isKind 1 (rec a (holderOf r))) (and-right (isKind 1 (rec a (headingNamed r))) _ e)))
+    where
+      heading : (h : ℕ) → isKind 1 (rec a h) ≡ true → isKind 1 (rec s h) ≡ true
+      heading h = up-heading (rec s h) (rec a h) (below h)
+
+      go : (isBase r ≡ true) ⊎ (isKind 1 (rec a (holderOf r)) ≡ true) → (isBase r || isKind 1 (rec s (holderOf r))) ≡ true
+      go (inl b) = or-left (isBase r) _ b
+      go (inr k) = or-right (isBase r) _ (heading (holderOf r) k)
 
   -- ---- what goes still goes
 
@@ -119,14 +129,14 @@ free-either : (b : Bool) → cond b blank blank ≡ blank
 free-either true = refl
 free-either false = refl
 
-wiped-less : (t : List ℕ) (p : ℕ → Bool) → Less t (wiped p t)
+pub wiped-less : (t : List ℕ) (p : ℕ → Bool) → Less t (wiped p t)
 wiped-less t p = record { long = length-run t _; each = λ i l. rw (rec-wiped t p i l) (go i (p i)) }
   where
     go : (i : ℕ) (b : Bool) → Below (rec t i) (cond b blank (rec t i))
     go i true = free refl
     go i false = stays (equal refl)
 
-wiped-mono : (s a : List ℕ) (p q : ℕ → Bool) → Less s a → ((i : ℕ) → Alike (rec s i) (rec a i) → p i ≡ true → q i ≡ true)
+pub wiped-mono : (s a : List ℕ) (p q : ℕ → Bool) → Less s a → ((i : ℕ) → Alike (rec s i) (rec a i) → p i ≡ true → q i ≡ true)
     → Less (wiped p s) (wiped q a)
 wiped-mono s a p q d h = record { long = rw (length-run s _, length-run a _) (d .long); each = at }
   where
@@ -140,7 +150,7 @@ wiped-mono s a p q d h = record { long = rw (length-run s _, length-run a _) (d 
         let m : i < rooms s = rw (rooms-run s _) at l in
         rw (rec-wiped s p i m, rec-wiped a q i (rw (d .long) m)) (go i (d .each i m) (truth (p i)))
 
--- ---- the three steps
+-- ---- the three steps of a round, and rounds
 
 pub less₁ : (t : List ℕ) → Less t (after₁ t)
 unfolding after₁
@@ -150,18 +160,18 @@ pub less₂ : (t : List ℕ) → Less (after₁ t) (after₂ t)
 unfolding after₂
 less₂ t = wiped-less (after₁ t) (orphan (after₁ t))
 
-pub less₃ : (t : List ℕ) → Less (after₂ t) (cleared t)
-less₃ t = rw (cleared-is t) (wiped-less (after₂ t) (stray (after₂ t)))
+pub less₃ : (t : List ℕ) → Less (after₂ t) (round t)
+less₃ t = rw (round-is t) (wiped-less (after₂ t) (stray (after₂ t)))
 
 pub less₁₂ : (t : List ℕ) → Less t (after₂ t)
 less₁₂ t = less-trans t (after₁ t) (after₂ t) (less₁ t) (less₂ t)
 
-pub cleared-less : (t : List ℕ) → Less t (cleared t)
-cleared-less t = less-trans t (after₂ t) (cleared t) (less₁₂ t) (less₃ t)
+pub round-less : (t : List ℕ) → Less t (round t)
+round-less t = less-trans t (after₂ t) (round t) (less₁₂ t) (less₃ t)
 
-pub cleared-mono : (s a : List ℕ) → Whole s → Less s a → Less (cleared s) (cleared a)
-cleared-mono s a w d =
-    rw (cleared-is s, cleared-is a) (wiped-mono (after₂ s) (after₂ a) (stray (after₂ s)) (stray (after₂ a)) d₂ (stray-still (after₂ s) (after₂ a) w₂ d₂))
+pub round-mono : (s a : List ℕ) → Whole s → Less s a → Less (round s) (round a)
+round-mono s a w d =
+    rw (round-is s, round-is a) (wiped-mono (after₂ s) (after₂ a) (stray (after₂ s)) (stray (after₂ a)) d₂ (stray-still (after₂ s) (after₂ a) w₂ d₂))
   where
     w₁ : Whole (after₁ s)
     w₁ = rw (less₁ s .long) w
@@ -175,10 +185,34 @@ cleared-mono s a w d =
     d₂ : Less (after₂ s) (after₂ a)
     d₂ = unfold after₂ in wiped-mono (after₁ s) (after₁ a) (orphan (after₁ s)) (orphan (after₁ a)) d₁ (orphan-still (after₁ s) (after₁ a) w₁ d₁)
 
+pub rounds-less : (n : ℕ) (t : List ℕ) → Less t (run t (roundsStores n t))
+unfolding roundsStores run
+rounds-less zero t = less-refl t
+rounds-less (suc n) t = rw (rounds-next n t) (less-trans t (round t) _ (round-less t) (rounds-less n (round t)))
+
+pub rounds-mono : (n : ℕ) (s a : List ℕ) → Whole s → Less s a → Less (run s (roundsStores n s)) (run a (roundsStores n a))
+unfolding roundsStores run
+rounds-mono zero s a w d = d
+rounds-mono (suc n) s a w d =
+    rw (rounds-next n s, rounds-next n a) (rounds-mono n (round s) (round a) (rw (round-less s .long) w) (round-mono s a w d))
+
+pub cleared-less : (t : List ℕ) → Less t (cleared t)
+cleared-less t = rw (cleared-is t) (rounds-less (rooms t) t)
+
+pub cleared-mono : (s a : List ℕ) → Whole s → Less s a → Less (cleared s) (cleared a)
+cleared-mono s a w d = rw (cleared-is s, cleared-is a, d .long) (rounds-mono (rooms s) s a w d)
+
 -- ---- and the counts
 
 pub recounts-less : (t : List ℕ) → Less t (run t (recounts t))
 recounts-less t = record { long = length-run t _; each = λ i l. stays (recounts-each t i l) }
+
+pub recounts-more : (t : List ℕ) → Less (run t (recounts t)) t
+recounts-more t =
+    record {
+      long = sym (length-run t _);
+      each = λ i l. stays (alike-sym (rec t i) (rec (run t (recounts t)) i) (recounts-each t i (rw (rooms-run t _) at l)));
+    }
 
 pub mended-less : (t : List ℕ) → Less t (mended t)
 mended-less t = rw (mended-is t) (less-trans t (cleared t) _ (cleared-less t) (recounts-less (cleared t)))

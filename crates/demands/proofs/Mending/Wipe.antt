@@ -1,16 +1,16 @@
 -- Records cleared by a test, law by law those of records laid by a test: what passes is free afterwards and every other is as it was.
--- Mending is three such steps, each on the table that the last left, and then the counts.
+-- A round of mending is three such steps, each on the table that the last left; the rounds come first, and then the counts.
 use mathlib.Core.Bool.{Bool, true, false, cond}
 use mathlib.Core.List.{List, [], _++_}
 use mathlib.Core.Logic.{_⊎_}
-use mathlib.Core.Path.{_≡_, sym, _∙_}
-use Prim.Native.Nat.{ℕ, _<_}
+use mathlib.Core.Path.{_≡_, refl, sym, _∙_}
+use Prim.Native.Nat.{ℕ, suc, _<_}
 use lib.ListN.{length, take}
 use Rattle.paper.specs.Record.{blank}
 use Rattle.paper.specs.Table.{rooms, rec}
 use Rattle.paper.specs.Store.{clears, run}
 use Rattle.paper.specs.Count.{recounts}
-use Rattle.paper.specs.Mend.{stray, wiped, mendFirst, mendSecond, mendThird, after₁, after₂, clearStores, cleared, mendStores, mended}
+use Rattle.paper.specs.Mend.{stray, wiped, mendFirst, mendSecond, mendThird, after₁, after₂, roundStores, round, roundsStores, clearStores, cleared, mendStores, mended}
 use Rattle.laws.proofs.Lists.{Every, every-take}
 use Rattle.laws.proofs.Lay.{Whole, length-blank, ext-table}
 use Rattle.laws.proofs.Runs.{Lays, run-each, run-append, length-run, rooms-run}
@@ -47,12 +47,22 @@ pub cut-wipe : (t : List ℕ) (p : ℕ → Bool) (k i : ℕ) → i < rooms t
     → (rec (run t (take k (clears p (rooms t)))) i ≡ rec t i) ⊎ Blanks p i (rec (run t (take k (clears p (rooms t)))) i)
 cut-wipe t p k = run-each (Blanks p) t _ (every-take _ k _ (every-clears p (rooms t)))
 
--- the table after the three steps
-pub cleared-is : (t : List ℕ) → cleared t ≡ wiped (stray (after₂ t)) (after₂ t)
-unfolding cleared clearStores after₂ after₁
-cleared-is t =
+-- the table after the three steps of a round
+pub round-is : (t : List ℕ) → round t ≡ wiped (stray (after₂ t)) (after₂ t)
+unfolding round roundStores after₂ after₁
+round-is t =
     run-append t (mendFirst t) (mendSecond (after₁ t) ++ mendThird (after₂ t))
     ∙ run-append (after₁ t) (mendSecond (after₁ t)) (mendThird (after₂ t))
+
+-- after one round more
+pub rounds-next : (n : ℕ) (t : List ℕ) → run t (roundsStores (suc n) t) ≡ run (round t) (roundsStores n (round t))
+unfolding roundsStores round
+rounds-next n t = run-append t (roundStores t) (roundsStores n (round t))
+
+-- after all of them
+pub cleared-is : (t : List ℕ) → cleared t ≡ run t (roundsStores (rooms t) t)
+unfolding cleared clearStores
+cleared-is t = refl
 
 -- and after the counts
 pub mended-is : (t : List ℕ) → mended t ≡ run (cleared t) (recounts (cleared t))

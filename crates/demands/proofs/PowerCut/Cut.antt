@@ -20,7 +20,7 @@ use Rattle.laws.proofs.Runs.{Lays, run-each, run-append, length-run, rooms-run}
 use Rattle.laws.proofs.Recounts.{Recount, every-recounts}
 use Rattle.demands.proofs.Mending.Part.{Alike, equal, counts, Parts, Kept, Less}
 use Rattle.demands.proofs.Mending.Counts.{alike-sym, but-recount}
-use Rattle.demands.proofs.Mending.Debris.{mended-kept, part-less, between, Loose, Debris, laid, Left, ours, litter, left-parts, left-mends}
+use Rattle.demands.proofs.Mending.Debris.{Once, kept-once, mended-kept, part-less, between, between-once, Loose, Debris, laid, Left, ours, litter, left-parts, left-mends, left-once}
 use Rattle.demands.proofs.Mending.Again.{Tidy, Tidies, tidied, tidy-less, tidy-over}
 
 -- a store that lays debris in a free record of t
@@ -65,10 +65,16 @@ pub data Shaped (t : List ℕ) (stores : List Store) : Type 0 where
       → Lays (λ i r. Counts (rec t i) r) (rooms t) s → Every (Sweeps (run t stores) (counted t pre s)) post → Shaped t stores
 
 -- debris alone mends away
-littered : (t : List ℕ) → Whole t → Kept t → (ss : List Store) → Every (Litters t) ss → mended (run t ss) ≡ t
-littered t w k ss h =
-    left-mends t (run t ss) k (length-run t ss)
-    (λ i l. ⊎-elim (λ e. ours (equal e)) (λ p. litter (p .0) (laid (p .1))) (run-each (λ i r. (rec t i ≡ blank) × Loose t r) t ss h i l)) w
+module _ (t : List ℕ) (w : Whole t) (k : Kept t) (ss : List Store) (h : Every (Litters t) ss) where
+  litters-left : (i : ℕ) → i < rooms t → Left t (run t ss) (rec t i) (rec (run t ss) i)
+  litters-left i l =
+      ⊎-elim (λ e. ours (equal e)) (λ p. litter (p .0) (laid (p .1))) (run-each (λ i r. (rec t i ≡ blank) × Loose t r) t ss h i l)
+
+  littered : mended (run t ss) ≡ t
+  littered = left-mends t (run t ss) k (length-run t ss) litters-left w
+
+  littered-once : Once (run t ss)
+  littered-once = left-once t (run t ss) k (length-run t ss) litters-left w
 
 -- the counts corrected, and whatever is done after them
 pub recounts-sweep : (f m : List ℕ) → Every (Sweeps f m) (recounts m)
@@ -119,39 +125,61 @@ module _ (f m : List ℕ) (post : List Store) (ends : run m post ≡ f) (w : Who
       go i (inr (inr c)) = litter (c .0) (c .1 .1)
 
   -- each record as in m, or tidied
-  pub swept-any : (x : List ℕ) → length x ≡ length m → ((i : ℕ) → i < rooms m → Tidy (rec m i) (rec f i) (rec x i)) → mended x ≡ f
-  swept-any x e each =
-      let d : Less m f = part-less f m w left in
-      between f m w left k x (tidy-less f m x d e each) (tidy-over f m x d e each)
+  module _ (x : List ℕ) (e : length x ≡ length m) (each : (i : ℕ) → i < rooms m → Tidy (rec m i) (rec f i) (rec x i)) where
+    less : Less m f
+    less = part-less f m w left
 
-  pub swept : (ss : List Store) → Every (Rids f m) ss → mended (run m ss) ≡ f
-  swept ss g = swept-any (run m ss) (length-run m ss) (tidied f m ss (tidy-rids f m ss g))
+    pub swept-any : mended x ≡ f
+    swept-any = between f m w left k x (tidy-less f m x less e each) (tidy-over f m x less e each)
 
--- the table before or the table after
-abbrev pub Cut : List ℕ → List Store → ℕ → Type 0
-Cut t stores k = (mended (run t (take k stores)) ≡ t) ⊎ (mended (run t (take k stores)) ≡ run t stores)
+    pub swept-once : Once x
+    swept-once = between-once f m w left k x (tidy-less f m x less e each) (tidy-over f m x less e each)
+
+-- the table before or the table after, in one round
+pub record Cut (t : List ℕ) (stores : List Store) (k : ℕ) : Type 0 where
+  pub once : Once (run t (take k stores))
+  pub lands : (mended (run t (take k stores)) ≡ t) ⊎ (mended (run t (take k stores)) ≡ run t stores)
 
 none-cut : (t : List ℕ) → Kept t → (n : ℕ) → Cut t [] n
 unfolding run
-none-cut t k zero = inl (mended-kept t k)
-none-cut t k (suc n) = inl (mended-kept t k)
+none-cut t k zero = record { once = kept-once t k; lands = inl (mended-kept t k) }
+none-cut t k (suc n) = record { once = kept-once t k; lands = inl (mended-kept t k) }
 
 pub power-cut : (t : List ℕ) (stores : List Store) → Whole t → Kept t → Kept (run t stores) → Shaped t stores → (n : ℕ) → Cut t stores n
 power-cut t stores w k d (none e) n = rw e (none-cut t k n)
 power-cut t stores w k d (phased pre s post e h c g) n =
     rw e
     (by-cases (decLe n (length pre))
-    (λ (l : n ≤ length pre). inl (rw (take-append-le n pre) (littered t w k _ (every-take _ n pre h))))
-    (λ (l : ¬ (n ≤ length pre)). inr (past (n - length pre - 1) (omega arith))))
+    (λ (l : n ≤ length pre).
+    let g = every-take _ n pre h in
+    record {
+      once = rw (take-append-le n pre) (littered-once t w k (take n pre) g);
+      lands = inl (rw (take-append-le n pre) (littered t w k (take n pre) g));
+    })
+    (λ (l : ¬ (n ≤ length pre)). past (n - length pre - 1) (omega arith)))
   where
-    past : (j : ℕ) → n ≡ length pre + suc j → mended (run t (take n (pre ++ s ∷ post))) ≡ run t (pre ++ s ∷ post)
+    past : (j : ℕ) → n ≡ length pre + suc j → Cut t (pre ++ s ∷ post) n
     past j q =
-        rw (q, take-append-add pre (s ∷ post) (suc j), run-counted t pre s (take j post), run-counted t pre s post)
-        (swept (run m post) m post refl (rw (length-run, length-lay, length-run) w) (rw (e, run-counted t pre s post) at d) sweeps
-        (take j post) (every-take _ j post sweeps))
+        record {
+          once =
+              rw (q, take-append-add pre (s ∷ post) (suc j), run-counted t pre s (take j post))
+              (swept-once (run m post) m post refl whole kept sweeps (run m (take j post)) (length-run m (take j post)) each);
+          lands = inr (
+              rw (q, take-append-add pre (s ∷ post) (suc j), run-counted t pre s (take j post), run-counted t pre s post)
+              (swept-any (run m post) m post refl whole kept sweeps (run m (take j post)) (length-run m (take j post)) each));
+        }
       where
         m : List ℕ
         m = counted t pre s
 
+        whole : Whole (run m post)
+        whole = rw (length-run, length-lay, length-run) w
+
+        kept : Kept (run m post)
+        kept = rw (e, run-counted t pre s post) at d
+
         sweeps : Every (Rids (run m post) m) post
         sweeps = sweeps-rid (run m post) m post (rw (← run-counted t pre s post, ← e) g)
+
+        each : (i : ℕ) → i < rooms m → Tidy (rec m i) (rec (run m post) i) (rec (run m (take j post)) i)
+        each = tidied (run m post) m (take j post) (tidy-rids (run m post) m (take j post) (every-take _ j post sweeps))

@@ -35,7 +35,7 @@ pub record Done (o : ℕ → Outcome) (x : List ℕ) : Type 0 where
 pub passed-shaped : (t : List ℕ) (x : Planned) (p : Plan) → Safe t x → Passed x p → Shaped t (p .stores)
 passed-shaped t x p h v = let s : Safe t (plan p) = rw (v .plan) at h in s (v .checks)
 
-passed-cut : (t : List ℕ) → Right t → (x : Planned) (p : Plan) → Safe t x → Keeps t x → Passed x p → (k : ℕ) → Cut t (p .stores) k
+pub passed-cut : (t : List ℕ) → Right t → (x : Planned) (p : Plan) → Safe t x → Keeps t x → Passed x p → (k : ℕ) → Cut t (p .stores) k
 passed-cut t c x p h g v = power-cut t (p .stores) (c .clauses .whole) (sound-keeps t c) (sound-keeps _ (passed-sound t x p g v)) (passed-shaped t x p h v)
 
 -- ---- one plan
@@ -64,7 +64,7 @@ module _ (t reply : List ℕ) (c : Right t) (x : Planned) (safe : Safe t x) (sur
       ran-by (λ y. Either (mended (single t reply k y .table))) k x
       (λ f _. let z : mended t ≡ t = mended-sound t c in (rw z c, inl z))
       (λ p v l. landed _ p v (inr (mended-sound (run t (p .stores)) (passed-sound t x p sure v))))
-      (λ p v l. landed _ p v (passed-cut t c x p safe sure v k))
+      (λ p v l. landed _ p v (passed-cut t c x p safe sure v k .lands))
 
 -- ---- `WRS*`
 
@@ -104,7 +104,7 @@ module _ (t reply : List ℕ) (c : Right t) (u : ℕ) (text : List ℕ) (name : 
 -- ---- DEL and DST, name by name
 
 -- one name whose checks pass, cut anywhere
-named-cut : (s : Several) (t : List ℕ) → Right t → (u place : ℕ) (w : Word) (p : Plan) → Passed (planOf s t u place w) p → (k : ℕ) → Cut t (p .stores) k
+pub named-cut : (s : Several) (t : List ℕ) → Right t → (u place : ℕ) (w : Word) (p : Plan) → Passed (planOf s t u place w) p → (k : ℕ) → Cut t (p .stores) k
 named-cut deletion t c u place w p v =
     passed-cut t c (planOf deletion t u place w) p (del-safe t (c .clauses) u place w) (del-keeps t u place w (c .clauses)) v
 named-cut destruction t c u place w p v = passed-razed t c u place w p v
@@ -177,4 +177,4 @@ module _ (s : Several) (u : ℕ) (reply : List ℕ) where
           ran-by (λ y. Parted s t u reply n made (w ∷ ws) (after y)) k x
           (λ f _. no-name t n made (w ∷ ws) _ c (mended-sound t c))
           (λ p v l. one-more t n made w p v ws _ (rest p (passed-sound t x p sure v) (k - length (p .stores)) (n + 1) (made + length (p .stores))))
-          (λ p v l. cut-here p v _ (named-cut s t c u (n + 1) w p v k))
+          (λ p v l. cut-here p v _ (named-cut s t c u (n + 1) w p v k .lands))

@@ -9,7 +9,7 @@ use native.Mathlib.Omega.{arith}
 use lib.Dec.{eqb}
 use lib.ListN.{length, take}
 use borrow.Author.Tests.{eq-eqb}
-use Rattle.paper.specs.Record.{byte, headingNamed, headingOf, names, blank}
+use Rattle.paper.specs.Record.{byte, isKind, headingNamed, headingOf, names, blank}
 use Rattle.paper.specs.Layout.{boxed}
 use Rattle.paper.specs.Table.{rooms, rec, lay, textRoom}
 use Rattle.paper.specs.Line.{Word}
@@ -19,7 +19,7 @@ use Rattle.paper.specs.Walk.{file}
 use Rattle.paper.specs.Store.{Store, clear, clears, run}
 use Rattle.paper.specs.Count.{recounts}
 use Rattle.paper.specs.Effect.{Plan, Planned, plan, halted, chainOf, bared, freed, withCounts, withEntries, destroying, dstPlan}
-use Rattle.paper.specs.Mend.{anchored, mended}
+use Rattle.paper.specs.Mend.{mended}
 use Rattle.laws.proofs.Tests.{not-both, or-left, or-right}
 use Rattle.laws.proofs.Lists.{Every, every-append, every-imp, every-each, every-take}
 use Rattle.laws.proofs.Entries.{names-kind, names-heading}
@@ -36,9 +36,9 @@ use Rattle.demands.proofs.SoundKept.Counted.{recounts-right}
 use Rattle.demands.proofs.Mending.Wipe.{Blanks, every-clears}
 use Rattle.demands.proofs.Mending.Part.{counts}
 use Rattle.demands.proofs.Mending.Counts.{is-blank, but-recount, recounts-each}
-use Rattle.demands.proofs.Mending.Debris.{keeps-none, sound-keeps, mended-sound, body, Debris, laid, link}
+use Rattle.demands.proofs.Mending.Debris.{keeps-none, Once, kept-once, sound-keeps, mended-sound, body, Debris, laid, link}
 use Rattle.demands.proofs.Mending.Again.{Tidy, tidied}
-use Rattle.demands.proofs.PowerCut.Cut.{Rids, tidy-rids, swept-any, Cut}
+use Rattle.demands.proofs.PowerCut.Cut.{Rids, tidy-rids, swept-any, swept-once, Cut}
 
 module _ (t : List ℕ) (h : ℕ) (c : Sound t) (k : byte (rec t h) 0 ≡ 1) where
   pub in-h : h < rooms t
@@ -102,8 +102,8 @@ module _ (t : List ℕ) (h : ℕ) (c : Sound t) (k : byte (rec t h) 0 ≡ 1) whe
           (rw s (laid (body (y .1 .kind) (rw (y .1 .heading, free-h) keeps-none))))
 
   -- the entries name no heading
-  adrift : (r : List ℕ) → headingNamed r ≡ h → anchored m r ≡ false
-  unfolding anchored blank
+  adrift : (r : List ℕ) → headingNamed r ≡ h → isKind 1 (rec m (headingNamed r)) ≡ false
+  unfolding blank
   adrift r e = rw (e, at-h)
 
   entries : Every (Rids f m) (clears (λ i. names h (rec t i)) (rooms t))
@@ -184,22 +184,44 @@ module _ (t : List ℕ) (h : ℕ) (r : Right t) (k : byte (rec t h) 0 ≡ 1) (v 
   unfolding f g
   razed-right = recounts-right (run t (destroying t h)) (destroyed-sound t h c k v)
 
-  -- the heading cleared: each record as it is then, or tidied, it mends to the table after
-  pub razed-mends : (x : List ℕ) → length x ≡ length t → ((i : ℕ) → i < rooms t → Tidy (rec (m t h c k) i) (rec (f t h c k) i) (rec x i))
-      → mended x ≡ f t h c k
-  razed-mends x e each =
-      swept-any (f t h c k) (m t h c k) (post t h c k) (ends-at t h c k) (razed-right .clauses .whole) (sound-keeps (f t h c k) razed-right) (rids t h c k)
-      x (e ∙ sym (unfold m in length-lay t h blank)) (λ i l. each i (rw (rooms-m t h c k) at l))
+  -- the heading cleared: each record as it is then, or tidied, it mends to the table after, in one round
+  module _ (x : List ℕ) (e : length x ≡ length t) (each : (i : ℕ) → i < rooms t → Tidy (rec (m t h c k) i) (rec (f t h c k) i) (rec x i)) where
+    long-m : length x ≡ length (m t h c k)
+    long-m = e ∙ sym (unfold m in length-lay t h blank)
+
+    each-m : (i : ℕ) → i < rooms (m t h c k) → Tidy (rec (m t h c k) i) (rec (f t h c k) i) (rec x i)
+    each-m i l = each i (rw (rooms-m t h c k) at l)
+
+    pub razed-mends : mended x ≡ f t h c k
+    razed-mends =
+        swept-any (f t h c k) (m t h c k) (post t h c k) (ends-at t h c k) (razed-right .clauses .whole) (sound-keeps (f t h c k) razed-right) (rids t h c k)
+        x long-m each-m
+
+    pub razed-once : Once x
+    razed-once =
+        swept-once (f t h c k) (m t h c k) (post t h c k) (ends-at t h c k) (razed-right .clauses .whole) (sound-keeps (f t h c k) razed-right) (rids t h c k)
+        x long-m each-m
 
   -- cut before the first store it is the table before, and after it the table after
   pub destroying-cut : (n : ℕ) → Cut t (withCounts t (destroying t h)) n
   unfolding run m
-  destroying-cut zero = inl (mended-sound t r)
+  destroying-cut zero = record { once = kept-once t (sound-keeps t r); lands = inl (mended-sound t r) }
   destroying-cut (suc n) =
-      let ss : List Store = take n (post t h c k) in
-      inr (rw (end-is t h c k) (rw (stores-are t h c k) (razed-mends (run (lay t h blank) ss) (length-run (lay t h blank) ss ∙ length-lay t h blank)
-      (λ i l. tidied (f t h c k) (m t h c k) ss (tidy-rids (f t h c k) (m t h c k) ss (every-take _ n (post t h c k) (rids t h c k))) i
-      (rw (rooms-m t h c k) l)))))
+      record {
+        once = rw (stores-are t h c k) (razed-once (run (lay t h blank) ss) long each);
+        lands = inr (rw (end-is t h c k) (rw (stores-are t h c k) (razed-mends (run (lay t h blank) ss) long each)));
+      }
+    where
+      ss : List Store
+      ss = take n (post t h c k)
+
+      long : length (run (lay t h blank) ss) ≡ length t
+      long = length-run (lay t h blank) ss ∙ length-lay t h blank
+
+      each : (i : ℕ) → i < rooms t → Tidy (rec (m t h c k) i) (rec (f t h c k) i) (rec (run (lay t h blank) ss) i)
+      each i l =
+          unfold m in
+          tidied (f t h c k) (m t h c k) ss (tidy-rids (f t h c k) (m t h c k) ss (every-take _ n (post t h c k) (rids t h c k))) i (rw (rooms-m t h c k) l)
 
 -- one name of a DST whose checks pass, cut anywhere
 abbrev Cuts : List ℕ → Planned → Type 0

@@ -28,8 +28,8 @@ use Rattle.demands.proofs.SoundKept.Refilled as filled
 use Rattle.demands.proofs.SoundKept.Refilled.{Rewrite, Look, look, old, room-free, no-text, text-at, heading-there, last-kind, refilled-sound}
 use Rattle.demands.proofs.SoundKept.Told.{emptied-right, refilled-right}
 use Rattle.demands.proofs.SoundKept.Rewriting.{each-bared, each-laid}
-use Rattle.demands.proofs.Mending.Part.{equal}
-use Rattle.demands.proofs.Mending.Debris.{sound-keeps, mended-sound, laid, Left, ours, litter, body, left-mends}
+use Rattle.demands.proofs.Mending.Part.{equal, Kept}
+use Rattle.demands.proofs.Mending.Debris.{Once, sound-keeps, mended-sound, laid, Left, ours, litter, body, left-mends, left-once}
 
 -- x is the table with the file marked and empty, and in free records of it text of that file
 abbrev pub HalfAt : List ℕ → ℕ → List ℕ → ℕ → Type 0
@@ -45,15 +45,24 @@ module _ (t : List ℕ) (h : ℕ) (c : Sound t) (f : Medium t h) where
   unfolding keepsText
   keeps-no = rw (emptied-heading t h c f) (and-no-right (simple (rewritten (rec t h) 1 0)) _ (rw (rewritten-mark (rec t h) 1 0 (size-h t h c f))))
 
+  half-left : (x : List ℕ) → Half t h x → (i : ℕ) → i < rooms (emptied t h) → Left (emptied t h) x (rec (emptied t h) i) (rec x i)
+  half-left x d i l = go (d .each i (rw (rooms-run t (emptying t h)) at l))
+    where
+      go : HalfAt t h x i → Left (emptied t h) x (rec (emptied t h) i) (rec x i)
+      go (inl e) = ours (equal e)
+      go (inr (z, (k, e))) = litter z (laid (body k (rw e keeps-no)))
+
+  half-kept : countsTrue t ≡ true → Kept (emptied t h)
+  half-kept q = sound-keeps (emptied t h) (emptied-right t h (record { clauses = c; counts = q }) f)
+
   pub half-mends : countsTrue t ≡ true → (x : List ℕ) → Half t h x → mended x ≡ emptied t h
   half-mends q x d =
-      left-mends (emptied t h) x (sound-keeps (emptied t h) (emptied-right t h (record { clauses = c; counts = q }) f))
-      (d .long ∙ sym (length-run t (emptying t h)))
-      (λ i l. go i (d .each i (rw (rooms-run t (emptying t h)) at l))) (emptied-sound t h c f .whole)
-    where
-      go : (i : ℕ) → HalfAt t h x i → Left (emptied t h) x (rec (emptied t h) i) (rec x i)
-      go i (inl e) = ours (equal e)
-      go i (inr (z, (k, e))) = litter z (laid (body k (rw e keeps-no)))
+      left-mends (emptied t h) x (half-kept q) (d .long ∙ sym (length-run t (emptying t h))) (half-left x d) (emptied-sound t h c f .whole)
+
+  -- in one round
+  pub half-once : countsTrue t ≡ true → (x : List ℕ) → Half t h x → Once x
+  half-once q x d =
+      left-once (emptied t h) x (half-kept q) (d .long ∙ sym (length-run t (emptying t h))) (half-left x d) (emptied-sound t h c f .whole)
 
   -- the heading marked, and nothing else done
   abbrev marked-t : List ℕ
@@ -123,16 +132,22 @@ module _ (t : List ℕ) (h : ℕ) (new : List ℕ) (c : Sound t) (w : Rewrite t 
   unfolding run
   cut-first q = mended-sound t (record { clauses = c; counts = q })
 
-  pub cut-half : countsTrue t ≡ true → (k : ℕ) → 1 ≤ k → k < length (rewriting t h new) → mended (run t (take k (rewriting t h new))) ≡ emptied t h
+  pub half-cut : (k : ℕ) → 1 ≤ k → k < length (rewriting t h new) → Half t h (run t (take k (rewriting t h new)))
   unfolding run
-  cut-half q zero l m = let z : ⊥ = omega arith in absurd z
-  cut-half q (suc j) l m =
+  half-cut zero l m = let z : ⊥ = omega arith in absurd z
+  half-cut (suc j) l m =
       rw (stores-are, take-append-le j texts (puts h (rewritten (rec t h) 0 (length new)) ∷ []) few)
-      (half-mends t h c (w .file) q _ (half-way (take j texts) (every-take _ j texts texts-each)))
+      (half-way (take j texts) (every-take _ j texts texts-each))
     where
       few : j ≤ length texts
       few = let n : suc j < length (puts h (rewritten (rec t h) 1 0) ∷ texts ++ puts h (rewritten (rec t h) 0 (length new)) ∷ []) = rw stores-are at m in
           omega (arith, length-append texts (puts h (rewritten (rec t h) 0 (length new)) ∷ []), n)
+
+  pub cut-half : countsTrue t ≡ true → (k : ℕ) → 1 ≤ k → k < length (rewriting t h new) → mended (run t (take k (rewriting t h new))) ≡ emptied t h
+  cut-half q k l m = half-mends t h c (w .file) q _ (half-cut k l m)
+
+  pub half-round : countsTrue t ≡ true → (k : ℕ) → 1 ≤ k → k < length (rewriting t h new) → Once (run t (take k (rewriting t h new)))
+  half-round q k l m = half-once t h c (w .file) q _ (half-cut k l m)
 
   pub cut-last : countsTrue t ≡ true → (k : ℕ) → length (rewriting t h new) ≤ k → mended (run t (take k (rewriting t h new))) ≡ run t (rewriting t h new)
   cut-last q k l =

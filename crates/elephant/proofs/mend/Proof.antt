@@ -11,7 +11,7 @@ use Rattle.mending.specs.Shown.{mendShown}
 use Rattle.mending.specs.declared.Mended.{Mended}
 use Rattle.mending.proofs.Answers.{mend-answer, mend-reply}
 use Rattle.answers.specs.declared.Answer.{Answer}
-use Rattle.elephant.specs.Promised.{Promised}
+use Rattle.answers.specs.Promised.{Promised}
 use Rattle.answers.specs.Shown.{shown}
 use Rattle.elephant.proofs.mend.Statement.{statement}
 use Rattle.elephant.proofs.mend.Tie as tie

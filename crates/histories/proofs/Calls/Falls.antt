@@ -1,5 +1,5 @@
 -- Stores that only take away: each clears its record, or lays the heading there with other counts. So after more of them a table is less,
--- and a heading after some of them was one before; a mend's stores and those of DEL and DST are such.
+-- and a heading after some of them was one before; the stores of a mend and of a sweep, and those of DEL and DST, are such.
 use mathlib.Core.Bool.{Bool}
 use mathlib.Core.List.{List, [], _∷_, _++_}
 use mathlib.Core.Logic.{_≢_, by-cases}
@@ -11,8 +11,9 @@ use Rattle.paper.specs.Record.{blank}
 use Rattle.paper.specs.Table.{rooms, rec, lay}
 use Rattle.paper.specs.Store.{Store, clears, run}
 use Rattle.paper.specs.Count.{recounts}
-use Rattle.paper.specs.Mend.{adrift, orphan, stray, mendFirst, mendSecond, mendThird, after₁, after₂, clearStores, cleared, mendStores}
-use Rattle.laws.proofs.Lists.{Every, every-imp}
+use Rattle.paper.specs.Mend.{adrift, orphan, stray, mendFirst, mendSecond, mendThird, after₁, after₂, roundStores, round, roundsStores, clearStores, cleared, mendStores}
+use Rattle.paper.specs.Sweep.{lostEntry, lostHeading, lostText, sweepClears, live, sweepStores}
+use Rattle.laws.proofs.Lists.{Every, every-append, every-imp}
 use Rattle.laws.proofs.Lay.{lay-same, lay-other, rooms-lay, length-lay, length-rec}
 use Rattle.laws.proofs.Runs.{Lays}
 use Rattle.laws.proofs.Recounts.{Recount, every-recounts}
@@ -106,17 +107,36 @@ pub counts-fall : (m : List ℕ) → Falls m (recounts m)
 counts-fall m = counts-on (recounts m) m m refl (λ i l. equal refl) (counts-alike m)
 
 -- a mend's stores
+blanks : (p : ℕ → Bool) (n : ℕ) → Every (Lays (λ _ r. r ≡ blank) n) (clears p n)
+blanks p n =
+    every-imp (Lays (Blanks p) n) (Lays (λ _ r. r ≡ blank) n) (clears p n)
+    (λ s l. record { within = l .within; size = l .size; holds = l .holds .0 }) (every-clears p n)
+
+wipe-falls : (u : List ℕ) (p : ℕ → Bool) → Falls u (clears p (rooms u))
+wipe-falls u p = clears-fall (clears p (rooms u)) u (blanks p (rooms u))
+
+round-falls : (t : List ℕ) → Falls t (roundStores t)
+unfolding roundStores after₁ after₂
+round-falls t =
+    falls-append (mendFirst t) (mendSecond (after₁ t) ++ mendThird (after₂ t)) t (wipe-falls t (adrift t))
+    (falls-append (mendSecond (after₁ t)) (mendThird (after₂ t)) (after₁ t) (wipe-falls (after₁ t) (orphan (after₁ t)))
+    (wipe-falls (after₂ t) (stray (after₂ t))))
+
+rounds-fall : (n : ℕ) (t : List ℕ) → Falls t (roundsStores n t)
+unfolding roundsStores round Falls
+rounds-fall zero t = tt
+rounds-fall (suc n) t = falls-append (roundStores t) (roundsStores n (round t)) t (round-falls t) (rounds-fall n (round t))
+
 pub mend-falls : (t : List ℕ) → Falls t (mendStores t)
-unfolding mendStores clearStores cleared after₁ after₂
-mend-falls t =
-    falls-append (clearStores t) (recounts (cleared t)) t
-    (falls-append (mendFirst t) (mendSecond (after₁ t) ++ mendThird (after₂ t)) t (wipe t (adrift t))
-    (falls-append (mendSecond (after₁ t)) (mendThird (after₂ t)) (after₁ t) (wipe (after₁ t) (orphan (after₁ t)))
-    (wipe (after₂ t) (stray (after₂ t)))))
-    (counts-fall (cleared t))
-  where
-    wipe : (u : List ℕ) (p : ℕ → Bool) → Falls u (clears p (rooms u))
-    wipe u p =
-        clears-fall (clears p (rooms u)) u
-        (every-imp (Lays (Blanks p) (rooms u)) (Lays (λ _ r. r ≡ blank) (rooms u)) (clears p (rooms u))
-        (λ s l. record { within = l .within; size = l .size; holds = l .holds .0 }) (every-clears p (rooms u)))
+unfolding mendStores clearStores cleared
+mend-falls t = falls-append (clearStores t) (recounts (cleared t)) t (rounds-fall (rooms t) t) (counts-fall (cleared t))
+
+-- a sweep's
+pub sweep-falls : (t : List ℕ) → Falls t (sweepStores t)
+unfolding sweepStores sweepClears live
+sweep-falls t =
+    falls-append (sweepClears t) (recounts (live t)) t
+    (clears-fall (sweepClears t) t
+    (every-append _ (clears (lostEntry t) (rooms t)) (clears (lostHeading t) (rooms t) ++ clears (lostText t) (rooms t)) (blanks (lostEntry t) (rooms t))
+    (every-append _ (clears (lostHeading t) (rooms t)) (clears (lostText t) (rooms t)) (blanks (lostHeading t) (rooms t)) (blanks (lostText t) (rooms t)))))
+    (counts-fall (live t))

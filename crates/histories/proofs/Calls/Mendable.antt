@@ -1,5 +1,5 @@
--- From a sound table every table of a history mends to a sound one: a request on such a table that is not sound changes nothing, on a
--- sound one it is demand 3, and a mend cut anywhere has the end of the table that it began with.
+-- From a sound table every table of a history mends to a sound one: a request or sweep on such a table that is not sound changes nothing, on a
+-- sound one it is demand 3, and what stands in its place for a sweep; and a mend cut anywhere has the end of the table that it began with.
 use mathlib.Core.Bool.{true}
 use mathlib.Core.List.{List, [], _∷_}
 use mathlib.Core.Path.{_≡_}
@@ -11,6 +11,8 @@ use Rattle.paper.specs.Table.{sized}
 use Rattle.paper.specs.Sound.{sound}
 use Rattle.paper.specs.Mend.{mendStores, mended}
 use Rattle.paper.specs.Answer.{requested, mending}
+use Rattle.paper.specs.Index.{trueIndex}
+use Rattle.paper.specs.Sweep.{swept, sweeping}
 use Rattle.laws.proofs.Lay.{Whole}
 use Rattle.laws.proofs.Runs.{length-run}
 use Rattle.demands.proofs.Sound.Right.{Right, sound-right}
@@ -18,7 +20,9 @@ use Rattle.demands.proofs.Request.Course.{Course, untried, tried, course}
 use Rattle.demands.proofs.Mending.{mendedWhole, mend-sound, mended-again}
 use Rattle.demands.proofs.Mending.Debris.{mended-sound}
 use Rattle.demands.proofs.PowerCut.{demand-three}
-use Rattle.histories.specs.History.{Call, asks, mends, called, after}
+use Rattle.sweep_demands.proofs.Sound.{swept-right, cut-right}
+use Rattle.sweep_demands.proofs.Calls.{SweepCame, unsized, unsound, untrue, done, cutOff, sweep-came}
+use Rattle.histories.specs.History.{Call, asks, mends, sweeps, called, after}
 
 abbrev pub Mendable : List ℕ → Type 0
 Mendable t = Right (mended t)
@@ -43,6 +47,14 @@ how-asked t line text reply u k = go (course t line text reply u)
 
 pub called-mendable : (t : List ℕ) (c : Call) → Mendable t → Mendable (called t c .table)
 called-mendable t (mends k) m = rw (mended-again t k) m
+called-mendable t (sweeps k) m = go (sweep-came t (trueIndex t) k)
+  where
+    go : SweepCame t (trueIndex t) k (sweeping t (trueIndex t) k) → Mendable (sweeping t (trueIndex t) k .outcome .table)
+    go (unsized a e) = rw e m
+    go (unsound a b e) = rw e m
+    go (untrue a b c e) = rw e m
+    go (done f l e) = rw e (sound-mendable (swept t) (swept-right t (sound-right t (f .sized) (f .sound))))
+    go (cutOff f l e) = rw e (cut-right t (sound-right t (f .sized) (f .sound)) k)
 called-mendable t (asks line text reply u k) m = go (course t line text reply u)
   where
     -- the end of a mend that is sound

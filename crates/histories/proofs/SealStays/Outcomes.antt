@@ -1,5 +1,5 @@
 -- One call on two such tables: the same answer, the same reply, and two such tables. A request goes by the same plan, or is refused alike;
--- a mend clears the same records; and both tables are sound, or neither is, since what a mend would clear is the same.
+-- a mend or a sweep clears the same records; and both tables are sound, or neither is, since what a mend would clear is the same.
 use mathlib.Core.Bool.{true, false}
 use mathlib.Core.List.{List, [], _∷_}
 use mathlib.Core.Logic.{_⊎_, inl, inr}
@@ -14,7 +14,7 @@ use Rattle.paper.specs.Record.{byte, headingCode}
 use Rattle.paper.specs.Layout.{boxed}
 use Rattle.paper.specs.Table.{sized, rooms, rec}
 use Rattle.paper.specs.Line.{Word}
-use Rattle.paper.specs.Check.{Refusal, Verdict, passed, refused, verdict}
+use Rattle.paper.specs.Check.{Refusal, Verdict, passed, refused}
 use Rattle.paper.specs.Request.{Request, crd, wrs, rds, cpy, dup, chn, del, dst, dpr, lst, lstBase, lstTree, lstBaseTree, rewrite, Read, request, unread, asked}
 use Rattle.paper.specs.Code.{noRead}
 use Rattle.paper.specs.Sound.{sound}
@@ -22,8 +22,10 @@ use Rattle.paper.specs.Store.{Store, run}
 use Rattle.paper.specs.Effect.{Planned, crdPlan, wrsPlan, rdsPlan, cpyPlan, dupPlan, chnPlan, dprPlan, lstPlan, lstBasePlan, lstTreePlan, lstBaseTreePlan, rewritePlan, listOf, begun}
 use Rattle.paper.specs.Mend.{mendStores, mended}
 use Rattle.paper.specs.Answer.{Outcome, refusing, ran, single, oneName, deleting, granted, entrance, acted, admitted, requested, mendable, mendRun, mending}
+use Rattle.paper.specs.Index.{trueIndex}
+use Rattle.paper.specs.Sweep.{sweepStores, sweepable}
 use Rattle.laws.proofs.Tests.{truth, same-truth}
-use Rattle.laws.proofs.Lists.{every-take}
+use Rattle.laws.proofs.Lists.{Every, every-take}
 use Rattle.laws.proofs.Runs.{length-run}
 use Rattle.demands.proofs.Sound.Clauses.{Sound, sound-clauses}
 use Rattle.demands.proofs.Sound.Right.{sound-right, right-sound}
@@ -35,14 +37,17 @@ use Rattle.demands.proofs.SoundKept.Kept.{passed-sound, named-keeps}
 use Rattle.demands.proofs.Mending.Counts.{alike-kind, alike-byte}
 use Rattle.demands.proofs.Mending.Again.{mend-tidies}
 use Rattle.demands.proofs.Mending.Debris.{nothing-to-mend, sound-keeps}
-use Rattle.histories.specs.History.{Call, asks, mends, called, heads}
+use Rattle.sweep_demands.proofs.Again.{sweep-tidies}
+use Rattle.index_laws.proofs.Good.{is-true}
+use Rattle.histories.specs.History.{Call, asks, mends, sweeps, called, heads}
 use Rattle.histories.proofs.Calls.Stores.{less-stays}
 use Rattle.histories.proofs.Calls.Shapes.{Shape, crd-shape, wrs-shape, cpy-shape, dup-shape, chn-shape, dpr-shape, rds-shape, lst-shape, lst-base-shape, lst-tree-shape, lst-base-tree-shape, rewrite-shape}
-use Rattle.histories.proofs.Calls.Falls.{falls-less, falls-take, mend-falls}
+use Rattle.histories.proofs.Calls.Falls.{Falls, falls-less, falls-take, mend-falls, sweep-falls}
 use Rattle.histories.proofs.Calls.Anywhere.{Fits, lays-fit}
 use Rattle.histories.proofs.Calls.Requests.{razes, named-shape, passed-shaped}
+use Rattle.histories.proofs.Calls.Sweeps.{sweep-run}
 use Rattle.histories.proofs.Calls.Mendable.{Mendable, mendable-whole}
-use Rattle.histories.proofs.SealStays.Veils.{Veil, run-veil, mend-veil}
+use Rattle.histories.proofs.SealStays.Veils.{Veil, run-veil, mend-veil, sweep-veil}
 use Rattle.histories.proofs.SealStays.Plans.{Same, one, neither, crd-same, wrs-same, cpy-same, dup-same, chn-same, dpr-same, named-same, rds-same, lst-same, lst-base-same, lst-tree-same, lst-base-tree-same, rewrite-same}
 use Rattle.histories.proofs.SealStays.Stays.{Sealed, Hidden, equal, veiled, gone-equal, stores-hidden, all-hidden}
 
@@ -216,43 +221,49 @@ module _ (h : ℕ) (t s : List ℕ) (v : Veil h t s) (m : Mendable t) (m₁ : Me
             let i : sound boxed t ≡ true = unfold entrance in not-false (sound boxed t) (verdict-idle _ e .1 .0) in
             read-agree text reply u j i (asked line text) (read-right line text)
 
-    -- a mend makes the same stores on both, and every heading that is left keeps its code
-    cut-hidden : (j : ℕ) → Hidden h (run t (take j (mendStores t))) (run s (take j (mendStores t)))
-    cut-hidden j =
-        veiled (run-veil h ss t s (mendable-whole t m) (every-take Fits j (mendStores t) (lays-fit _ (rooms t) (mendStores t) (mend-tidies t))) v) sealed
-      where
-        ss : List Store
-        ss = take j (mendStores t)
+    -- stores that only take away, the same on both: every heading that is left keeps its code
+    module _ (ss : List Store) (fit : Every Fits ss) (d : Falls t ss) where
+      cut-hidden : (j : ℕ) → Hidden h (run t (take j ss)) (run s (take j ss))
+      cut-hidden j = veiled (run-veil h (take j ss) t s (mendable-whole t m) (every-take Fits j ss fit) v) sealed
+        where
+          sealed : Sealed h (run t (take j ss))
+          sealed z =
+              let k : byte (rec (run t (take j ss)) h) 0 ≡ 1 = eqb-true _ _ z in
+              let a = less-stays t (run t (take j ss)) (mendable-whole t m) (falls-less (take j ss) t (falls-take j ss t d)) h (omega arith) in
+              rw (alike-byte (rec t h) (rec (run t (take j ss)) h) a 3 (omega arith)) (q (rw (alike-kind (rec t h) (rec (run t (take j ss)) h) a) at z))
 
-        sealed : Sealed h (run t ss)
-        sealed z =
-            let k : byte (rec (run t ss) h) 0 ≡ 1 = eqb-true _ _ z in
-            let d = falls-less ss t (falls-take j (mendStores t) t (mend-falls t)) in
-            let a = less-stays t (run t ss) (mendable-whole t m) d h (omega arith) in
-            rw (alike-byte (rec t h) (rec (run t ss) h) a 3 (omega arith)) (q (rw (alike-kind (rec t h) (rec (run t ss) h) a) at z))
+      -- .. of a mend or a sweep that both allow, or both refuse
+      run-agree : (j : ℕ) (x : Verdict) → Agree h (mendRun t j ss x) (mendRun s j ss x)
+      run-agree j (refused f) = refuse-agree [] f
+      run-agree j passed = go (truth (leb (length ss) j))
+        where
+          go : (leb (length ss) j ≡ true) ⊎ (leb (length ss) j ≡ false) → Agree h (mendRun t j ss passed) (mendRun s j ss passed)
+          go (inl e) = rw e (record { answer = refl; reply = refl; tables = rw (take-length ss) at (cut-hidden (length ss)) })
+          go (inr e) = rw e (record { answer = refl; reply = refl; tables = cut-hidden j })
 
-    all-cut : Hidden h (run t (mendStores t)) (run s (mendStores t))
-    all-cut = rw (take-length (mendStores t)) at (cut-hidden (length (mendStores t)))
-
-    mends-t : mendable boxed t ≡ passed
-    unfolding mendable verdict
-    mends-t = rw (sized-t, right-sound (mended t) m .1)
-
-    mends-s : mendable boxed s ≡ passed
-    unfolding mendable verdict
-    mends-s = rw (sized-s, right-sound (mended s) m₁ .1)
+    -- a mend makes the same stores on both, and so does a sweep
+    mendable-veil : mendable boxed s ≡ mendable boxed t
+    unfolding mendable
+    mendable-veil = rw (sized-t, sized-s, right-sound (mended t) m .1, right-sound (mended s) m₁ .1)
 
     mend-agree : (j : ℕ) → Agree h (mending boxed t j) (mending boxed s j)
     unfolding mending
-    mend-agree j = rw (mends-t, mends-s, mend-veil h t s (mendable-whole t m) v) (go (truth (leb (length (mendStores t)) j)))
-      where
-        go : (leb (length (mendStores t)) j ≡ true) ⊎ (leb (length (mendStores t)) j ≡ false)
-            → Agree h (mendRun t j (mendStores t) passed) (mendRun s j (mendStores t) passed)
-        go (inl e) = rw e (record { answer = refl; reply = refl; tables = all-cut })
-        go (inr e) = rw e (record { answer = refl; reply = refl; tables = cut-hidden j })
+    mend-agree j =
+        rw (mendable-veil, mend-veil h t s (mendable-whole t m) v)
+        (run-agree (mendStores t) (lays-fit _ (rooms t) (mendStores t) (mend-tidies t)) (mend-falls t) j (mendable boxed t))
+
+    sweepable-veil : sweepable s (trueIndex s) ≡ sweepable t (trueIndex t)
+    unfolding sweepable
+    sweepable-veil = rw (sized-t, sized-s, sound-veil, is-true s, is-true t)
+
+    sweep-agree : (j : ℕ) → Agree h (called t (sweeps j)) (called s (sweeps j))
+    sweep-agree j =
+        rw (sweep-run t (trueIndex t) j, sweep-run s (trueIndex s) j, sweepable-veil, sweep-veil h t s (mendable-whole t m) v)
+        (run-agree (sweepStores t) (lays-fit _ (rooms t) (sweepStores t) (sweep-tidies t (mendable-whole t m))) (sweep-falls t) j (sweepable t (trueIndex t)))
 
 -- one call, on any two tables of a history that differ in a sealed text alone
 pub called-agree : (h : ℕ) (t s : List ℕ) (c : Call) → Mendable t → Mendable s → Hidden h t s → Agree h (called t c) (called s c)
 called-agree h t s c m m₁ (equal e) = rw e (agree-refl h (called t c))
 called-agree h t s (asks line text reply u j) m m₁ (veiled v q) = request-agree h t s v m m₁ q line text reply u j
 called-agree h t s (mends j) m m₁ (veiled v q) = mend-agree h t s v m m₁ q j
+called-agree h t s (sweeps j) m m₁ (veiled v q) = sweep-agree h t s v m m₁ q j

@@ -1,10 +1,10 @@
 -- Two tables that differ at most in the text bytes of heading h: every test that the definitions make of a record gives the same, since
 -- a text record is told by its first 8 bytes, and an entry, a heading and a free record are the same in both.
 use mathlib.Core.Bool.{Bool, true, false, _&&_, not}
-use mathlib.Core.List.{List, [], _∷_, map}
+use mathlib.Core.List.{List, [], _∷_, _++_, map}
 use mathlib.Core.Logic.{_≢_, by-cases}
-use mathlib.Core.Path.{_≡_, refl, sym, _∙_}
-use Prim.Native.Nat.{ℕ, _+_, _≤_, _<_}
+use mathlib.Core.Path.{_≡_, refl, sym, ap, _∙_}
+use Prim.Native.Nat.{ℕ, zero, suc, _+_, _≤_, _<_}
 use native.Mathlib.Omega.{arith}
 use native.Mathlib.Decide.{ℕ-discrete, decLt}
 use lib.ListN.{length, take}
@@ -12,13 +12,14 @@ use lib.Seq.{getD-take}
 use borrow.Author.Tests.{eqb-true}
 use Rattle.paper.specs.Number.{numberAt}
 use Rattle.paper.specs.Scan.{Found, at, nowhere, firstBelow, listBelow}
-use Rattle.paper.specs.Record.{byte, isKind, headingNamed, headingOf, directory, simple, names, textAt}
+use Rattle.paper.specs.Record.{byte, isKind, holderOf, headingNamed, headingOf, directory, simple, names, textAt}
 use Rattle.paper.specs.Layout.{boxed}
 use Rattle.paper.specs.Table.{rooms, rec, lay, frees, place, textRoom}
 use Rattle.paper.specs.Entry.{Holder, stands, bears, find, crowd, full, named, inDirectory, peopled}
 use Rattle.paper.specs.Store.{Store, puts, fills, clears, run}
 use Rattle.paper.specs.Count.{namings, countsRight, recounted, untrue, recounts}
-use Rattle.paper.specs.Mend.{anchored, adrift, keepsText, orphan, stray, wiped, mendFirst, mendSecond, mendThird, after₁, after₂, clearStores, cleared, mendStores}
+use Rattle.paper.specs.Mend.{anchored, adrift, keepsText, orphan, stray, wiped, mendFirst, mendSecond, mendThird, after₁, after₂, roundStores, round, roundsStores, clearStores, cleared, mendStores}
+use Rattle.paper.specs.Sweep.{reachedIn, reached, lostEntry, lostHeading, lostText, sweepClears, live, sweepStores}
 use Rattle.laws.proofs.Tests.{and-left}
 use Rattle.laws.proofs.Numbers.{number-cong}
 use Rattle.laws.proofs.Scans.{any-cong, first-cong}
@@ -226,7 +227,14 @@ module _ (h : ℕ) (a b : List ℕ) (u : Veil h a b) where
   unfolding anchored
   first-veil =
       clears-cong (adrift b) (adrift a) (rooms b) (rooms a) (rooms-veil h a b u)
-      (λ i. rw (kind-veil h a b u 2 i, named-veil h a b u i, kind-veil h a b u 1 (headingNamed (rec a i))))
+      (λ i.
+      rw (
+        kind-veil h a b u 2 i,
+        named-veil h a b u i,
+        kind-veil h a b u 1 (headingNamed (rec a i)),
+        number-veil h a b u 2 i 2 (omega arith),
+        kind-veil h a b u 1 (holderOf (rec a i)),
+      ))
 
   second-veil : mendSecond b ≡ mendSecond a
   second-veil =
@@ -241,24 +249,78 @@ module _ (h : ℕ) (a b : List ℕ) (u : Veil h a b) where
   wiped-veil : Whole a → (p q : ℕ → Bool) → clears q (rooms b) ≡ clears p (rooms a) → Veil h (wiped p a) (wiped q b)
   wiped-veil w p q e = rw e (run-veil h (clears p (rooms a)) a b w (clears-fit p (rooms a)) u)
 
+module _ (h : ℕ) (t s : List ℕ) (w : Whole t) (v : Veil h t s) where
+  v₁ : Veil h (after₁ t) (after₁ s)
+  v₁ = unfold after₁ in wiped-veil h t s v w (adrift t) (adrift s) (first-veil h t s v)
+
+  w₁ : Whole (after₁ t)
+  w₁ = unfold after₁ in rw (length-run t (mendFirst t)) w
+
+  v₂ : Veil h (after₂ t) (after₂ s)
+  v₂ = unfold after₂ in wiped-veil h (after₁ t) (after₁ s) v₁ w₁ (orphan (after₁ t)) (orphan (after₁ s)) (second-veil h (after₁ t) (after₁ s) v₁)
+
+  round-veil : roundStores s ≡ roundStores t
+  unfolding roundStores
+  round-veil = rw (first-veil h t s v, second-veil h (after₁ t) (after₁ s) v₁, third-veil h (after₂ t) (after₂ s) v₂)
+
+round-fits : (t : List ℕ) → Every Fits (roundStores t)
+unfolding roundStores
+round-fits t =
+    every-append Fits (mendFirst t) _ (clears-fit (adrift t) (rooms t))
+    (every-append Fits (mendSecond (after₁ t)) _ (clears-fit (orphan (after₁ t)) (rooms (after₁ t))) (clears-fit (stray (after₂ t)) (rooms (after₂ t))))
+
+rounds-fit : (n : ℕ) (t : List ℕ) → Every Fits (roundsStores n t)
+unfolding roundsStores
+rounds-fit zero t = tt
+rounds-fit (suc n) t = every-append Fits (roundStores t) (roundsStores n (round t)) (round-fits t) (rounds-fit n (round t))
+
+rounds-veil : (n h : ℕ) (t s : List ℕ) → Whole t → Veil h t s → roundsStores n s ≡ roundsStores n t
+unfolding roundsStores round
+rounds-veil zero h t s w v = refl
+rounds-veil (suc n) h t s w v =
+    rw (round-veil h t s w v)
+    (ap (λ (x : List Store). roundStores t ++ x)
+    (rounds-veil n h (run t (roundStores t)) (run s (roundStores t)) (rw (length-run t (roundStores t)) w) (run-veil h (roundStores t) t s w (round-fits t) v)))
+
 pub mend-veil : (h : ℕ) (t s : List ℕ) → Whole t → Veil h t s → mendStores s ≡ mendStores t
-unfolding mendStores cleared
-mend-veil h t s w v = rw (clear-veil, counts-veil h t s w v (clearStores t) clear-fits)
+unfolding mendStores cleared clearStores
+mend-veil h t s w v = rw (clear-veil, counts-veil h t s w v (roundsStores (rooms t) t) (rounds-fit (rooms t) t))
   where
-    v₁ : Veil h (after₁ t) (after₁ s)
-    v₁ = unfold after₁ in wiped-veil h t s v w (adrift t) (adrift s) (first-veil h t s v)
+    clear-veil : roundsStores (rooms s) s ≡ roundsStores (rooms t) t
+    clear-veil = rw (rooms-veil h t s v) (rounds-veil (rooms t) h t s w v)
 
-    w₁ : Whole (after₁ t)
-    w₁ = unfold after₁ in rw (length-run t (mendFirst t)) w
+-- ---- a sweep reaches the same headings of both, so it clears the same records, and writes the same counts
 
-    v₂ : Veil h (after₂ t) (after₂ s)
-    v₂ = unfold after₂ in wiped-veil h (after₁ t) (after₁ s) v₁ w₁ (orphan (after₁ t)) (orphan (after₁ s)) (second-veil h (after₁ t) (after₁ s) v₁)
+module _ (h : ℕ) (t s : List ℕ) (v : Veil h t s) where
+  in-veil : (n g : ℕ) → reachedIn n s g ≡ reachedIn n t g
+  unfolding reachedIn
+  in-veil zero g = refl
+  in-veil (suc n) g =
+      rw (kind-veil h t s v 1 g, rooms-veil h t s v)
+      (ap (λ (b : Bool). isKind 1 (rec t g) && b)
+      (any-cong _ _ (rooms t) (λ i _. rw (names-veil h t s v g i, number-veil h t s v 2 i 2 (omega arith), in-veil n (holderOf (rec t i))))))
 
-    clear-veil : clearStores s ≡ clearStores t
-    clear-veil = unfold clearStores in rw (first-veil h t s v, second-veil h (after₁ t) (after₁ s) v₁, third-veil h (after₂ t) (after₂ s) v₂)
+  reached-veil : (g : ℕ) → reached s g ≡ reached t g
+  unfolding reached
+  reached-veil g = rw (rooms-veil h t s v) (in-veil (rooms t) g)
 
-    clear-fits : Every Fits (clearStores t)
-    clear-fits =
-        unfold clearStores in
-        every-append Fits (mendFirst t) _ (clears-fit (adrift t) (rooms t))
-        (every-append Fits (mendSecond (after₁ t)) _ (clears-fit (orphan (after₁ t)) (rooms (after₁ t))) (clears-fit (stray (after₂ t)) (rooms (after₂ t))))
+  sweep-clears-veil : sweepClears s ≡ sweepClears t
+  unfolding sweepClears
+  sweep-clears-veil =
+      rw (
+        clears-cong (lostEntry s) (lostEntry t) (rooms s) (rooms t) (rooms-veil h t s v)
+            (λ i. rw (kind-veil h t s v 2 i, number-veil h t s v 2 i 2 (omega arith), reached-veil (holderOf (rec t i)))),
+        clears-cong (lostHeading s) (lostHeading t) (rooms s) (rooms t) (rooms-veil h t s v) (λ i. rw (kind-veil h t s v 1 i, reached-veil i)),
+        clears-cong (lostText s) (lostText t) (rooms s) (rooms t) (rooms-veil h t s v)
+            (λ i. rw (kind-veil h t s v 3 i, number-veil h t s v 2 i 2 (omega arith), reached-veil (headingOf (rec t i)))),
+      )
+
+sweep-clears-fit : (t : List ℕ) → Every Fits (sweepClears t)
+unfolding sweepClears
+sweep-clears-fit t =
+    every-append Fits (clears (lostEntry t) (rooms t)) _ (clears-fit (lostEntry t) (rooms t))
+    (every-append Fits (clears (lostHeading t) (rooms t)) _ (clears-fit (lostHeading t) (rooms t)) (clears-fit (lostText t) (rooms t)))
+
+pub sweep-veil : (h : ℕ) (t s : List ℕ) → Whole t → Veil h t s → sweepStores s ≡ sweepStores t
+unfolding sweepStores live
+sweep-veil h t s w v = rw (sweep-clears-veil h t s v, counts-veil h t s w v (sweepClears t) (sweep-clears-fit t))

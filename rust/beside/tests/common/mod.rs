@@ -2,6 +2,7 @@
 //! records, a bench to ask requests at, and a generator of numbers.
 #![allow(dead_code)]
 
+pub mod swept;
 pub mod told;
 
 use beside::{converted, true_index, Answer, Layout};

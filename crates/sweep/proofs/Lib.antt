@@ -1,0 +1,5 @@
+mod Marks
+mod Lists
+mod Closed
+mod Cleared
+mod Answers

@@ -1,0 +1,1 @@
+// What a sweep does, stated and proved in `proofs/`.
