@@ -1,11 +1,13 @@
 // "An answer has: number; place ..; names done; displaced or not; bytes written; stores made." "The place becomes argument and link".
+#![tactic(auto)]
+
 ghost use Rattle.std.specs.Prelude.{◌≡◌, ◌<◌};
 ghost use Rattle.paper.specs.Answer.{plain, granting};
 ghost use Rattle.paper.specs.Check.{whole};
 ghost use Rattle.answers.specs.Shown.{place_meant, shown, stored};
 
 // An argument from 1, and a link of its chain from 1; 0 for none.
-#[derive(Drop)]
+#[derive(Clone, Copy)]
 pub struct Place {
     pub argument: u32,
     pub link: u32,
@@ -13,7 +15,7 @@ pub struct Place {
 
 // The seven numbers, the place as two of them.
 #[repr(C)]
-#[derive(Drop)]
+#[derive(Clone, Copy)]
 pub struct Answer {
     pub number: u32,
     pub place: u32,

@@ -1,5 +1,7 @@
 // The names of a lent table converted to document 02's six-bit ones, and back: "Converting a sound old table and back loses nothing (others
 // get 1 or 2 and stay)."
+#![tactic(auto)]
+
 mod moving;
 mod old;
 

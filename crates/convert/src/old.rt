@@ -11,7 +11,7 @@ use records::name::are_same;
 use records::store::{copy_in, whole};
 use words::name::is_link_name;
 
-#[derive(Drop)]
+#[derive(Clone, Copy)]
 struct OldName;
 
 impl OldName {

@@ -7,7 +7,7 @@ use crate::part::{Digit, Kind, Level, Lifetime};
 use records::bytes::byte_at;
 use records::name::are_same;
 
-#[derive(Drop)]
+#[derive(Clone, Copy)]
 pub struct Parts {
     pub kind: Kind,
     pub lifetime: Lifetime,
@@ -15,7 +15,7 @@ pub struct Parts {
     pub digit: Digit,
 }
 
-#[derive(Drop)]
+#[derive(Clone, Copy)]
 pub enum Declaration {
     Right(Parts),
     Wrong,

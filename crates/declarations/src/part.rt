@@ -4,28 +4,28 @@ ghost use Rattle.paper.specs.Declaration.{width, or_else, type_letter, lifetime_
 ghost use Rattle.declarations.specs.Given.{kind_part, lifetime_part, level_part, digit_part, shown_kind, shown_lifetime, shown_level, shown_digit};
 
 // D 0, F 1.
-#[derive(Drop)]
+#[derive(Clone, Copy)]
 pub enum Kind {
     Given(u8),
     NotGiven,
 }
 
 // S 0, M 1, L 2.
-#[derive(Drop)]
+#[derive(Clone, Copy)]
 pub enum Lifetime {
     Given(u8),
     NotGiven,
 }
 
 // U 0, P 1, A 2, S 3.
-#[derive(Drop)]
+#[derive(Clone, Copy)]
 pub enum Level {
     Given(u8),
     NotGiven,
 }
 
 // 0 to 7.
-#[derive(Drop)]
+#[derive(Clone, Copy)]
 pub enum Digit {
     Given(u8),
     NotGiven,

@@ -1,1 +1,3 @@
 // What the definitions of `paper` keep: soundness, mending and the power cut, in proofs/.
+
+#![tactic(auto)]

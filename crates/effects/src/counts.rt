@@ -11,7 +11,7 @@ use records::heading::{held_count, named_count, recounted};
 
 // The headings whose counts an entry's store moves: the one that it names, the one that an entry named there before it, and the
 // directory that holds one entry more, or one less; 65,535 for none.
-#[derive(Drop)]
+#[derive(Clone, Copy)]
 pub struct Moves {
     pub named: Room,
     pub lost: Room,

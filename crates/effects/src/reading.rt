@@ -22,7 +22,7 @@ fn less(a: usize, b: usize) -> usize
 }
 
 // What was read of a record: how many bytes it holds, and how many of them were copied.
-#[derive(Drop)]
+#[derive(Clone, Copy)]
 struct Read {
     held: usize,
     copied: usize,

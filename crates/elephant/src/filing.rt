@@ -25,7 +25,7 @@ use walk::state::State;
 use words::begin::Begin;
 
 // A new file's heading, or no new file; and what refuses it after 19.
-#[derive(Drop)]
+#[derive(Clone, Copy)]
 pub(crate) struct File {
     pub new: bool,
     pub late: Refusal,

@@ -1,4 +1,6 @@
 // The file box: its functions and mending, as documents 01 and 02 have them. What a caller relies on is here: two equations.
+#![tactic(auto)]
+
 mod change;
 mod copying;
 mod delete;

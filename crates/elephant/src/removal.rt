@@ -17,14 +17,14 @@ use words::begin::Begin;
 use words::line::next_word;
 
 // What is done to each name: DEL takes an entry out, DST every path to its file.
-#[derive(Drop)]
+#[derive(Clone, Copy)]
 pub(crate) enum Removal {
     Delete,
     Destroy,
 }
 
 // What one name came to: done, or ended by a number at its place; and how many stores are left after it.
-#[derive(Drop)]
+#[derive(Clone, Copy)]
 pub(crate) enum Removed {
     Done(usize),
     Ended {

@@ -34,7 +34,7 @@ use words::octal::Part;
 
 // What is read of a file: of the text of a simple one, the part from a first byte on, so many bytes; or the lines
 // of a directory, or those and what stands under them, to a depth.
-#[derive(Drop)]
+#[derive(Clone, Copy)]
 pub(crate) enum Sheet {
     Text(Part, Part),
     Lines,

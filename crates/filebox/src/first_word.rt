@@ -2,7 +2,7 @@
 ghost use Rattle.std.specs.Prelude.{◌≡◌};
 ghost use Rattle.filebox.specs.FirstWord.{after, takes};
 
-#[derive(Drop)]
+#[derive(Clone, Copy)]
 pub(crate) enum Stage {
     // blanks alone
     Blanks,

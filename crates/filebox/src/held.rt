@@ -4,7 +4,7 @@ ghost use Rattle.filebox.specs.Shows.{fresh};
 
 use crate::first_word::Stage;
 
-#[derive(Drop)]
+#[derive(Clone, Copy)]
 pub(crate) struct Held {
     // how many bytes of the line are held, and what its first word is
     pub line: usize,

@@ -1,5 +1,7 @@
 // The file box over standard input and output: a request on each line, the text of a WRS or a WRS* on the line after it; for
 // each, the answer's seven numbers on a line, then the reply bytes.
+#![tactic(auto)]
+
 use libc::STDIN_FILENO;
 
 mod first_word;
@@ -15,7 +17,7 @@ use crate::held::Held;
 use crate::service::{feed, finish};
 
 // What is held after a read, and how many reads are left.
-#[derive(Drop)]
+#[derive(Clone, Copy)]
 struct Turn {
     held: Held,
     reads: u64,

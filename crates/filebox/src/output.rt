@@ -42,7 +42,7 @@ pub(crate) fn spell_answer(a: Answer, out: &mut [u8]) -> usize
 }
 
 // How many bytes of an answer's line are to be written, and how many of the reply.
-#[derive(Drop)]
+#[derive(Clone, Copy)]
 pub(crate) struct Answered {
     pub line: usize,
     pub reply: usize,

@@ -1,4 +1,6 @@
 // The file box for C: include/filebox.h says what a caller owes and gets.
+#![tactic(auto)]
+
 ghost use Rattle.std.specs.Prelude.{[], ◌≡◌};
 ghost use Rattle.paper.specs.Layout.{old, six};
 ghost use Rattle.paper.specs.Convert.{converting};

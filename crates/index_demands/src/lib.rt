@@ -1,1 +1,3 @@
 // What the sorted index promises, as theorems about its definitions, in proofs/.
+
+#![tactic(auto)]

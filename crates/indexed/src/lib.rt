@@ -1,4 +1,6 @@
 // The file box with its index: one layer above `elephant`, which knows of none. What a caller relies on is here: two equations.
+#![tactic(auto)]
+
 ghost use Rattle.std.specs.Prelude.{[], ◌≡◌};
 ghost use Rattle.paper.specs.Answer.{plain};
 ghost use Rattle.paper.specs.Check.{whole};

@@ -1,1 +1,3 @@
 // What the lamp of `job` promises, as theorems about its definitions, in proofs/.
+
+#![tactic(auto)]

@@ -1,4 +1,6 @@
 // Is this table sound? One pass over its records, and what they leave to be compared at its end.
+#![tactic(auto)]
+
 mod counts;
 mod crowds;
 mod entry;

@@ -10,7 +10,7 @@ use crate::zeros::are_fourteen_zeros;
 use records::entry::Entry;
 
 // The codes of a name's characters as one number, and how many they are.
-#[derive(Drop)]
+#[derive(Clone, Copy)]
 pub(crate) struct Codes {
     pub value: usize,
     pub count: usize,

@@ -22,7 +22,7 @@ use records::heading::Heading;
 use records::text::Text;
 
 // What was passed: whether all of it is right, how many text records, how many entries of base files, and the steps left for the chains.
-#[derive(Drop)]
+#[derive(Clone, Copy)]
 pub(crate) struct Tally {
     pub right: bool,
     pub texts: usize,

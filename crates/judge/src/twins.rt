@@ -14,7 +14,7 @@ use records::entry::Entry;
 
 // What is left of an entry's walk through its chain: whether it is right as far as it went, and the steps that all walks together may
 // still take. With none left the chains are given up.
-#[derive(Drop)]
+#[derive(Clone, Copy)]
 pub(crate) struct Walked {
     pub right: bool,
     pub left: usize,

@@ -1,4 +1,6 @@
 // The judge for C.
+#![tactic(auto)]
+
 ghost use Rattle.std.specs.Prelude.{◌≡◌};
 ghost use Rattle.judge.specs.Judged.{judged};
 

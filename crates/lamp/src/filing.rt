@@ -11,7 +11,7 @@ use answers::Answer;
 use records::bytes::{Bytes, part};
 
 // How the filing ended: all the stores made; or the first sheet that failed too, from 1, and its reply number.
-#[derive(Drop)]
+#[derive(Clone, Copy)]
 pub enum Filing {
     Whole {
         stores: u32,

@@ -1,5 +1,7 @@
 // The lamp of a fixture, a second library above the file box: a job of sheets is filed whole, every sheet is read back, and then the
 // lamp is green. What a caller relies on is here: one equation.
+#![tactic(auto)]
+
 mod filing;
 mod line;
 mod reading;
@@ -20,7 +22,7 @@ use crate::refusal::{Admission, admit};
 // The answer: light 0 green, 1 red, 2 refused; the sheet that failed, from 1, or 0; phase 1 filing, 2 reading, or 0; the reply number
 // of that sheet, or the refusal's; all the stores that the job made.
 #[repr(C)]
-#[derive(Drop)]
+#[derive(Clone, Copy)]
 pub struct Light {
     pub light: u32,
     pub sheet: u32,

@@ -6,7 +6,7 @@ ghost use Rattle.lamp.specs.Runs.{Grown, Holds};
 use records::store::copy_in;
 
 // A line under way.
-#[derive(Drop)]
+#[derive(Clone, Copy)]
 pub struct Line;
 
 impl Line {

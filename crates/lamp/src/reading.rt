@@ -13,7 +13,7 @@ use records::bytes::{Bytes, part};
 use records::name::are_same;
 
 // How the reading ended: whole; or the first sheet that failed, from 1, and its reply number.
-#[derive(Drop)]
+#[derive(Clone, Copy)]
 pub enum Reading {
     Whole,
     Failed { sheet: usize, number: u32 },

@@ -8,7 +8,7 @@ use crate::sheet::{count_sheets, is_formed, length_of, link_of};
 use records::name::are_same;
 
 // What a sheet can be refused for by itself or for those before it, and a buffer's length.
-#[derive(Drop)]
+#[derive(Clone, Copy)]
 enum Fault {
     Malformed,
     Twice,
@@ -16,7 +16,7 @@ enum Fault {
 }
 
 // Passed, or the number of the refusal and the first sheet, from 1, of which it is true.
-#[derive(Drop)]
+#[derive(Clone, Copy)]
 pub enum Admission {
     Passed,
     Refused { number: u32, sheet: usize },

@@ -8,7 +8,7 @@ use records::bytes::{Bytes, Room, byte_of, part, record_at, two_of};
 use words::name::is_link_name;
 
 // A job sheet's layout: its bytes, those of its name, and where its text's length and the rest stand.
-#[derive(Drop)]
+#[derive(Clone, Copy)]
 struct Sheet;
 
 impl Sheet {

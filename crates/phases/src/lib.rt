@@ -1,4 +1,6 @@
 // A request on a disk: the phase in which each of its records is written.
+#![tactic(auto)]
+
 ghost use Rattle.std.specs.Prelude.{◌≡◌};
 ghost use Rattle.disk.specs.Phase.{only_counts, phase_of, phase};
 

@@ -1,4 +1,6 @@
 // A new entry at its end: what it meets, the number that refuses it, its store, the counts and the settling after it.
+#![tactic(auto)]
+
 ghost use Rattle.std.specs.Prelude.{◌&&◌, not, ◌≡◌};
 ghost use Rattle.paper.specs.Check.{whole, refusal_at, passed, refused, verdict};
 ghost use Rattle.records.specs.Shown.{holder_shown};
@@ -19,7 +21,7 @@ use scans::{Found, has_fewer_free, is_full};
 
 // What a new entry meets: whether an entry bears its name; the record it goes to; whether the file that the entry names is lost
 // with it; that file's heading and how many text records it has; and the headings whose counts move.
-#[derive(Drop)]
+#[derive(Clone, Copy)]
 pub struct Meets {
     pub displaced: bool,
     pub room: Room,
@@ -30,7 +32,7 @@ pub struct Meets {
 }
 
 // A number and its place, or 0 and no place.
-#[derive(Drop)]
+#[derive(Clone, Copy)]
 pub struct Refusal {
     pub number: u8,
     pub place: Place,

@@ -4,7 +4,7 @@ ghost use Rattle.reader.specs.Asked.{function_of};
 
 use records::name::are_same;
 
-#[derive(Drop)]
+#[derive(Clone, Copy)]
 pub(crate) enum Function {
     Crd,
     Wrs,

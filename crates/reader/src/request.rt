@@ -24,7 +24,7 @@ use words::octal::{Octal, Part};
 
 // The functions, and LST of a lone point. Names stand by the places where they start in the line; the names of DEL and of DST are
 // the words from the first on.
-#[derive(Drop)]
+#[derive(Clone, Copy)]
 pub enum Request {
     Crd {
         name: usize,
@@ -98,20 +98,20 @@ impl Request {
 }
 
 // The reply number, the argument from 1 or 0, and the link of its chain from 1 or 0.
-#[derive(Drop)]
+#[derive(Clone, Copy)]
 pub struct Refusal {
     pub number: u8,
     pub place: usize,
     pub link: usize,
 }
 
-#[derive(Drop)]
+#[derive(Clone, Copy)]
 pub enum Read {
     Granted(Request),
     Refused(Refusal),
 }
 
-#[derive(Drop)]
+#[derive(Clone, Copy)]
 enum Verdict {
     Passed,
     Refused(Refusal),
@@ -130,7 +130,7 @@ impl Verdict {
 }
 
 // What a name gets: 7; or 8, where it may start in one's own base list alone, or with `.nnnnnn` as well.
-#[derive(Drop)]
+#[derive(Clone, Copy)]
 enum Fault {
     Malformed,
     Illegal,

@@ -2,6 +2,8 @@
 // argument and the link; or 0, the function, and the numbers of the request in the order of its fields, a dash for a part that is not given,
 // T or G and a user before a name that starts at that user's `.T` or in that user's `.G`; for CRD and WRS also the first five
 // bytes of the heading that is laid for such a file.
+#![tactic(auto)]
+
 ghost use Rattle.std.specs.Prelude.{◌≤◌, length};
 
 use declarations::part::{Digit, Level, Lifetime};

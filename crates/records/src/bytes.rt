@@ -5,11 +5,11 @@ ghost use Rattle.paper.specs.Record.{byte, two, three};
 ghost use Rattle.paper.specs.Table.{sized, rooms, rec};
 
 // A record's number, or a count of records.
-#[derive(Drop)]
+#[derive(Clone, Copy)]
 pub struct Room(pub usize);
 
 // A count of bytes.
-#[derive(Drop)]
+#[derive(Clone, Copy)]
 pub struct Bytes(pub usize);
 
 impl Room {

@@ -3,7 +3,7 @@ ghost use Rattle.std.specs.Prelude.{◌≡◌};
 ghost use Rattle.paper.specs.Code.{joined, inhibits, no_read, no_write, lacks};
 
 // "the sum of what is inhibited: execute 4, read 2, write 1"
-#[derive(Drop)]
+#[derive(Clone, Copy)]
 pub struct Code(pub u8);
 
 impl Code {

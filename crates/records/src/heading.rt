@@ -10,7 +10,7 @@ use crate::bytes::{Bytes, Room, byte_of, kind_of, two_of};
 use crate::code::Code;
 use crate::store::whole;
 
-#[derive(Drop)]
+#[derive(Clone, Copy)]
 pub struct Heading {
     pub ty: u8,
     pub level: u8,

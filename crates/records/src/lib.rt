@@ -1,4 +1,6 @@
 // The records of a lent table: bytes and numbers in them, codes, names, the kinds of record, and one store.
+#![tactic(auto)]
+
 pub mod block;
 pub mod bytes;
 pub mod code;

@@ -10,7 +10,7 @@ use crate::bytes::{Bytes, byte_at};
 use crate::name::are_same;
 
 // A name out of its number: ten characters, of which the first so many are the name.
-#[derive(Drop)]
+#[derive(Clone, Copy)]
 pub struct Unpacked {
     pub characters: [u8; 10],
     pub length: usize,

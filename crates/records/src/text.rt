@@ -9,7 +9,7 @@ use crate::block::block_at;
 use crate::bytes::{Bytes, Room, byte_of, part, record_at, two_of};
 use crate::store::copy_in;
 
-#[derive(Drop)]
+#[derive(Clone, Copy)]
 pub struct Text {
     pub heading: Room,
     pub position: Room,

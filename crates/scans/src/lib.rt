@@ -1,4 +1,6 @@
 // Scans of a lent table, each record's kind read first.
+#![tactic(auto)]
+
 ghost use Rattle.std.specs.Prelude.{◌≡◌, ◌<◌, ltb, length};
 ghost use Rattle.paper.specs.Record.{is_kind};
 ghost use Rattle.paper.specs.Layout.{unpacked, boxed};
@@ -13,7 +15,7 @@ use records::entry::{Entry, Holder, bears, stands};
 use records::packing::{is_unpacked, pack};
 
 // Where something was found, if it was.
-#[derive(Drop)]
+#[derive(Clone, Copy)]
 pub enum Found {
     At(Room),
     Nowhere,

@@ -1,4 +1,6 @@
 // The sweep: which headings a chain of entries from any user's base files reaches, and the stores that clear what none reaches.
+#![tactic(auto)]
+
 mod reach;
 mod stores;
 

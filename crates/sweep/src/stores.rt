@@ -18,7 +18,7 @@ use records::store::clear;
 use records::text::{Text, heading_of};
 
 // A record that is lost.
-#[derive(Drop)]
+#[derive(Clone, Copy)]
 struct Lost(u16);
 
 impl Lost {

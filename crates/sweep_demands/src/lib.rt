@@ -1,1 +1,3 @@
 // What a sweep does, stated and proved in `proofs/`.
+
+#![tactic(auto)]

@@ -12,7 +12,7 @@ use words::line::{Next, name, next_name};
 use words::name::{count_links, count_names, is_pointed};
 
 // Where a walk came to, or its number with the link that it stopped at, from 1.
-#[derive(Drop)]
+#[derive(Clone, Copy)]
 pub enum Walked {
     Reached(State),
     Stopped { number: u8, link: usize },

@@ -10,7 +10,7 @@ use crate::state::State;
 use words::begin::Begin;
 
 // The directory and the file, or the number of the link that the walk stopped at.
-#[derive(Drop)]
+#[derive(Clone, Copy)]
 pub enum End {
     At(State, State),
     Off { number: u8, link: usize },
@@ -34,7 +34,7 @@ pub fn to_end(table: &[u8], line: &[u8], p: usize, begin: Begin, user: u32) -> E
 }
 
 // The file of an old name and the directory of a new one, or the number, the argument and the link that a walk stopped at.
-#[derive(Drop)]
+#[derive(Clone, Copy)]
 pub enum Both {
     At(State, State),
     Off { number: u8, place: u32, link: usize },

@@ -11,7 +11,7 @@ use records::heading::{heading_code, is_directory};
 use scans::{Found, find};
 
 // Where the next name is looked up; the entry last followed, or 65,535 for none; the code that applies there.
-#[derive(Drop)]
+#[derive(Clone, Copy)]
 pub struct State {
     pub holder: Holder,
     pub entry: Room,
@@ -19,7 +19,7 @@ pub struct State {
 }
 
 // The next state, or number 11, 12 or 13.
-#[derive(Drop)]
+#[derive(Clone, Copy)]
 pub enum Step {
     On(State),
     Off(u8),

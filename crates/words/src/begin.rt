@@ -11,7 +11,7 @@ use crate::name::{count_names, is_pointed};
 use crate::octal::number_from;
 
 // In the base list of the user who asks; an old name, at that user's `.T`; a new name, in that user's `.G`.
-#[derive(Drop)]
+#[derive(Clone, Copy)]
 pub enum Begin {
     Own,
     Take(u32),

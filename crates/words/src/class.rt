@@ -7,7 +7,7 @@ ghost use Rattle.words.specs.Place.{reach, is_plain};
 ghost use Rattle.words.specs.Shown.{test};
 
 // Blanks; what is neither blank nor colon; bytes of a line, of a link name, of a base name of three characters or more; digits, and octal ones.
-#[derive(Drop)]
+#[derive(Clone, Copy)]
 pub(crate) enum Class {
     Blank,
     Plain,

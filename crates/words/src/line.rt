@@ -8,7 +8,7 @@ use crate::class::{Class, end_of};
 use records::bytes::byte_at;
 
 // A request line.
-#[derive(Drop)]
+#[derive(Clone, Copy)]
 struct Line;
 
 impl Line {
@@ -38,7 +38,7 @@ pub fn name(line: &[u8], p: usize) -> &[u8]
     }
 }
 
-#[derive(Drop)]
+#[derive(Clone, Copy)]
 pub enum Next {
     At(usize),
     Nothing,

@@ -11,7 +11,7 @@ use records::entry::Entry;
 use records::name::are_same;
 
 // Names joined by colons.
-#[derive(Drop)]
+#[derive(Clone, Copy)]
 struct Chain;
 
 impl Chain {

@@ -9,14 +9,14 @@ use crate::class::{Class, end_of};
 use records::name::are_same;
 
 // A number, or a dash or nothing.
-#[derive(Drop)]
+#[derive(Clone, Copy)]
 pub enum Part {
     Given(u32),
     NotGiven,
 }
 
 // An argument is a number, given or not given, or none.
-#[derive(Drop)]
+#[derive(Clone, Copy)]
 pub enum Octal {
     Number(Part),
     NoNumber,

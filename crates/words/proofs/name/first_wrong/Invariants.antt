@@ -1,0 +1,20 @@
+-- The first wrong name from i on, counted from k, is the chain's: a link name that is joined leads on, the last one leaves none.
+-- The measure is what is left of the line.
+use Prim.Native.Nat.{◌+◌, ◌-◌, ◌≤◌}
+use mathlib.Core.Path.{◌≡◌, sym, ◌∙◌}
+use native.Mathlib.Numerals.{add-one}
+use lib.ListN.{length}
+use borrow.Author.Tests.{not-true, not-false}
+use Rattle.paper.specs.Request.{first_wrong, first_link}
+use Rattle.words.specs.Place.{names_from}
+use Rattle.words.proofs.Words.{next-later}
+use Rattle.words.proofs.Names.{next-there, next-none, joined-inside, link-range, wrong-here, wrong-none, wrong-later}
+use native.Mathlib.Omega.{arith}
+use borrow.Author.Rules.{rules}
+use Rattle.words.proofs.name.first_wrong.Given as goal
+
+abbrev pub invariant-loop-p : goal.invariant-loop-p
+invariant-loop-p l = (first_wrong l.k (names_from l.line l.i) ≡ first_wrong (first_link (names_from l.line l.p)) (names_from l.line l.p)) × (l.k ≤ l.i + 2)
+
+abbrev pub decreases-loop-p : goal.decreases-loop-p
+decreases-loop-p l = length l.line - l.i
