@@ -16,7 +16,7 @@ returns-then-byte_at-ne-KIND c =
 pub returns-then-not-are_same : goal.returns-then-not-are_same
 returns-then-not-are_same c =
     let a = c.args in
-    let z : same c.part.result.now c.part-2.result.now ≡ false = sym c.are_same.ensures ∙ not-true _ c.if-not-are_same.true in
+    let z : same c.part.result.now c.part-2.result.now ≡ false = sym c.are_same.ensures ∙ c.if-not-are_same.true in
     sym (counts-front a.before.now a.after.now (rw (c.part.ensures, c.part-2.ensures) at z))
 
 pub returns : goal.returns
@@ -24,7 +24,7 @@ returns c =
     let a = c.args in
     let k = sym c.byte_at.ensures ∙ c.if-byte_at-ne-KIND.false in
     let z : same c.part.result.now c.part-2.result.now ≡ true =
-    sym c.are_same.ensures ∙ not-false _ c.if-not-are_same.false in
+    sym c.are_same.ensures ∙ c.if-not-are_same.false in
     c.are_same-2.ensures
     ∙ rw (c.part-3.ensures, c.part-4.ensures)
     (sym (counts-back a.before.now a.after.now k (rw (c.part.ensures, c.part-2.ensures) at z)))

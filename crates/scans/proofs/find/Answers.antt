@@ -14,16 +14,13 @@ use Rattle.scans.proofs.find.Goals as goal
 
 pub returns-then-is_unpacked : goal.returns-then-is_unpacked
 returns-then-is_unpacked c =
-    let u = c.is_unpacked in
     let a = c.args in
     c.find_number.ensures
     ∙ ap (λ (n : List ℕ). found_shown (find boxed a.table.now (holder_shown a.d) n))
-    (sym (same_true a.name.now _ (sym u.ensures ∙ c.if-is_unpacked.true)))
+    (sym (same_true a.name.now _ (sym c.is_unpacked.ensures ∙ c.if-is_unpacked.true)))
 
 pub returns : goal.returns
 returns c =
-    let u = c.is_unpacked in
-    let p = c.pack-number in
     let a = c.args in
     sym (ap found_shown
-    (find_none a.table.now (holder_shown a.d) a.name.now _ p.ensures.0 (sym u.ensures ∙ c.if-is_unpacked.false)))
+    (find_none a.table.now (holder_shown a.d) a.name.now _ c.pack-number.ensures.0 (sym c.is_unpacked.ensures ∙ c.if-is_unpacked.false)))

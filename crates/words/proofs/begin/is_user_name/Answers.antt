@@ -13,12 +13,12 @@ is_pointed-requires c = tt
 
 pub returns-then-not-is_pointed : goal.returns-then-not-is_pointed
 unfolding user_name
-returns-then-not-is_pointed c = let e = sym c.is_pointed.ensures ∙ not-true _ c.if-not-is_pointed.true in rw e
+returns-then-not-is_pointed c = let e = sym c.is_pointed.ensures ∙ c.if-not-is_pointed.true in rw e
 
 pub returns-then-n-ne-BYTES : goal.returns-then-n-ne-BYTES
 unfolding user_name
 returns-then-n-ne-BYTES c =
-    let e = sym c.is_pointed.ensures ∙ not-false _ c.if-not-is_pointed.false in
+    let e = sym c.is_pointed.ensures ∙ c.if-not-is_pointed.false in
     rw (e, ne_eqb (length c.args.n.now) 7 c.if-n-ne-BYTES.true)
 
 pub end_of-requires : goal.end_of-requires
@@ -28,5 +28,5 @@ pub returns : goal.returns
 unfolding user_name
 returns c =
     let n = c.args.n.now in
-    let e = sym c.is_pointed.ensures ∙ not-false _ c.if-not-is_pointed.false in
+    let e = sym c.is_pointed.ensures ∙ c.if-not-is_pointed.false in
     rw (e, eq-eqb (length n) 7 c.if-n-ne-BYTES.false, all-reach-from in_number n 1 (omega arith), c.end_of.ensures)

@@ -22,22 +22,22 @@ pub is_octal-requires : goal.is_octal-requires
 is_octal-requires c = tt
 
 pub returns-in-Blank : goal.returns-in-Blank
-returns-in-Blank c = rw c.enum_told-1.given.1
+returns-in-Blank c = rw c.in-Blank.is
 
 pub returns-in-Plain : goal.returns-in-Plain
-returns-in-Plain c = rw c.enum_told-in-Plain-1.given.1 c.is_plain.ensures
+returns-in-Plain c = rw c.in-Plain.is c.is_plain.ensures
 
 pub returns-in-Line : goal.returns-in-Line
-returns-in-Line c = rw c.enum_told-in-Line-1.given.1 c.in_line.ensures
+returns-in-Line c = rw c.in-Line.is c.in_line.ensures
 
 pub returns-in-Name : goal.returns-in-Name
-returns-in-Name c = rw c.enum_told-in-Name-1.given.1 c.in_name.ensures
+returns-in-Name c = rw c.in-Name.is c.in_name.ensures
 
 pub returns-in-Base : goal.returns-in-Base
-returns-in-Base c = rw c.enum_told-in-Base-1.given.1 c.in_base.ensures
+returns-in-Base c = rw c.in-Base.is c.in_base.ensures
 
 pub returns-in-Digit : goal.returns-in-Digit
-returns-in-Digit c = rw c.enum_told-in-Digit-1.given.1 c.is_digit.ensures
+returns-in-Digit c = rw c.in-Digit.is c.is_digit.ensures
 
 pub returns-in-Octal : goal.returns-in-Octal
-returns-in-Octal c = rw c.enum_told-in-Octal-1.given.1 c.is_octal.ensures
+returns-in-Octal c = rw c.in-Octal.is c.is_octal.ensures

@@ -16,11 +16,11 @@ name-requires c = tt
 pub returns-in_default : goal.returns-in_default
 returns-in_default c =
     let args = c.args in
-    let t = next-there args.line.now args.p _ (sym c.next_name.ensures ∙ c.enum_told-in_default-1.given.1) in
+    let t = next-there args.line.now args.p _ (sym c.next_name.ensures ∙ c.in_default.is) in
     sym (names-two args.line.now args.p lone_of [] (λ n m ns. refl) t.0)
 
 pub returns : goal.returns
 returns c =
     let args = c.args in
-    let j = next-none args.line.now args.p (sym c.next_name.ensures ∙ c.enum_told-1.given.1) in
+    let j = next-none args.line.now args.p (sym c.next_name.ensures ∙ c.in-Nothing.is) in
     rw (names-one args.line.now args.p j) c.name.ensures

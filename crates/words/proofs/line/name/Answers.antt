@@ -13,6 +13,12 @@ end_of-e-requires c = tt
 pub slice_bounds-result-count : goal.slice_bounds-result-count
 slice_bounds-result-count c = rw c.end_of-e.ensures (reach-le _ _ _)
 
+pub slice_bounds-result-start : goal.slice_bounds-result-start
+slice_bounds-result-start c = rw c.end_of-e.ensures (reach-le _ _ _)
+
+pub slice_bounds-result-end : goal.slice_bounds-result-end
+slice_bounds-result-end c = rw c.end_of-e.ensures (reach-inside _ _ _ c.if-p-line.true)
+
 pub returns-then-p-line : goal.returns-then-p-line
 returns-then-p-line c = rw c.end_of-e.ensures
 

@@ -24,21 +24,21 @@ pub returns-in_default : goal.returns-in_default
 returns-in_default c =
     let line = c.args.line.now in
     let i = c.loop-i.i in
-    let j = next-none line i (sym c.next_name.ensures ∙ c.enum_told-1.given.1) in
+    let j = next-none line i (sym c.next_name.ensures ∙ c.in_default.is) in
     rw (c.end_of.ensures, c.end_of-e.ensures, ← next_last line i (omega arith) j) c.loop-i.invariant
 
 pub loop-i-smaller : goal.loop-i-smaller
 loop-i-smaller c =
     let line = c.args.line.now in
     let i = c.loop-i.i in
-    let t = next-there line i _ (sym c.next_name.ensures ∙ c.q-1.given.1) in
+    let t = next-there line i _ (sym c.next_name.ensures ∙ c.in-At.is) in
     omega (arith, t.1, next-later line i)
 
 pub loop-i-preserved : goal.loop-i-preserved
 loop-i-preserved c =
     let line = c.args.line.now in
     let i = c.loop-i.i in
-    let t = next-there line i _ (sym c.next_name.ensures ∙ c.q-1.given.1) in
+    let t = next-there line i _ (sym c.next_name.ensures ∙ c.in-At.is) in
     rw (t.1, next-joined line i t.0) c.loop-i.invariant
 
 pub returns : goal.returns

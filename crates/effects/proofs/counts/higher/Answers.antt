@@ -1,0 +1,10 @@
+-- The test tells which of the two it is,
+-- as in the definition.
+use borrow.Author.Tests.{lt-ltb, le-ltb}
+use Rattle.effects.proofs.counts.higher.Goals as goal
+
+pub returns-then-a-b : goal.returns-then-a-b
+returns-then-a-b c = rw (lt-ltb _ _ c.if-a-b.true)
+
+pub returns : goal.returns
+returns c = rw (le-ltb _ _ c.if-a-b.false)

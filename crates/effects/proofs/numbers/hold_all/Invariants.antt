@@ -1,0 +1,16 @@
+-- After each turn the numbers are those of the entries passed so far.
+-- At the end that is every entry.
+use mathlib.Core.Path.{◌≡◌}
+use Prim.Native.Nat.{◌-◌, ◌≤◌}
+use native.Mathlib.Omega.{arith}
+use borrow.Author.Rules.{rules}
+use Rattle.paper.specs.Table.{rooms}
+use Rattle.records.specs.Numbered.{holding, Numbered}
+use Rattle.records.proofs.Numbered.{holding-none, holdings-all}
+use Rattle.effects.proofs.numbers.hold_all.Given as goal
+
+abbrev pub invariant-loop-i : goal.invariant-loop-i
+invariant-loop-i l = Numbered (holding l.t l.i) l.held × (l.i ≤ l.n) × (l.n ≡ rooms l.t)
+
+abbrev pub decreases-loop-i : goal.decreases-loop-i
+decreases-loop-i l = l.n - l.i

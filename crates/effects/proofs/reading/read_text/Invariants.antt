@@ -1,0 +1,22 @@
+-- What is still to be copied from the place on, copied there, is the whole copied to the front; so each turn copies the bytes of one
+-- more record that belong to it, and where no record is left nothing is to be copied.
+use mathlib.Core.List.{List}
+use mathlib.Core.Path.{◌≡◌, refl, sym, ◌∙◌}
+use Prim.Native.Nat.{ℕ, ◌-◌, ◌≤◌}
+use native.Mathlib.Omega.{arith}
+use lib.ListN.{length, get_or, take, drop}
+use lib.Seq.{sets}
+use borrow.Author.Rules.{rules}
+use Rattle.paper.specs.Record.{held}
+use Rattle.paper.specs.Table.{rec}
+use Rattle.effects.specs.Listed.{gathered}
+use Rattle.effects.proofs.Gathers.{part_none, part-more, part-most, part-done}
+use Rattle.effects.proofs.reading.read_text.Given as goal
+
+abbrev pub invariant-loop-p : goal.invariant-loop-p
+invariant-loop-p l = (sets l.into (l.n - l.left) (take l.left (drop l.skip (gathered l.table l.rooms l.p l.last))) ≡ sets l.initial.into 0 (take l.initial.left (drop l.initial.skip (gathered l.table l.rooms l.initial.p l.last))))
+    × (length l.into ≡ length l.initial.into)
+    × (l.left ≤ l.n)
+
+abbrev pub decreases-loop-p : goal.decreases-loop-p
+decreases-loop-p l = l.last - l.p

@@ -1,0 +1,37 @@
+use mathlib.Core.Path.{◌≡◌, refl}
+use Prim.Native.Nat.{◌-◌, ◌≤◌, ◌<◌}
+use native.Mathlib.Omega.{arith}
+use lib.ListN.{length}
+use borrow.Author.Rules.{rules}
+use Rattle.paper.specs.Count.{untrue}
+use Rattle.paper.specs.Store.{fills}
+use Rattle.paper.specs.Table.{rooms}
+use Rattle.effects.specs.Counted.{Counted}
+use Rattle.effects.proofs.Corrected.{corrected, corrected-more}
+use Rattle.effects.proofs.Counted.{counted_start}
+use Rattle.effects.proofs.recount.correct_all.Goals as goal
+
+pub loop-i-init : goal.loop-i-init
+loop-i-init c = (counted_start _ _ _ _ _, refl, omega arith, c.rooms-n.ensures, omega arith)
+
+pub correct_turn-needed-requires : goal.correct_turn-needed-requires
+correct_turn-needed-requires c = (omega arith, omega arith)
+
+pub loop-i-preserved : goal.loop-i-preserved
+loop-i-preserved c =
+    let i : c.loop-i.i < 2048 = omega arith in
+    let b : c.loop-i.i < rooms c.args.table.now = omega arith in (
+      corrected-more _ _ _ _ _ _ c.loop-i.invariant.0 b _ _ _ _ (c.requires.1.at c.loop-i.i i) (c.requires.2.at c.loop-i.i i) c.correct_turn-needed.ensures.0,
+      omega arith,
+      omega arith,
+      c.loop-i.invariant.3,
+      omega arith,
+    )
+
+pub shape_of-table : goal.shape_of-table
+shape_of-table c = c.loop-i.invariant.1
+
+pub returns : goal.returns
+returns c =
+    let e : c.loop-i.i ≡ rooms c.args.table.now = omega arith in
+    (rw e at c.loop-i.invariant.0, omega arith)

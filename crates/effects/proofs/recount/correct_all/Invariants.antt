@@ -1,0 +1,24 @@
+-- After i turns the headings below i are corrected as far as the stop number allows, and all of them are counted.
+-- Each turn adds one record, which those before left as it was; at the end these are all records.
+use mathlib.Core.Path.{◌≡◌, refl}
+use Prim.Native.Nat.{◌-◌, ◌≤◌, ◌<◌}
+use native.Mathlib.Omega.{arith}
+use lib.ListN.{length}
+use borrow.Author.Rules.{rules}
+use Rattle.paper.specs.Count.{untrue}
+use Rattle.paper.specs.Store.{fills}
+use Rattle.paper.specs.Table.{rooms}
+use Rattle.effects.specs.Counted.{Counted}
+use Rattle.effects.proofs.Corrected.{corrected, corrected-more}
+use Rattle.effects.proofs.Counted.{counted_start}
+use Rattle.effects.proofs.recount.correct_all.Given as goal
+
+abbrev pub invariant-loop-i : goal.invariant-loop-i
+invariant-loop-i l = Counted l.initial.table l.table l.stop 0 l.needed (fills (untrue l.initial.table) (corrected l.initial.table) l.i)
+    × (length l.table ≡ length l.initial.table)
+    × (l.i ≤ l.n)
+    × (l.n ≡ rooms l.initial.table)
+    × (l.needed ≤ l.i)
+
+abbrev pub decreases-loop-i : goal.decreases-loop-i
+decreases-loop-i l = l.n - l.i

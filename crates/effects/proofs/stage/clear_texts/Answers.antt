@@ -1,0 +1,28 @@
+use mathlib.Core.Path.{◌≡◌, refl}
+use Prim.Native.Nat.{◌-◌, ◌≤◌}
+use native.Mathlib.Omega.{arith}
+use lib.ListN.{length, get_or}
+use borrow.Author.Rules.{rules}
+use Rattle.paper.specs.Scan.{each_below}
+use Rattle.paper.specs.Record.{blank}
+use Rattle.paper.specs.Store.{clear}
+use Rattle.effects.specs.Stage.{Made}
+use Rattle.effects.proofs.Stages.{made-start, made_more}
+use Rattle.effects.proofs.stage.clear_texts.Goals as goal
+
+pub loop-p-init : goal.loop-p-init
+loop-p-init c = (made-start _ _ _, refl, omega arith)
+
+pub loop-p-preserved : goal.loop-p-preserved
+unfolding blank
+loop-p-preserved c = (
+  made_more _ _ _ _ _ _ _ _ c.loop-p.invariant.0
+      (rw c.room_at.ensures at c.put-rest.ensures),
+  omega arith,
+  omega arith,
+)
+
+pub returns : goal.returns
+returns c =
+    let e : c.loop-p.p ≡ c.args.count.0 = omega arith in
+    rw e at c.loop-p.invariant.0

@@ -1,0 +1,19 @@
+-- Two bytes, the low one first, are the number or not, and so they say it or not.
+-- Bytes are below 256, so the sum fits.
+use native.Mathlib.Omega.{arith}
+use borrow.Author.Rules.{rules}
+use Rattle.paper.specs.Table.{rec}
+use Rattle.laws.proofs.Lay.{length-rec}
+use Rattle.records.proofs.Said.{says-number}
+use Rattle.judge.proofs.counts.is_said.Goals as goal
+
+pub returns : goal.returns
+returns c =
+    let x = c.byte_of.ensures in
+    let y = c.byte_of-2.ensures in
+    rw (
+      says-number (rec c.args.t.now c.args.i) c.args.j (length-rec c.args.t.now c.args.i c.requires.0) c.requires.1 c.args.n
+          (omega arith) (omega arith) c.requires.2,
+      ← x.0,
+      ← y.0,
+    )

@@ -1,0 +1,15 @@
+-- The sum has the classes of the codes read, the lowest first, and the rest has the codes above them.
+-- Ten classes are no more than 2,046.
+use mathlib.Core.Path.{◌≡◌, sym, ap, ◌∙◌}
+use Prim.Native.Nat.{ℕ, ◌+◌, ◌-◌, ◌*◌, ◌/◌, ◌%◌, ◌^◌, ◌≤◌}
+use native.Mathlib.Omega.{arith}
+use native.Mathlib.Nat.{pow-zero, div-one}
+use Rattle.judge_laws.specs.Codes.{class_of, class_bits}
+use Rattle.judge_laws.proofs.Names.{bits_none, bits-more, bits_most, rest_more}
+use Rattle.judge.proofs.name.class_sum.Given as goal
+
+abbrev pub invariant-loop-m : goal.invariant-loop-m
+invariant-loop-m l = (l.sum ≡ class_bits l.m l.x) × (l.rest ≡ l.x / 64 ^ l.m) × (l.m ≤ 10) × (l.sum ≤ 2046)
+
+abbrev pub decreases-loop-m : goal.decreases-loop-m
+decreases-loop-m l = 10 - l.m

@@ -1,0 +1,26 @@
+use mathlib.Core.Bool.{true}
+use mathlib.Core.Path.{◌≡◌, sym, ◌∙◌}
+use Prim.Native.Nat.{◌-◌, ◌≤◌}
+use native.Mathlib.Omega.{arith}
+use Rattle.paper.specs.Record.{zeros}
+use Rattle.paper.specs.Table.{rec}
+use Rattle.judge_laws.proofs.Shapes.{zeros-not, zeros-next}
+use Rattle.judge.proofs.zeros.are_zeros.Goals as goal
+
+pub loop-m-init : goal.loop-m-init
+loop-m-init c = (c.count_zeros-m.ensures.1, omega arith)
+
+pub returns-then-byte_of-ne0 : goal.returns-then-byte_of-ne0
+returns-then-byte_of-ne0 c =
+    let a = c.args in
+    sym (zeros-not a.j a.n (rec a.t.now a.i) c.loop-m.m (omega arith) (λ q. c.if-byte_of-ne0.true (c.byte_of.ensures.0 ∙ q)))
+
+pub loop-m-preserved : goal.loop-m-preserved
+loop-m-preserved c =
+    let a = c.args in
+    (zeros-next a.j c.loop-m.m (rec a.t.now a.i) c.loop-m.invariant.0 (sym c.byte_of.ensures.0 ∙ c.if-byte_of-ne0.false), omega arith)
+
+pub returns : goal.returns
+returns c =
+    let e : c.loop-m.m ≡ c.args.n = omega arith in
+    sym (rw e at c.loop-m.invariant.0)

@@ -1,0 +1,16 @@
+-- The bytes passed so far are zero; the first that is not refutes the test.
+-- Where none is left to pass, the test passes.
+use mathlib.Core.Bool.{true}
+use mathlib.Core.Path.{◌≡◌, sym, ◌∙◌}
+use Prim.Native.Nat.{◌-◌, ◌≤◌}
+use native.Mathlib.Omega.{arith}
+use Rattle.paper.specs.Record.{zeros}
+use Rattle.paper.specs.Table.{rec}
+use Rattle.judge_laws.proofs.Shapes.{zeros-not, zeros-next}
+use Rattle.judge.proofs.zeros.are_zeros.Given as goal
+
+abbrev pub invariant-loop-m : goal.invariant-loop-m
+invariant-loop-m l = (zeros l.j l.m (rec l.t l.i) ≡ true) × (l.m ≤ l.n)
+
+abbrev pub decreases-loop-m : goal.decreases-loop-m
+decreases-loop-m l = l.n - l.m

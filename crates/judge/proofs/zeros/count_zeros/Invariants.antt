@@ -1,0 +1,16 @@
+-- The bytes passed so far are zero: four at once where their number is 0.
+-- The first four that are not leave the rest to the caller.
+use mathlib.Core.Bool.{true}
+use mathlib.Core.Path.{◌≡◌, sym, ◌∙◌}
+use Prim.Native.Nat.{◌-◌, ◌≤◌}
+use native.Mathlib.Omega.{arith}
+use Rattle.paper.specs.Record.{zeros}
+use Rattle.paper.specs.Table.{rec}
+use Rattle.judge_laws.proofs.Shapes.{zeros-more, zeros-none}
+use Rattle.judge.proofs.zeros.count_zeros.Given as goal
+
+abbrev pub invariant-loop-m : goal.invariant-loop-m
+invariant-loop-m l = (zeros l.j l.m (rec l.t l.i) ≡ true) × (l.m ≤ l.n)
+
+abbrev pub decreases-loop-m : goal.decreases-loop-m
+decreases-loop-m l = l.n - l.m

@@ -1,0 +1,16 @@
+-- The entry's store is a stage of one, the counts go by the table that it leaves, and the settling is a stage after them.
+-- Where no file is lost there is no settling.
+use mathlib.Core.List.{append-nil}
+use Rattle.effects.proofs.Stages.{made-both}
+use Rattle.placing.proofs.Meeting.{made-entered}
+use borrow.Author.Rules.{rules}
+use Rattle.placing.proofs.place_entry.Goals as goal
+
+pub returns-then-meets : goal.returns-then-meets
+returns-then-meets c =
+    rw c.if-meets.true
+    (made-both _ _ _ _ _ _ _ _ (made-entered _ _ _ _ _ _ _ _ _ c.put-laid.ensures c.recount-rest.ensures) c.clear_file.ensures)
+
+pub returns : goal.returns
+returns c =
+    rw (c.if-meets.false, append-nil) (made-entered _ _ _ _ _ _ _ _ _ c.put-laid.ensures c.recount-rest.ensures)
