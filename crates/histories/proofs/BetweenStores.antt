@@ -131,7 +131,7 @@ del-wiped : (v : Several) (ws : List Word) (t : List ℕ) (u : ℕ) (reply : Lis
 unfolding deleting
 del-wiped v [] t u reply n made c = no-wipe t _ (λ _. refl)
 del-wiped v (w ∷ ws) t u reply n made c =
-    name-wiped t reply n made _ (plan_of v t u (n + 1) w) (named-keeps v t u (n + 1) w c) (named-falls v t c u (n + 1) w) (λ t₁. del-wiped v ws t₁ u reply)
+    name-wiped t reply n made (λ t₁ k₁ n₁ made₁. deleting (plan_of v) t₁ u reply k₁ n₁ made₁ ws) (plan_of v t u (n + 1) w) (named-keeps v t u (n + 1) w c) (named-falls v t c u (n + 1) w) (λ t₁. del-wiped v ws t₁ u reply)
 
 -- ---- every call
 

@@ -112,7 +112,8 @@ module _ {A B : Layout} where
   pub run-twins : {t s : List ℕ} {xs ys : List Store} → Alike A B xs ys → Twins A B t s → Twins A B (run t xs) (run s ys)
   unfolding run
   run-twins none w = w
-  run-twins (more {a} {b} h k) w = run-twins k (lay-twins a b h w)
+  run-twins {t = t} {s = s} (more {a = a} {b = b} h k) w =
+      run-twins {t = lay t a.at a.bytes} {s = lay s b.at b.bytes} k (lay-twins a b h w)
 
   pub alike-length : {xs ys : List Store} → Alike A B xs ys → length xs ≡ length ys
   alike-length none = refl

@@ -1,0 +1,26 @@
+-- Without a link name the entry is not legible;
+-- with one, it is where it is the record that the name lays.
+use mathlib.Core.Path.{sym, ◌∙◌}
+use borrow.Author.Tests.{not-true, not-false}
+use borrow.Author.Rules.{rules}
+use Rattle.paper.specs.Layout.{old}
+use Rattle.paper.specs.Table.{rec}
+use Rattle.convert.proofs.Names.{old-short}
+use Rattle.convert.proofs.Looked.{legible-no, legible-by}
+use Rattle.convert.proofs.old.is_legible.Goals as goal
+
+pub returns-then-not-is_link_name : goal.returns-then-not-is_link_name
+returns-then-not-is_link_name c =
+    let a = c.args in
+    legible-no old (rec a.table.now a.room.0) _ c.old_name-name.ensures (sym c.is_link_name.ensures ∙ c.if-not-is_link_name.true)
+
+pub old_record-again-requires : goal.old_record-again-requires
+old_record-again-requires c =
+    (c.requires, rw c.old_name-name.ensures (old-short (rec c.args.table.now c.args.room.0)))
+
+pub returns : goal.returns
+returns c =
+    let a = c.args in
+    c.are_same.ensures
+    ∙ rw (c.record_at.ensures, c.old_record-again.ensures)
+    (legible-by old (rec a.table.now a.room.0) _ c.old_name-name.ensures (sym c.is_link_name.ensures ∙ c.if-not-is_link_name.false))

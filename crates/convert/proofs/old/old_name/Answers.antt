@@ -1,0 +1,10 @@
+-- The name is the first bytes of its ten,
+-- as many as the length byte says.
+use mathlib.Core.Path.{◌∙◌}
+use borrow.Author.Rules.{rules}
+use Rattle.paper.specs.Layout.{old_name}
+use Rattle.convert.proofs.old.old_name.Goals as goal
+
+pub returns : goal.returns
+unfolding old_name
+returns c = c.part.ensures ∙ rw (c.part-field.ensures, c.record_at.ensures, c.byte_of-length.ensures)

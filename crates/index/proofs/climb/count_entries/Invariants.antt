@@ -1,0 +1,16 @@
+-- Counted up to i: one more record
+-- adds one where it is an entry.
+use mathlib.Core.Path.{◌≡◌, refl}
+use Prim.Native.Nat.{◌≤◌, ◌-◌}
+use native.Mathlib.Omega.{arith}
+use Rattle.paper.specs.Scan.{count_below}
+use Rattle.paper.specs.Table.{rooms}
+use Rattle.paper.specs.Index.{is_entry}
+use Rattle.index_laws.proofs.Turns.{count-on}
+use Rattle.index.proofs.climb.count_entries.Given as goal
+
+abbrev pub invariant-loop-i : goal.invariant-loop-i
+invariant-loop-i l = (l.i ≤ l.n) × (l.n ≡ rooms l.t) × (l.count ≤ l.i) × (l.count ≡ count_below (is_entry l.t) l.i)
+
+abbrev pub decreases-loop-i : goal.decreases-loop-i
+decreases-loop-i l = l.n - l.i

@@ -1,0 +1,16 @@
+-- The base files' entries below i are followed, at every turn.
+-- Each turn follows one more.
+use mathlib.Core.Path.{◌≡◌}
+use Prim.Native.Nat.{◌-◌, ◌≤◌}
+use native.Mathlib.Omega.{arith}
+use borrow.Author.Rules.{rules}
+use Rattle.paper.specs.Table.{rooms}
+use Rattle.sweep.specs.Marked.{Based, Held, Grown}
+use Rattle.sweep.proofs.Marks.{grown-refl, grown-trans, based-none}
+use Rattle.sweep.proofs.reach.reach_bases.Given as goal
+
+abbrev pub invariant-loop-i : goal.invariant-loop-i
+invariant-loop-i l = Held l.table l.marks l.queue l.end × Grown l.initial.marks l.initial.queue 0 l.marks l.queue l.end × Based l.table l.marks l.i × (l.i ≤ l.n) × (l.n ≡ rooms l.table)
+
+abbrev pub decreases-loop-i : goal.decreases-loop-i
+decreases-loop-i l = l.n - l.i
