@@ -130,7 +130,8 @@ module _ (a : Removal) (t : List ℕ) (u k n m : ℕ) (w : Word) (ws : List Word
       → deleting (removal_plan a) t u [] k n m (w ∷ ws)
       ≡ record { answer = plain number (place_meant b) n (m + (k - r)); table = (did t k one).table; reply = [] }
   unfolding deleting
-  turn-ended number b r e = one_ended t k n m _ one number b r e
+  turn-ended number b r e =
+      one_ended t k n m (λ t₁ k₁ n₁ made₁. deleting (removal_plan a) t₁ u [] k₁ n₁ made₁ ws) one number b r e
 
   module _ (r : ℕ) (e : removed_shown k one ≡ Done r) where
     turn-done : deleting (removal_plan a) t u [] k n m (w ∷ ws) ≡ deleting (removal_plan a) (did t k one).table u [] r (n + 1) (m + (k - r)) ws

@@ -2,8 +2,6 @@
 // each, the answer's seven numbers on a line, then the reply bytes.
 #![tactic(auto)]
 
-use libc::STDIN_FILENO;
-
 mod first_word;
 mod held;
 mod output;
@@ -12,6 +10,8 @@ mod service;
 ghost use Rattle.std.specs.Prelude.{true, ◌≡◌, ◌<◌, length};
 ghost use Rattle.filebox.specs.Box.{begins_true};
 ghost use Rattle.filebox.specs.Shows.{Over, Further};
+
+use std::io::{Read, Stdin};
 
 use crate::held::Held;
 use crate::service::{feed, finish};
@@ -25,6 +25,7 @@ struct Turn {
 
 // Reads once. None is left at the end of the input, or where it cannot be read or an answer could not be written.
 fn read_some(
+    mut input: Stdin,
     table: &mut [u8],
     index: &mut [u16],
     line: &mut [u8],
@@ -38,8 +39,7 @@ fn read_some(
         held table.new index.new line.new text.new reply.new result.held × (result.reads < reads) }
 {
     let mut chunk = io::buffer();
-    let got = libc::read(STDIN_FILENO, &mut chunk);
-    let n = io::count(got, &chunk);
+    let n = input.read(&mut chunk).unwrap_or(0);
     if n == 0 {
         return Turn {
             held: held,
@@ -60,14 +60,21 @@ fn read_some(
 }
 
 // A proved loop has to end, and nothing says that the input does: so the reads are counted down, from a number that no run uses up.
-fn serve(table: &mut [u8], index: &mut [u16], line: &mut [u8], text: &mut [u8], reply: &mut [u8])
+fn serve(
+    input: Stdin,
+    table: &mut [u8],
+    index: &mut [u16],
+    line: &mut [u8],
+    text: &mut [u8],
+    reply: &mut [u8],
+)
     requires { (length line.old ≡ 257) × (length text.old ≡ 24001) × (begins_true table.old index.old ≡ true) }
     ensures { Over table.old index.old reply.old table.new index.new reply.new }
 {
     let mut held = Held::new(true);
     let mut reads = u64::MAX;
     while 0 < reads {
-        let next = read_some(table, index, line, text, reply, held, reads);
+        let next = read_some(input, table, index, line, text, reply, held, reads);
         held = next.held;
         reads = next.reads;
     }
@@ -75,11 +82,11 @@ fn serve(table: &mut [u8], index: &mut [u16], line: &mut [u8], text: &mut [u8], 
 }
 
 // "a table of at most 1,024 records, all free at the start, .. and a reply buffer of 24,000 bytes"; its index, no entry in it
-fn main() {
+fn main(rt: HostRuntime) {
     let mut table = [0u8; 32768];
     let mut index = [65535u16; 1024];
     let mut line = [0u8; 257];
     let mut text = [0u8; 24001];
     let mut reply = [0u8; 24000];
-    serve(&mut table, &mut index, &mut line, &mut text, &mut reply);
+    serve(rt.stdin(), &mut table, &mut index, &mut line, &mut text, &mut reply);
 }

@@ -3,8 +3,9 @@ ghost use Rattle.std.specs.Prelude.{◌≡◌, ◌+◌, ◌≤◌, length, take}
 ghost use Rattle.filebox.specs.Spelled.{Spelled, Line};
 
 use answers::Answer;
-use libc::STDOUT_FILENO;
 use records::store::copy_in;
+
+const STDOUT: i32 = 1;
 
 // A number in decimal from a place on, and a byte after it; answers the place past them.
 fn spell_wide(out: &mut [u8], at: usize, n: u64, after: u8) -> usize
@@ -50,8 +51,8 @@ pub(crate) struct Answered {
 
 // .. "then the reply bytes". Answers whether all of it was written.
 pub(crate) fn put(line: &[u8], reply: &[u8]) -> bool {
-    if !io::write_all(STDOUT_FILENO, line) {
+    if !io::write_all(STDOUT, line) {
         return false;
     }
-    io::write_all(STDOUT_FILENO, reply)
+    io::write_all(STDOUT, reply)
 }

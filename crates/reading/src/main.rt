@@ -7,7 +7,6 @@
 ghost use Rattle.std.specs.Prelude.{◌≤◌, length};
 
 use declarations::part::{Digit, Level, Lifetime};
-use libc::{STDIN_FILENO, STDOUT_FILENO};
 use reader::request::{Read, Request};
 use records::bytes::Bytes;
 use records::code::Code;
@@ -15,18 +14,22 @@ use records::heading::Heading;
 use words::begin::Begin;
 use words::octal::Part;
 
+const STDIN: i32 = 0;
+
+const STDOUT: i32 = 1;
+
 fn put(s: &[u8]) {
-    io::write_all(STDOUT_FILENO, s);
+    io::write_all(STDOUT, s);
 }
 
 fn put_place(p: usize) {
     put(b" ");
-    io::print_decimal(STDOUT_FILENO, p as u64);
+    io::print_decimal(STDOUT, p as u64);
 }
 
 fn put_number(n: u8) {
     put(b" ");
-    io::print_decimal(STDOUT_FILENO, n as u64);
+    io::print_decimal(STDOUT, n as u64);
 }
 
 fn put_lifetime(part: Lifetime) {
@@ -77,7 +80,7 @@ fn put_heading(ty: u8, lifetime: u8, level: Level, digit: Digit) {
 
 fn put_user(shelf: &[u8], user: u32) {
     put(shelf);
-    io::print_decimal(STDOUT_FILENO, user as u64);
+    io::print_decimal(STDOUT, user as u64);
 }
 
 // Where a name starts, unless in one's own base list, and the name.
@@ -126,7 +129,7 @@ fn put_part(part: Part) {
         return;
     };
     put(b" ");
-    io::print_decimal(STDOUT_FILENO, n as u64);
+    io::print_decimal(STDOUT, n as u64);
 }
 
 fn put_rds(from: Begin, name: usize, first: Part, count: Part) {
@@ -203,7 +206,7 @@ fn put_read(read: Read) {
     match read {
         Read::Granted(request) => put_request(request),
         Read::Refused(refusal) => {
-            io::print_decimal(STDOUT_FILENO, refusal.number as u64);
+            io::print_decimal(STDOUT, refusal.number as u64);
             put_place(refusal.place);
             put_place(refusal.link);
         }
@@ -237,6 +240,6 @@ fn put_lines(text: &[u8]) {
 
 fn main() {
     let mut buf = io::buffer();
-    let n = io::read_full(STDIN_FILENO, &mut buf);
+    let n = io::read_full(STDIN, &mut buf);
     put_lines(&buf[..n]);
 }

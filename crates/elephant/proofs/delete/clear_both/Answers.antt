@@ -1,0 +1,24 @@
+-- Two stages: the entry with the counts that its clearing moves, and the file, whose rooms and length were read before any store.
+-- A sound table's file has at most 1,000 text records, and at most two counts move.
+use native.Mathlib.Omega.{arith}
+use Rattle.elephant.proofs.Clearings.{freed-rooms, both-cleared}
+use borrow.Author.Rules.{rules}
+use Rattle.elephant.proofs.delete.clear_both.Goals as goal
+
+pub overflow_add-count : goal.overflow_add-count
+overflow_add-count c =
+    omega (arith, c.blocks-count.ensures, c.text_length.ensures.1)
+
+pub overflow_add-counts : goal.overflow_add-counts
+overflow_add-counts c =
+    omega (arith, c.blocks-count.ensures, c.text_length.ensures.1, c.count_moves-counts.ensures.1)
+
+pub returns : goal.returns
+returns c =
+    let a = c.args in
+    let p = c.requires in
+    let e = freed-rooms a.table.now a.heading.0 p.0 p.1 p.2 _ _ _ c.text_rooms.ensures c.blocks-count.ensures
+    c.text_length.ensures.0 in
+    rw (← c.gone-moves.ensures)
+    (both-cleared a.table.now a.entry.0 _ a.heading.0 _ _ e _ _ _ _ _ _ _ c.count_moves-counts.ensures.0 c.take_out-rest.ensures
+    c.clear_file.ensures c.spent.ensures)
