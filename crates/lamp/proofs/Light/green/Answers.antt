@@ -2,12 +2,8 @@
 -- Nothing else is to be shown.
 use mathlib.Core.Path.{refl}
 use Rattle.lamp.specs.Shown.{sheet_shown}
-use Rattle.lamp.proofs.Light.green.Statement.{statement}
-use Rattle.lamp.proofs.Light.green.Tie as tie
+use Rattle.lamp.proofs.Light.green.Goals as goal
 
-returns : tie.Need-returns
+pub returns : goal.returns
 unfolding sheet_shown
 returns c = refl
-
-pub green-spec : {M : Type 1} → statement M
-green-spec = tie.close (tie.spec returns)

@@ -1,0 +1,30 @@
+use mathlib.Core.Path.{◌≡◌}
+use Prim.Native.Nat.{◌≤◌, ◌-◌}
+use native.Mathlib.Omega.{arith}
+use borrow.Author.Rules.{rules}
+use Rattle.job.specs.Sheet.{count}
+use Rattle.job.specs.Refusal.{missing}
+use Rattle.lamp.proofs.Refusals.{Left, left-all, left-short, left-more, found_here, found_none}
+use Rattle.lamp.proofs.refusal.first_missing.Goals as goal
+
+pub loop-i-init : goal.loop-i-init
+loop-i-init c = (left-all _ _, omega arith, c.count_sheets-n.ensures)
+
+pub returns-then-left-length : goal.returns-then-left-length
+returns-then-left-length c =
+    let l = left-short c.args.sheets.now c.args.texts.now c.loop-i.i c.loop-i.left c.loop-i.invariant.0
+    (omega (arith, c.length_of-length.ensures.0)) in
+    found_here (missing c.args.sheets.now c.args.texts.now) _ c.loop-i.i (omega arith) l c.loop-i.invariant.0.none
+
+pub loop-i-preserved : goal.loop-i-preserved
+loop-i-preserved c =
+    let e = c.length_of-length.ensures.0 in (
+      rw e (left-more c.args.sheets.now c.args.texts.now c.loop-i.i c.loop-i.left c.loop-i.invariant.0 (omega (arith, e))),
+      omega arith,
+      c.loop-i.invariant.2,
+    )
+
+pub returns : goal.returns
+returns c =
+    let e : c.loop-i.i ≡ count c.args.sheets.now = omega arith in
+    found_none (missing c.args.sheets.now c.args.texts.now) _ (rw e at c.loop-i.invariant.0.none)

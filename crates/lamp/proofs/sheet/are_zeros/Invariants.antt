@@ -1,0 +1,17 @@
+-- The bytes passed are zero; one that is not decides, and at the end all of them are.
+-- The measure is what is left to look at.
+use mathlib.Core.Bool.{true}
+use mathlib.Core.Path.{◌≡◌, sym, ◌∙◌}
+use Prim.Native.Nat.{◌≤◌, ◌<◌, ◌-◌}
+use native.Mathlib.Omega.{arith}
+use borrow.Author.Rules.{rules}
+use Rattle.paper.specs.Record.{zeros}
+use Rattle.paper.specs.Table.{rec}
+use Rattle.judge_laws.proofs.Shapes.{zeros-not, zeros-none, zeros-next}
+use Rattle.lamp.proofs.sheet.are_zeros.Given as goal
+
+abbrev pub invariant-loop-m : goal.invariant-loop-m
+invariant-loop-m l = (zeros l.place l.m (rec l.sheets l.i) ≡ true) × (l.m ≤ l.n) × (l.place < 32) × (l.n < 33)
+
+abbrev pub decreases-loop-m : goal.decreases-loop-m
+decreases-loop-m l = l.n - l.m
