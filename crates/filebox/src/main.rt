@@ -11,10 +11,9 @@ ghost use Rattle.std.specs.Prelude.{true, ◌≡◌, ◌<◌, length};
 ghost use Rattle.filebox.specs.Box.{begins_true};
 ghost use Rattle.filebox.specs.Shows.{Over, Further};
 
-use std::io::{Read, Stdin};
-
 use crate::held::Held;
 use crate::service::{feed, finish};
+use std::io::{Read, Stdin};
 
 // What is held after a read, and how many reads are left.
 #[derive(Clone, Copy)]
@@ -88,5 +87,12 @@ fn main(rt: HostRuntime) {
     let mut line = [0u8; 257];
     let mut text = [0u8; 24001];
     let mut reply = [0u8; 24000];
-    serve(rt.stdin(), &mut table, &mut index, &mut line, &mut text, &mut reply);
+    serve(
+        rt.stdin(),
+        &mut table,
+        &mut index,
+        &mut line,
+        &mut text,
+        &mut reply,
+    );
 }

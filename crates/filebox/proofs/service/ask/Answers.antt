@@ -1,0 +1,12 @@
+-- The request is made on what is held of the line and of its text,
+-- which is answered as the whole of them is; its answer is what is put into words.
+use mathlib.Core.Path.{refl}
+use Rattle.filebox.proofs.Steps.{request-tells}
+use borrow.Author.Rules.{rules}
+use Rattle.filebox.proofs.service.ask.Goals as goal
+
+pub returns : goal.returns
+returns c =
+    let a = c.args in
+    request-tells a.table.now a.index.now a.line.now a.text.now a.reply.now a.held
+    c.first.ensures c.first-2.ensures c.request-answer.ensures c.spell_answer.ensures refl

@@ -1,0 +1,14 @@
+use Prim.Native.Nat.{◌-◌, ◌+◌, ◌≤◌}
+use lib.ListN.{length}
+use native.Mathlib.Omega.{arith}
+use borrow.Author.Rules.{rules}
+use Rattle.reading.proofs.put_lines.Goals as goal
+
+pub read_line-requires : goal.read_line-requires
+read_line-requires c = tt
+
+pub put_read-requires : goal.put_read-requires
+put_read-requires c = tt
+
+pub returns : goal.returns
+returns c = tt
