@@ -8,7 +8,7 @@ use Prim.Native.Nat.{ℕ, ◌≤◌, ◌<◌}
 use native.Mathlib.Omega.{arith}
 use borrow.Author.Tests.{eqb-true}
 use Rattle.paper.specs.Layout.{boxed}
-use Rattle.paper.specs.Scan.{at, nowhere, first_below}
+use Rattle.paper.specs.Scan.{nowhere, first_below}
 use Rattle.paper.specs.Table.{rooms, rec}
 use Rattle.paper.specs.Name.{link_name}
 use Rattle.paper.specs.Entry.{Holder, stands, bears, find}

@@ -1,16 +1,16 @@
 -- A look-up through a true index is the plain scan's answer: the places before the end are the entries in order, what the search
 -- met there is the one entry of its rank, and where it met none the ranks are all less or more. It looks at no more than 12 entries.
 use mathlib.Core.Bool.{Bool, true, false, cond}
-use mathlib.Core.List.{List, [], ◌∷◌, ◌++◌}
+use mathlib.Core.List.{List}
 use mathlib.Core.Logic.{◌⊎◌, inl, inr, ◌≢◌, by_cases}
-use mathlib.Core.Path.{◌≡◌, refl, sym, ap, ◌∙◌}
-use Prim.Native.Nat.{ℕ, zero, suc, ◌-◌, ◌^◌, ◌≤◌, ◌<◌}
+use mathlib.Core.Path.{◌≡◌, sym, ap, ◌∙◌}
+use Prim.Native.Nat.{ℕ, ◌-◌, ◌^◌, ◌≤◌, ◌<◌}
 use native.Mathlib.Omega.{arith}
 use native.Mathlib.Decide.{dec_lt}
 use lib.Dec.{eqb}
 use lib.ListN.{length, get_or, take, replicate, get_or-append}
-use lib.Seq.{take_at, length-take-le}
-use borrow.Author.Tests.{eqb-true, eq-eqb, ne_eqb}
+use lib.Seq.{take_at}
+use borrow.Author.Tests.{eqb-true, eq-eqb}
 use Rattle.paper.specs.Scan.{any_below, at, nowhere, first_below}
 use Rattle.paper.specs.Table.{rooms}
 use Rattle.paper.specs.Name.{link_name}

@@ -11,7 +11,7 @@ use borrow.Author.Tests.{ne_eqb}
 use Rattle.paper.specs.Scan.{Found, at, nowhere, first_below}
 use Rattle.paper.specs.Record.{byte, heading_named, heading_of, text_at, held}
 use Rattle.paper.specs.Table.{rooms, rec, place, text_room}
-use Rattle.paper.specs.Entry.{Holder, bears}
+use Rattle.paper.specs.Entry.{Holder}
 use Rattle.paper.specs.Block.{blocks_of, file_text}
 use Rattle.paper.specs.Walk.{applies}
 use Rattle.laws.proofs.Scans.{first_cong}

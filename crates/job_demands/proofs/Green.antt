@@ -14,7 +14,7 @@ use Rattle.laws.proofs.Scans.{any_false}
 use Rattle.demands.proofs.Parts.{bringing}
 use Rattle.job.specs.Sheet.{count, sheet, job}
 use Rattle.job.specs.Refusal.{each, admission}
-use Rattle.job.specs.Filing.{Filing, filing_by, filing}
+use Rattle.job.specs.Filing.{Filing, filing_by}
 use Rattle.job.specs.Reading.{Reading, rds_line, read_back, reading_by, reading}
 use Rattle.job.specs.Lamp.{Lit, green, red, refusal, after_reading, after_filing, lit}
 use Rattle.job_demands.proofs.Bringing.{read_again}

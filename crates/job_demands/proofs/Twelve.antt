@@ -9,8 +9,8 @@ use Rattle.paper.specs.Layout.{entry_record, boxed}
 use Rattle.paper.proofs.Cases.{hold}
 use Rattle.job.specs.Sheet.{unpadded, link_of, formed, start, sheet, job}
 use Rattle.job.specs.Refusal.{each, admission}
-use Rattle.job.specs.Filing.{wrs_line, filed, filing_by, filing}
-use Rattle.job.specs.Reading.{rds_line, read_back, brought, reading_by, reading}
+use Rattle.job.specs.Filing.{wrs_line, filed, filing_by}
+use Rattle.job.specs.Reading.{rds_line, read_back, brought, reading_by}
 use Rattle.job.specs.Lamp.{red, lit}
 
 -- `CRD.R`, `DUP.R.R:A`: a directory, named by two entries and with one, its base entry of user 1, and its own entry A; and one free record

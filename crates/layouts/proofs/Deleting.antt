@@ -22,7 +22,7 @@ use Rattle.paper.specs.Effect.{Planned, plan, halted, inward, chain_of, end_of, 
 use Rattle.paper.specs.Answer.{Ran, refused_by, done, cut, stores, ran, one_name, NamePlan, deleting}
 use Rattle.laws.proofs.Tests.{either}
 use Rattle.laws.proofs.Lists.{Every, every_append, every-imp, every-each}
-use Rattle.laws.proofs.Lay.{Whole, length-rec, rec-past, length-lay, rooms-lay, lay-same, lay-other, length-blank, kind-blank, within}
+use Rattle.laws.proofs.Lay.{Whole, length-rec, rec-past, length-lay, rooms-lay, lay-same, lay-other, length-blank, kind-blank}
 use Rattle.laws.proofs.Fills.{every-fills}
 use Rattle.laws.proofs.Recounts.{recounted-kind, every-recounts}
 use Rattle.layouts.proofs.Twins.{Twins, run-twins, alike-length, alike-take}

@@ -9,7 +9,7 @@ use lib.ListN.{length, get_or, take, drop, replicate, length-take, length-drop, 
 use lib.Seq.{ext_get_or, get_or-drop, get_or-take, drop_at, drop-cons, drop-drop}
 use lib.Dec.{eqb, leb, ltb}
 use borrow.Author.Tests.{eqb-true, leb-true, ltb-true, le-leb}
-use Rattle.paper.specs.Record.{byte, zeros, padded}
+use Rattle.paper.specs.Record.{byte, zeros}
 use Rattle.paper.specs.Layout.{Layout, name_length, old_name, old_field, old, packed_name, six_name, six_field, six}
 use Rattle.paper.specs.Name.{link_name}
 use Rattle.laws.proofs.Tests.{and_left, and_right, and_both, and_parts}

@@ -12,7 +12,7 @@ use Rattle.paper.specs.Record.{entry_code}
 use Rattle.paper.specs.Layout.{Layout, name_of, old, six}
 use Rattle.paper.specs.Table.{rooms, rec}
 use Rattle.paper.specs.Name.{link_name}
-use Rattle.paper.specs.Sound.{entry_as_above, as_above, name_padded, name_legal, sound}
+use Rattle.paper.specs.Sound.{entry_as_above, name_padded, name_legal, sound}
 use Rattle.laws.proofs.Tests.{and_left, and_right}
 use Rattle.laws.proofs.Lay.{byte-rec, length-rec}
 use Rattle.laws.proofs.Sound.{every_true}

@@ -1,7 +1,7 @@
 -- All cases marked P hold, because every definition computes: antt runs each case through the very definitions that
 -- `request` and `mend` promise, and compares all seven numbers, every byte of the table and the reply.
 use mathlib.Core.Bool.{Bool, true}
-use mathlib.Core.List.{List, [], ◌∷◌, ◌++◌}
+use mathlib.Core.List.{List, ◌∷◌, ◌++◌}
 use mathlib.Core.Path.{◌≡◌, refl}
 use lib.ListN.{replicate}
 use Rattle.paper.specs.Number.{number_at, bytes_of}

@@ -4,7 +4,7 @@ use mathlib.Core.List.{List, [], ◌∷◌, ◌++◌}
 use mathlib.Core.Path.{◌≡◌, refl}
 use Prim.Native.Nat.{ℕ}
 use lib.Dec.{eqb}
-use lib.ListN.{replicate, take, drop}
+use lib.ListN.{replicate, take}
 use Rattle.paper.specs.Number.{number_at, bytes_of}
 use Rattle.paper.specs.Scan.{all_below, any_below, count_below, join_below}
 use Rattle.paper.specs.Record.{zeros, blank}
@@ -17,7 +17,7 @@ use Rattle.paper.specs.Sound.{as_above, holders_there, headings_there, users_rig
 use Rattle.paper.specs.Store.{fills, run}
 use Rattle.paper.specs.Count.{namings, counts_right}
 use Rattle.paper.specs.Effect.{renamed}
-use Rattle.paper.specs.Convert.{moved, converted, Conversion, converting}
+use Rattle.paper.specs.Convert.{moved, converted, converting}
 use Rattle.paper.specs.Case.{box}
 
 -- the call answers this number and leaves this table

@@ -17,7 +17,6 @@ use Rattle.words.specs.Place.{lone_of}
 use Rattle.words.specs.Shown.{shown_part, shown_octal}
 use Rattle.words.specs.declared.octal.Part.{Part}
 use Rattle.words.specs.declared.octal.Part.TheVariants.{Given}
-use Rattle.words.specs.declared.octal.Octal.{Octal}
 use Rattle.words.specs.declared.octal.Octal.TheVariants.{Number, NoNumber}
 use Rattle.reader.specs.Asked.{count_of, shown_verdict, shown_request, shown_read}
 use Rattle.reader.specs.declared.request.Refusal.{Refusal}

@@ -1,6 +1,6 @@
 -- A name that an entry bears comes back from its number, since only 60 bits of a number show in its name.
 -- So no entry bears a name that does not.
-use mathlib.Core.Bool.{true, false}
+use mathlib.Core.Bool.{false}
 use mathlib.Core.List.{List}
 use mathlib.Core.Path.{◌≡◌, sym, ap, ◌∙◌}
 use Prim.Native.Nat.{ℕ, ◌%◌, ◌^◌}

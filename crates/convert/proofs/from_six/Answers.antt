@@ -1,7 +1,6 @@
 -- The judge's number for a table that stays is the call's own;
 -- a table that is sound is converted.
 use mathlib.Core.Path.{sym, ◌∙◌}
-use borrow.Author.Rules.{rules}
 use Rattle.convert.proofs.Conversions.{judged-sized, done-from, done_refused}
 use Rattle.convert.proofs.from_six.Goals as goal
 

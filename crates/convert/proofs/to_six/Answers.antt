@@ -1,8 +1,6 @@
 -- What is not sized or not legible stays. A legible table is sound exactly where its conversion is,
 -- and where that is not, converting back gives the table.
 use mathlib.Core.Path.{sym, ◌∙◌}
-use borrow.Author.Tests.{not-true, not-false}
-use borrow.Author.Rules.{rules}
 use Rattle.paper.specs.Layout.{old, six}
 use Rattle.convert.proofs.Conversions.{done-unsized, sized-converted, done-illegible, done-to, done-back}
 use Rattle.convert.proofs.to_six.Goals as goal

@@ -9,7 +9,6 @@ use lib.ListN.{length, get_or, take, drop, length-take, length-drop}
 use lib.Dec.{eqb, leb, ltb}
 use lib.Seq.{take_all, get_or-take, get_or-drop}
 use borrow.Author.Tests.{ltb-true, leb-true, eq-eqb, ltb-false, not-false}
-use Rattle.paper.specs.Scan.{at}
 use Rattle.paper.specs.Name.{link_name, chain, well_formed, legal_base, base_name, lone_point}
 use Rattle.paper.specs.Declaration.{Part, given, not_given, is_given, Parts, fits, fit_wrs, fit_cpy, fit_dup, wrs_lifetime, dpr_code}
 use Rattle.paper.specs.Line.{Word, words, word, legal_line}

@@ -11,7 +11,7 @@ use lib.ListN.{length}
 use lib.Dec.{eqb, leb}
 use borrow.Author.Tests.{eqb-true, eq-eqb, leb-true, le-leb, not-true}
 use Rattle.paper.specs.Scan.{all_below, any_below, count_below}
-use Rattle.paper.specs.Record.{byte, heading_type, level, heading_code, lifetime, mark, text_length, directory, simple, entry_code, heading_named, text_at, zeros}
+use Rattle.paper.specs.Record.{byte, heading_type, level, heading_code, lifetime, mark, text_length, entry_code, heading_named, text_at, zeros}
 use Rattle.paper.specs.Layout.{name_of, boxed}
 use Rattle.paper.specs.Table.{sized, rooms, rec}
 use Rattle.paper.specs.Entry.{Holder, holder, stands, bears, crowd, limit, named}

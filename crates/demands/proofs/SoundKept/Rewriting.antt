@@ -24,7 +24,7 @@ use Rattle.laws.proofs.Lists.{Every, every_append, every-imp, every-each, length
 use Rattle.laws.proofs.Entries.{typed-type}
 use Rattle.laws.proofs.Fields.{text-record-kind, length-text, text-heading}
 use Rattle.laws.proofs.Rewritten.{length-rewritten}
-use Rattle.laws.proofs.Lay.{length-blank, within}
+use Rattle.laws.proofs.Lay.{length-blank}
 use Rattle.laws.proofs.Runs.{Lays}
 use Rattle.laws.proofs.Blocks.{block-most}
 use Rattle.demands.proofs.Sound.Clauses.{Sound}

@@ -2,7 +2,7 @@
 -- judged on the table by then.
 use mathlib.Core.List.{List, ◌++◌}
 use mathlib.Core.Path.{refl}
-use Prim.Native.Nat.{ℕ, zero, suc, ◌-◌}
+use Prim.Native.Nat.{ℕ, zero, suc}
 use native.Mathlib.Omega.{arith}
 use borrow.Author.Tests.{not-true}
 use Rattle.paper.specs.Record.{is_kind}

@@ -5,7 +5,6 @@ use mathlib.Core.Path.{◌≡◌, refl, sym, ◌∙◌}
 use native.Mathlib.Omega.{arith}
 use lib.ListN.{get_or-replicate}
 use borrow.Author.Tests.{not-true, not-false}
-use borrow.Author.Rules.{rules}
 use Rattle.judge_laws.specs.Counts.{all_headed}
 use Rattle.judge_laws.specs.Crowds.{place_of}
 use Rattle.judge_laws.specs.Mask.{without}

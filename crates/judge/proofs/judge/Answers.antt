@@ -2,7 +2,6 @@
 -- What is judged is the table itself.
 use mathlib.Core.Bool.{true}
 use mathlib.Core.Path.{◌≡◌, ap, ◌∙◌}
-use borrow.Author.Rules.{rules}
 use Rattle.judge.specs.Judged.{judged, judged_but}
 use Rattle.judge_laws.proofs.Counts.{sound-counted}
 use Rattle.judge_laws.proofs.Mask.{without-zeros}

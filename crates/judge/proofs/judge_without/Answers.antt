@@ -2,7 +2,6 @@
 -- The records that go are those of the called function.
 use mathlib.Core.Bool.{false}
 use mathlib.Core.Path.{◌≡◌, ◌∙◌}
-use borrow.Author.Rules.{rules}
 use Rattle.judge.specs.Judged.{judged_shape, judged_but}
 use Rattle.judge_laws.specs.Mask.{without}
 use Rattle.judge_laws.proofs.Counts.{sound-uncounted}

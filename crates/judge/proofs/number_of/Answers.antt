@@ -2,8 +2,6 @@
 -- Soundness is only asked of a sized table, as the passes need; clearing leaves its length.
 use mathlib.Core.Bool.{true, false}
 use mathlib.Core.Path.{◌≡◌, sym, ◌∙◌}
-use borrow.Author.Tests.{not-true, not-false}
-use borrow.Author.Rules.{rules}
 use Rattle.judge_laws.specs.Counts.{sound_but}
 use Rattle.judge_laws.specs.Mask.{without}
 use Rattle.judge.specs.Judged.{judged_but}

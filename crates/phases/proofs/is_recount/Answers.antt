@@ -2,8 +2,6 @@
 -- The parts compared are the bytes before the counts and all those after them.
 use mathlib.Core.Bool.{true, false}
 use mathlib.Core.Path.{◌≡◌, sym, ◌∙◌}
-use borrow.Author.Rules.{rules}
-use borrow.Author.Tests.{not-true, not-false}
 use Rattle.paper.specs.Name.{same}
 use Rattle.disk.proofs.Phases.{counts-kind, counts-front, counts-back}
 use Rattle.phases.proofs.is_recount.Goals as goal

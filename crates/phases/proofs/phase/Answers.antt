@@ -1,7 +1,6 @@
 -- Two lengths, or a number past the last record, give 0; elsewhere the two records are taken and compared.
 use mathlib.Core.Path.{sym, ◌∙◌}
 use native.Mathlib.Omega.{arith}
-use borrow.Author.Rules.{rules}
 use Rattle.disk.proofs.Phases.{phase-in, phase-longer, phase-past}
 use Rattle.phases.proofs.phase.Goals as goal
 

@@ -1,7 +1,6 @@
 -- The tests in the order of the definition, each return one law of `phase_of`.
 -- The two kinds are read once, after the comparison, and each test is about what was read.
 use mathlib.Core.Path.{sym, ◌∙◌}
-use borrow.Author.Rules.{rules}
 use Rattle.disk.proofs.Phases.{phase-still, phase-was, phase-is, phase-free, phase-freed, phase-counts, phase-held}
 use Rattle.phases.proofs.phase_of.Goals as goal
 

@@ -1,7 +1,6 @@
 -- The checks stand in number order, and the code tries them in that order: the first that holds refuses.
 -- Each test of the code is the check's own.
 use Rattle.paper.specs.Check.{verdict}
-use borrow.Author.Rules.{rules}
 use Rattle.placing.proofs.entry_refusal.Goals as goal
 
 pub returns-then-is_full_up : goal.returns-then-is_full_up

@@ -3,7 +3,6 @@
 use borrow.Author.Tests.{ne_eqb}
 use Rattle.records.specs.Shown.{holder_shown}
 use Rattle.placing.proofs.Meeting.{crowded-base}
-use borrow.Author.Rules.{rules}
 use Rattle.placing.proofs.is_crowded.Goals as goal
 
 pub returns-then-holder-eq-BASE : goal.returns-then-holder-eq-BASE

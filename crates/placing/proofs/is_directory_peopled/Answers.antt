@@ -1,6 +1,5 @@
 -- The second test is made only where the first holds, as `&&` has it.
 -- The count is read from the heading.
-use borrow.Author.Rules.{rules}
 use Rattle.placing.proofs.is_directory_peopled.Goals as goal
 
 pub returns-then-is_directory : goal.returns-then-is_directory

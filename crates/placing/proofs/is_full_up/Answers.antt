@@ -1,6 +1,5 @@
 -- Nothing is full where an entry is displaced.
 -- Else the answer is the holder's.
-use borrow.Author.Rules.{rules}
 use Rattle.placing.proofs.is_full_up.Goals as goal
 
 pub returns : goal.returns

@@ -1,6 +1,5 @@
 -- A file that is not lost settles the conjunction.
 -- Where it is lost, the rest is the test called.
-use borrow.Author.Rules.{rules}
 use Rattle.placing.proofs.is_losing.Goals as goal
 
 pub returns-then-meets : goal.returns-then-meets

@@ -1,7 +1,6 @@
 -- An entry that names the heading itself keeps its file; any other leaves it to the heading's count.
 -- So the two returns are the two cases of the test in `lost_by`.
 use Rattle.placing.proofs.Meeting.{lost-same, lost-other}
-use borrow.Author.Rules.{rules}
 use Rattle.placing.proofs.is_lost.Goals as goal
 
 pub returns-then-named-heading : goal.returns-then-named-heading

@@ -1,6 +1,5 @@
 -- Where a file is lost its text records are listed, as the definition says;
 -- where none is, the list is not written.
-use borrow.Author.Rules.{rules}
 use Rattle.placing.proofs.lost_texts.Goals as goal
 
 pub returns-then-meets : goal.returns-then-meets

@@ -4,7 +4,6 @@ use Rattle.placing.proofs.Meeting.{met-nothing, met-entry}
 use mathlib.Core.Path.{ap, ◌∙◌}
 use Rattle.paper.specs.Block.{blocks}
 use Rattle.records.specs.Shown.{holder_shown}
-use borrow.Author.Rules.{rules}
 use Rattle.placing.proofs.meet.Goals as goal
 
 pub returns-in_default : goal.returns-in_default

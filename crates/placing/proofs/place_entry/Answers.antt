@@ -3,7 +3,6 @@
 use mathlib.Core.List.{append-nil}
 use Rattle.effects.proofs.Stages.{made-both}
 use Rattle.placing.proofs.Meeting.{made-entered}
-use borrow.Author.Rules.{rules}
 use Rattle.placing.proofs.place_entry.Goals as goal
 
 pub returns-then-meets : goal.returns-then-meets

@@ -1,7 +1,3 @@
-use Prim.Native.Nat.{◌-◌, ◌+◌, ◌≤◌}
-use lib.ListN.{length}
-use native.Mathlib.Omega.{arith}
-use borrow.Author.Rules.{rules}
 use Rattle.reading.proofs.put_lines.Goals as goal
 
 pub read_line-requires : goal.read_line-requires

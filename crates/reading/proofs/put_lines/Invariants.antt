@@ -2,8 +2,6 @@
 -- The measure is what is left, as the next line starts past the end of this one.
 use Prim.Native.Nat.{◌-◌, ◌+◌, ◌≤◌}
 use lib.ListN.{length}
-use native.Mathlib.Omega.{arith}
-use borrow.Author.Rules.{rules}
 use Rattle.reading.proofs.put_lines.Given as goal
 
 abbrev pub invariant-loop-at : goal.invariant-loop-at

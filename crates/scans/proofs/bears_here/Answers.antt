@@ -1,6 +1,5 @@
 -- The kind alone decides for what is no entry,
 -- and else the entry is looked at whole.
-use borrow.Author.Rules.{rules}
 use Rattle.paper.specs.Entry.{stands, bears}
 use Rattle.scans.proofs.bears_here.Goals as goal
 

@@ -1,9 +1,7 @@
 use mathlib.Core.Bool.{Bool}
 use mathlib.Core.Path.{◌≡◌, sym, ◌∙◌}
-use Prim.Native.Nat.{ℕ, ◌-◌, ◌≤◌}
+use Prim.Native.Nat.{ℕ}
 use native.Mathlib.Omega.{arith}
-use borrow.Author.Rules.{rules}
-use Rattle.paper.specs.Scan.{count_below}
 use Rattle.paper.specs.Table.{rooms, rec}
 use Rattle.paper.specs.Entry.{stands, crowd}
 use Rattle.records.specs.Shown.{holder_shown}
@@ -29,6 +27,6 @@ loop-i-preserved c =
     let p : ℕ → Bool = λ j. stands (holder_shown c.args.d) (rec c.args.table.now j) in
     let tested = sym c.stands_here.ensures in
     elim c.if-stands_here.branch [
-      then-stands_here w ↦ (w.count-is ∙ count-on p c.loop-i.i c.loop-i.count (tested ∙ w.if-stands_here.true) c.loop-i.invariant.0, omega arith, c.loop-i.invariant.2, omega arith)
-    | else-stands_here w ↦ (w.count-is ∙ count-off p c.loop-i.i c.loop-i.count (tested ∙ w.if-stands_here.false) c.loop-i.invariant.0, omega arith, c.loop-i.invariant.2, omega arith)
+      | then-stands_here w ↦ (w.count-is ∙ count-on p c.loop-i.i c.loop-i.count (tested ∙ w.if-stands_here.true) c.loop-i.invariant.0, omega arith, c.loop-i.invariant.2, omega arith)
+      | else-stands_here w ↦ (w.count-is ∙ count-off p c.loop-i.i c.loop-i.count (tested ∙ w.if-stands_here.false) c.loop-i.invariant.0, omega arith, c.loop-i.invariant.2, omega arith)
     ]

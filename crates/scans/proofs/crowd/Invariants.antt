@@ -1,16 +1,11 @@
 -- After i turns the count is that of the entries below i that stand there,
 -- and at the end i is the number of records.
-use mathlib.Core.Bool.{Bool}
-use mathlib.Core.Path.{◌≡◌, sym, ◌∙◌}
-use mathlib.Core.Logic.{⊎_elim}
-use Prim.Native.Nat.{ℕ, ◌-◌, ◌≤◌}
-use native.Mathlib.Omega.{arith}
-use borrow.Author.Rules.{rules}
+use mathlib.Core.Path.{◌≡◌}
+use Prim.Native.Nat.{◌-◌, ◌≤◌}
 use Rattle.paper.specs.Scan.{count_below}
 use Rattle.paper.specs.Table.{rooms, rec}
-use Rattle.paper.specs.Entry.{stands, crowd}
+use Rattle.paper.specs.Entry.{stands}
 use Rattle.records.specs.Shown.{holder_shown}
-use Rattle.scans.proofs.Turns.{count-start, count-on, count-off}
 use Rattle.scans.proofs.crowd.Given as goal
 
 abbrev pub invariant-loop-i : goal.invariant-loop-i

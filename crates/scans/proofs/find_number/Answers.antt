@@ -1,9 +1,7 @@
-use mathlib.Core.Bool.{Bool, false}
-use mathlib.Core.Path.{◌≡◌, sym, ap, ◌∙◌}
-use Prim.Native.Nat.{ℕ, ◌-◌, ◌≤◌}
+use mathlib.Core.Bool.{Bool}
+use mathlib.Core.Path.{sym, ap, ◌∙◌}
+use Prim.Native.Nat.{ℕ}
 use native.Mathlib.Omega.{arith}
-use borrow.Author.Rules.{rules}
-use Rattle.paper.specs.Scan.{any_below}
 use Rattle.paper.specs.Layout.{unpacked, boxed}
 use Rattle.paper.specs.Table.{rooms, rec}
 use Rattle.paper.specs.Entry.{bears, find}
@@ -14,12 +12,11 @@ use Rattle.scans.proofs.Turns.{any-start, any-still, any-shorter}
 use Rattle.scans.proofs.find_number.Goals as goal
 
 pub loop-i-init : goal.loop-i-init
-loop-i-init c =
-    (
-      any-start (λ j. bears boxed (holder_shown c.args.d) (unpacked c.args.number) (rec c.args.table.now j)),
-      omega arith,
-      c.rooms-n.ensures,
-    )
+loop-i-init c = (
+  any-start (λ j. bears boxed (holder_shown c.args.d) (unpacked c.args.number) (rec c.args.table.now j)),
+  omega arith,
+  c.rooms-n.ensures,
+)
 
 pub returns-then-bears_here : goal.returns-then-bears_here
 unfolding find

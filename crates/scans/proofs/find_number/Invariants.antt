@@ -1,18 +1,13 @@
 -- No record below i bears the name there: so the first that does is the one found,
 -- and none is where the scan comes to the end.
-use mathlib.Core.Bool.{Bool, false}
-use mathlib.Core.Path.{◌≡◌, sym, ap, ◌∙◌}
-use Prim.Native.Nat.{ℕ, ◌-◌, ◌≤◌}
-use native.Mathlib.Omega.{arith}
-use borrow.Author.Rules.{rules}
+use mathlib.Core.Bool.{false}
+use mathlib.Core.Path.{◌≡◌}
+use Prim.Native.Nat.{◌-◌, ◌≤◌}
 use Rattle.paper.specs.Scan.{any_below}
 use Rattle.paper.specs.Layout.{unpacked, boxed}
 use Rattle.paper.specs.Table.{rooms, rec}
-use Rattle.paper.specs.Entry.{bears, find}
-use Rattle.laws.proofs.Scans.{first-here, first-none}
+use Rattle.paper.specs.Entry.{bears}
 use Rattle.records.specs.Shown.{holder_shown}
-use Rattle.scans.specs.Shown.{found_shown}
-use Rattle.scans.proofs.Turns.{any-start, any-still, any-shorter}
 use Rattle.scans.proofs.find_number.Given as goal
 
 abbrev pub invariant-loop-i : goal.invariant-loop-i

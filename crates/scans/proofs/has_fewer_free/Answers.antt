@@ -1,11 +1,9 @@
 use mathlib.Core.Bool.{Bool}
 use mathlib.Core.Path.{◌≡◌, sym, ◌∙◌}
-use Prim.Native.Nat.{ℕ, ◌-◌, ◌≤◌}
+use Prim.Native.Nat.{ℕ, ◌≤◌}
 use native.Mathlib.Omega.{arith}
 use lib.ListN.{length}
-use borrow.Author.Rules.{rules}
 use borrow.Author.Tests.{le-ltb}
-use Rattle.paper.specs.Scan.{count_below}
 use Rattle.paper.specs.Record.{is_kind}
 use Rattle.paper.specs.Table.{rooms, rec, frees}
 use Rattle.laws.proofs.Counts.{count-up}
@@ -36,6 +34,6 @@ loop-i-preserved c =
     let p : ℕ → Bool = λ j. is_kind 0 (rec c.args.table.now j) in
     let tested = sym c.is_kind.ensures in
     elim c.if-is_kind.branch [
-      then-is_kind w ↦ (w.count-is ∙ count-on p c.loop-i.i c.loop-i.count (tested ∙ w.if-is_kind.true) c.loop-i.invariant.0, omega arith, c.loop-i.invariant.2, omega arith)
-    | else-is_kind w ↦ (w.count-is ∙ count-off p c.loop-i.i c.loop-i.count (tested ∙ w.if-is_kind.false) c.loop-i.invariant.0, omega arith, c.loop-i.invariant.2, omega arith)
+      | then-is_kind w ↦ (w.count-is ∙ count-on p c.loop-i.i c.loop-i.count (tested ∙ w.if-is_kind.true) c.loop-i.invariant.0, omega arith, c.loop-i.invariant.2, omega arith)
+      | else-is_kind w ↦ (w.count-is ∙ count-off p c.loop-i.i c.loop-i.count (tested ∙ w.if-is_kind.false) c.loop-i.invariant.0, omega arith, c.loop-i.invariant.2, omega arith)
     ]

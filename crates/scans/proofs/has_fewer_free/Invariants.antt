@@ -1,19 +1,10 @@
 -- After i turns the count is that of the free records below i, and there are no fewer in the whole table;
 -- at the end it is as long as the list of the free records.
-use mathlib.Core.Bool.{Bool}
-use mathlib.Core.Path.{◌≡◌, sym, ◌∙◌}
-use mathlib.Core.Logic.{⊎_elim}
-use Prim.Native.Nat.{ℕ, ◌-◌, ◌≤◌}
-use native.Mathlib.Omega.{arith}
-use lib.ListN.{length}
-use borrow.Author.Rules.{rules}
-use borrow.Author.Tests.{le-ltb}
+use mathlib.Core.Path.{◌≡◌}
+use Prim.Native.Nat.{◌-◌, ◌≤◌}
 use Rattle.paper.specs.Scan.{count_below}
 use Rattle.paper.specs.Record.{is_kind}
-use Rattle.paper.specs.Table.{rooms, rec, frees}
-use Rattle.laws.proofs.Counts.{count-up}
-use Rattle.scans.proofs.Turns.{count-start, count-on, count-off}
-use Rattle.scans.proofs.Free.{count-frees}
+use Rattle.paper.specs.Table.{rooms, rec}
 use Rattle.scans.proofs.has_fewer_free.Given as goal
 
 abbrev pub invariant-loop-i : goal.invariant-loop-i

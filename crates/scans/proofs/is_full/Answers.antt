@@ -1,6 +1,5 @@
 -- The limit and the count are the definition's,
 -- and so is their order.
-use borrow.Author.Rules.{rules}
 use Rattle.scans.proofs.is_full.Goals as goal
 
 pub returns : goal.returns

@@ -2,7 +2,6 @@
 -- since the record is there.
 use native.Mathlib.Omega.{arith}
 use native.Mathlib.Nat.{add-zero}
-use borrow.Author.Rules.{rules}
 use Rattle.laws.proofs.Lay.{byte-rec}
 use Rattle.scans.proofs.is_kind.Goals as goal
 

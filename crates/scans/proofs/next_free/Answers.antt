@@ -1,11 +1,6 @@
-use mathlib.Core.Path.{◌≡◌, sym, ◌∙◌}
-use mathlib.Core.Bool.{false}
-use Prim.Native.Nat.{◌-◌, ◌≤◌}
+use mathlib.Core.Path.{sym, ◌∙◌}
 use native.Mathlib.Omega.{arith}
 use lib.Dec.{leb}
-use borrow.Author.Rules.{rules}
-use Rattle.paper.specs.Scan.{any_below}
-use Rattle.paper.specs.Table.{rooms}
 use Rattle.laws.proofs.Tests.{and-no-right}
 use Rattle.scans.specs.Free.{free_from}
 use Rattle.scans.proofs.Free.{none_before, next_here, next-none}

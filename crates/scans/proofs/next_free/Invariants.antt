@@ -1,17 +1,11 @@
 -- No record from the start on and below i is free: so the first that is, is the next one,
 -- and where the scan comes to the end there is none.
-use mathlib.Core.Path.{◌≡◌, sym, ◌∙◌}
+use mathlib.Core.Path.{◌≡◌}
 use mathlib.Core.Bool.{false}
 use Prim.Native.Nat.{◌-◌, ◌≤◌}
-use native.Mathlib.Omega.{arith}
-use lib.Dec.{leb}
-use borrow.Author.Rules.{rules}
 use Rattle.paper.specs.Scan.{any_below}
 use Rattle.paper.specs.Table.{rooms}
-use Rattle.laws.proofs.Tests.{and-no-right}
 use Rattle.scans.specs.Free.{free_from}
-use Rattle.scans.proofs.Free.{none_before, next_here, next-none}
-use Rattle.scans.proofs.Turns.{any-still}
 use Rattle.scans.proofs.next_free.Given as goal
 
 abbrev pub invariant-loop-i : goal.invariant-loop-i

@@ -1,6 +1,5 @@
 -- The kind alone decides for what is no entry,
 -- and else the entry is looked at whole.
-use borrow.Author.Rules.{rules}
 use Rattle.paper.specs.Entry.{stands}
 use Rattle.scans.proofs.stands_here.Goals as goal
 

@@ -1,14 +1,12 @@
 use mathlib.Core.List.{append-nil}
 use mathlib.Core.Path.{refl, sym, ◌∙◌}
-use Prim.Native.Nat.{ℕ, ◌+◌, ◌*◌, ◌-◌, ◌<◌}
+use Prim.Native.Nat.{◌-◌}
 use native.Mathlib.Nat.{pos_of_ne-zero}
 use native.Mathlib.Omega.{arith}
-use lib.ListN.{take}
 use lib.Seq.{length-take-le}
-use borrow.Author.Rules.{rules}
 use Rattle.listing.specs.Shown.{is_listed}
 use Rattle.tree.specs.Shown.{sub_shown, entry_shown}
-use Rattle.tree.proofs.Places.{lists-none, lists-past, lists-all, lists-then, entry-open, entry-shut, entry-over, tree-none, tree-some, Going, going, gone, turn-past, turn_on}
+use Rattle.tree.proofs.Places.{lists-none, lists-past, lists-all, lists-then, entry-open, entry-shut, entry-over, tree-none, tree-some, going, gone, turn-past, turn_on}
 use Rattle.tree.proofs.+list_directory_list_entry.Goals as goal
 
 pub list_directory-returns-then-depth-eq0 : goal.list_directory-returns-then-depth-eq0

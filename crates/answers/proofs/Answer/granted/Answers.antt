@@ -3,7 +3,6 @@
 use mathlib.Core.Bool.{Bool, true, false}
 use mathlib.Core.Path.{◌≡◌, refl}
 use mir.Val.{bool_byte}
-use borrow.Author.Rules.{rules}
 use Rattle.paper.specs.Answer.{yes_no}
 use Rattle.answers.proofs.Answer.granted.Goals as goal
 

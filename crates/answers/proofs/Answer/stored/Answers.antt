@@ -1,7 +1,6 @@
 -- The stop number is below the count, or it is not: the two cases of `stored`, chosen by the same test.
 -- Each is the answer of a function called.
 use native.Mathlib.Omega.{arith}
-use borrow.Author.Rules.{rules}
 use borrow.Author.Tests.{le-leb, lt-leb}
 use Rattle.answers.proofs.Answer.stored.Goals as goal
 

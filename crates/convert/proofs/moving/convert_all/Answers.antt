@@ -1,13 +1,10 @@
 use mathlib.Core.Path.{◌≡◌, refl}
-use Prim.Native.Nat.{◌-◌, ◌≤◌}
 use native.Mathlib.Omega.{arith}
-use lib.ListN.{length}
-use borrow.Author.Rules.{rules}
 use Rattle.paper.specs.Table.{rooms}
 use Rattle.laws.proofs.Sound.{sized-whole}
 use Rattle.convert.specs.Sides.{from, into}
 use Rattle.convert.proofs.Names.{fits}
-use Rattle.convert.proofs.Passes.{Moving, moving-start, moving-next, moving-end}
+use Rattle.convert.proofs.Passes.{moving-start, moving-next, moving-end}
 use Rattle.convert.proofs.moving.convert_all.Goals as goal
 
 pub loop-i-init : goal.loop-i-init

@@ -1,15 +1,11 @@
 -- After i turns the entries below i are moved and all else is as it was.
 -- At the end every record is as in the converted table.
-use mathlib.Core.Path.{◌≡◌, refl}
+use mathlib.Core.Path.{◌≡◌}
 use Prim.Native.Nat.{◌-◌, ◌≤◌}
-use native.Mathlib.Omega.{arith}
 use lib.ListN.{length}
-use borrow.Author.Rules.{rules}
 use Rattle.paper.specs.Table.{rooms}
-use Rattle.laws.proofs.Sound.{sized-whole}
 use Rattle.convert.specs.Sides.{from, into}
-use Rattle.convert.proofs.Names.{fits}
-use Rattle.convert.proofs.Passes.{Moving, moving-start, moving-next, moving-end}
+use Rattle.convert.proofs.Passes.{Moving}
 use Rattle.convert.proofs.moving.convert_all.Given as goal
 
 abbrev pub invariant-loop-i : goal.invariant-loop-i

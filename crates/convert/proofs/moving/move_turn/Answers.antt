@@ -1,7 +1,6 @@
 -- What is no entry stays;
 -- an entry is laid anew in its place.
 use mathlib.Core.Path.{sym, ap, ◌∙◌}
-use borrow.Author.Rules.{rules}
 use Rattle.paper.specs.Table.{lay}
 use Rattle.convert.specs.Sides.{from, into}
 use Rattle.convert.proofs.Passes.{turned-not, turned-entry}

@@ -1,7 +1,6 @@
 -- By the way that the conversion goes:
 -- each has its function.
 use mathlib.Core.Path.{◌∙◌}
-use borrow.Author.Rules.{rules}
 use Rattle.convert.proofs.moving.moved.Goals as goal
 
 pub returns-then-to : goal.returns-then-to

@@ -3,7 +3,6 @@
 use mathlib.Core.Path.{sym, ◌∙◌}
 use native.Mathlib.Omega.{arith}
 use lib.Seq.{length-take-le}
-use borrow.Author.Rules.{rules}
 use Rattle.paper.specs.Table.{rec}
 use Rattle.convert.proofs.Names.{six-short}
 use Rattle.convert.proofs.moving.moved_from.Goals as goal

@@ -1,7 +1,6 @@
 -- The record is in the table and the old name has at most 10 characters:
 -- so neither is padded or cut.
 use mathlib.Core.Path.{◌∙◌}
-use borrow.Author.Rules.{rules}
 use Rattle.paper.specs.Table.{rec}
 use Rattle.records.proofs.Builds.{whole-there}
 use Rattle.convert.proofs.Names.{old-taken}

@@ -1,13 +1,7 @@
-use mathlib.Core.Bool.{true}
-use mathlib.Core.Path.{◌≡◌, refl, sym, ◌∙◌}
-use Prim.Native.Nat.{◌-◌, ◌≤◌}
+use mathlib.Core.Path.{refl, sym, ◌∙◌}
 use native.Mathlib.Omega.{arith}
-use borrow.Author.Tests.{not-true, not-false}
-use borrow.Author.Rules.{rules}
 use Rattle.paper.specs.Layout.{old}
 use Rattle.paper.specs.Scan.{all_below}
-use Rattle.paper.specs.Table.{rooms}
-use Rattle.convert.specs.Looked.{legible_at}
 use Rattle.convert.proofs.Looked.{all-next, all-no, all_yes}
 use Rattle.convert.proofs.old.are_legible.Goals as goal
 

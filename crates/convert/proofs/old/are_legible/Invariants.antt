@@ -1,16 +1,12 @@
 -- The entries looked at so far are legible; the first that is not refutes the test.
 -- Where none is left, the test passes.
 use mathlib.Core.Bool.{true}
-use mathlib.Core.Path.{◌≡◌, refl, sym, ◌∙◌}
+use mathlib.Core.Path.{◌≡◌}
 use Prim.Native.Nat.{◌-◌, ◌≤◌}
-use native.Mathlib.Omega.{arith}
-use borrow.Author.Tests.{not-true, not-false}
-use borrow.Author.Rules.{rules}
 use Rattle.paper.specs.Layout.{old}
 use Rattle.paper.specs.Scan.{all_below}
 use Rattle.paper.specs.Table.{rooms}
 use Rattle.convert.specs.Looked.{legible_at}
-use Rattle.convert.proofs.Looked.{all-next, all-no, all_yes}
 use Rattle.convert.proofs.old.are_legible.Given as goal
 
 abbrev pub invariant-loop-i : goal.invariant-loop-i

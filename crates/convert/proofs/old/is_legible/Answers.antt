@@ -1,8 +1,6 @@
 -- Without a link name the entry is not legible;
 -- with one, it is where it is the record that the name lays.
 use mathlib.Core.Path.{sym, ◌∙◌}
-use borrow.Author.Tests.{not-true, not-false}
-use borrow.Author.Rules.{rules}
 use Rattle.paper.specs.Layout.{old}
 use Rattle.paper.specs.Table.{rec}
 use Rattle.convert.proofs.Names.{old-short}

@@ -1,7 +1,6 @@
 -- What is no entry is not asked;
 -- an entry is legible or not.
 use mathlib.Core.Path.{sym, ◌∙◌}
-use borrow.Author.Rules.{rules}
 use Rattle.paper.specs.Layout.{old}
 use Rattle.convert.proofs.Looked.{at_other, at_entry}
 use Rattle.convert.proofs.old.is_legible_at.Goals as goal

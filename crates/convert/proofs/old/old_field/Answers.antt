@@ -1,7 +1,6 @@
 -- The length is laid first and the name copied behind it, over zeros:
 -- these are the bytes of the name, padded.
 use mathlib.Core.Path.{◌∙◌}
-use borrow.Author.Rules.{rules}
 use Rattle.convert.proofs.Names.{old-over}
 use Rattle.convert.proofs.old.old_field.Goals as goal
 

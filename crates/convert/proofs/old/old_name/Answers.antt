@@ -1,7 +1,6 @@
 -- The name is the first bytes of its ten,
 -- as many as the length byte says.
 use mathlib.Core.Path.{◌∙◌}
-use borrow.Author.Rules.{rules}
 use Rattle.paper.specs.Layout.{old_name}
 use Rattle.convert.proofs.old.old_name.Goals as goal
 

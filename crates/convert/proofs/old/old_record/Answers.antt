@@ -1,7 +1,6 @@
 -- The record has 32 bytes, so that the name's field, copied from its place on, ends where they end:
 -- what stands before it stays, and nothing is left behind it.
 use mathlib.Core.Path.{◌∙◌}
-use borrow.Author.Rules.{rules}
 use Rattle.paper.specs.Table.{rec}
 use Rattle.laws.proofs.Lay.{length-rec}
 use Rattle.records.proofs.Builds.{whole-there}

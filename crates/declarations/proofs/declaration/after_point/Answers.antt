@@ -1,7 +1,6 @@
 -- The level and the digit are those of the definition,
 -- and so are the places where they stand.
 use Rattle.declarations.proofs.Parts.{ends, goes_on_lem}
-use borrow.Author.Rules.{rules}
 use Rattle.declarations.proofs.declaration.after_point.Goals as goal
 
 pub byte_at-requires : goal.byte_at-requires

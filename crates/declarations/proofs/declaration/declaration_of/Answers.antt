@@ -2,7 +2,6 @@
 -- and so is the place where they end: the end, the point, or neither.
 use mathlib.Core.Path.{sym, ◌∙◌}
 use Rattle.declarations.proofs.Parts.{unpointed, misplaced, pointed-on}
-use borrow.Author.Rules.{rules}
 use Rattle.declarations.proofs.declaration.declaration_of.Goals as goal
 
 pub byte_at-requires : goal.byte_at-requires

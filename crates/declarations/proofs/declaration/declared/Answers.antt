@@ -1,7 +1,6 @@
 -- A dash gives nothing,
 -- and any other name is what it declares.
 use Rattle.paper.specs.Declaration.{declared}
-use borrow.Author.Rules.{rules}
 use Rattle.declarations.proofs.declaration.declared.Goals as goal
 
 pub are_same-requires : goal.are_same-requires

@@ -1,7 +1,6 @@
 -- Each return has the cases of the parts that led to it, and the test computes at those.
 -- M and L are the lifetimes from 1 on.
 use borrow.Author.Tests.{le-leb, lt-leb}
-use borrow.Author.Rules.{rules}
 use Rattle.declarations.proofs.taken.taken_by_cpy.Goals as goal
 
 pub returns-in_default-lifetime : goal.returns-in_default-lifetime

@@ -3,7 +3,6 @@
 use mathlib.Core.Path.{sym, ◌∙◌}
 use Rattle.paper.specs.Declaration.{fit_dup}
 use Rattle.declarations.proofs.Parts.{digit-again, taken-right, taken-wrong}
-use borrow.Author.Rules.{rules}
 use Rattle.declarations.proofs.taken.taken_by_dpr.Goals as goal
 
 pub taken_by_dup-requires : goal.taken_by_dup-requires

@@ -1,6 +1,5 @@
 -- Each return has the cases of the parts that led to it,
 -- and the test computes at those.
-use borrow.Author.Rules.{rules}
 use Rattle.declarations.proofs.taken.taken_by_dup.Goals as goal
 
 pub returns : goal.returns

@@ -3,7 +3,6 @@
 use mathlib.Core.Path.{◌≡◌}
 use native.Mathlib.Omega.{arith}
 use borrow.Author.Tests.{ne_eqb}
-use borrow.Author.Rules.{rules}
 use Rattle.declarations.proofs.taken.taken_by_rewrite.Goals as goal
 
 pub returns-then-kept-ne-MEDIUM : goal.returns-then-kept-ne-MEDIUM

@@ -1,11 +1,8 @@
 -- After j turns the first j bytes are those from the place on,
 -- and at the end all 24 are.
-use mathlib.Core.Path.{◌≡◌, refl, sym, ◌∙◌}
+use mathlib.Core.Path.{◌≡◌}
 use Prim.Native.Nat.{◌-◌, ◌≤◌}
-use native.Mathlib.Omega.{arith}
-use lib.ListN.{length, take, drop, length-set}
-use lib.Seq.{take_all}
-use Rattle.effects.proofs.Blocks.{block_more}
+use lib.ListN.{length, take, drop}
 use Rattle.effects.proofs.block.block_from.Given as goal
 
 abbrev pub invariant-loop-j : goal.invariant-loop-j

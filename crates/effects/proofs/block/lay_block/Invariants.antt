@@ -1,11 +1,9 @@
 -- After j turns the first j of the 24 bytes are laid,
 -- and at the end all are.
-use mathlib.Core.Path.{◌≡◌, refl, ◌∙◌}
+use mathlib.Core.Path.{◌≡◌}
 use Prim.Native.Nat.{◌-◌, ◌≤◌}
-use native.Mathlib.Omega.{arith}
-use lib.ListN.{length, take, length-set}
-use lib.Seq.{sets, take_all}
-use Rattle.records.proofs.Copies.{sets_more}
+use lib.ListN.{length, take}
+use lib.Seq.{sets}
 use Rattle.effects.proofs.block.lay_block.Given as goal
 
 abbrev pub invariant-loop-j : goal.invariant-loop-j

@@ -2,7 +2,6 @@
 -- So they are at most two.
 use Rattle.effects.proofs.Recounts.{counts_alone, counts-two, one-small}
 use native.Mathlib.Omega.{arith}
-use borrow.Author.Rules.{rules}
 use Rattle.effects.proofs.counts.count_moves.Goals as goal
 
 pub returns-then-a-b : goal.returns-then-a-b

@@ -2,7 +2,6 @@
 -- The tests are the definition's, in its order.
 use borrow.Author.Tests.{lt-ltb, le-ltb}
 use Rattle.effects.specs.Counts.{moved}
-use borrow.Author.Rules.{rules}
 use Rattle.effects.proofs.counts.is_moved.Goals as goal
 
 pub returns-then-most-heading : goal.returns-then-most-heading

@@ -1,8 +1,6 @@
 -- One less where it is so and there is one,
 -- and else the number itself.
 use native.Mathlib.Omega.{arith}
-use borrow.Author.Tests.{not-true, not-false}
-use borrow.Author.Rules.{rules}
 use Rattle.effects.proofs.counts.one_less.Goals as goal
 
 pub returns-then-not-yes : goal.returns-then-not-yes

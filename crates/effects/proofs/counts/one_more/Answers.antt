@@ -1,7 +1,6 @@
 -- One more where it is so,
 -- and else the number itself.
 use native.Mathlib.Omega.{arith}
-use borrow.Author.Rules.{rules}
 use Rattle.effects.proofs.counts.one_more.Goals as goal
 
 pub returns-then-yes : goal.returns-then-yes

@@ -1,7 +1,6 @@
 -- The lower heading's stage is the first, and where both are one it is all.
 -- Else the higher one's stage goes by the table that the first leaves.
 use Rattle.effects.proofs.Recounts.{made-alone, made-two}
-use borrow.Author.Rules.{rules}
 use Rattle.effects.proofs.counts.recount.Goals as goal
 
 pub returns-then-a-b : goal.returns-then-a-b

@@ -2,8 +2,6 @@
 -- They are read from the table as it is then.
 use Rattle.effects.proofs.Recounts.{made-unmoved, made-moved}
 use mathlib.Core.Path.{sym, ◌∙◌}
-use borrow.Author.Tests.{not-true, not-false}
-use borrow.Author.Rules.{rules}
 use Rattle.effects.proofs.counts.recount_one.Goals as goal
 
 pub returns-then-not-is_moved : goal.returns-then-not-is_moved

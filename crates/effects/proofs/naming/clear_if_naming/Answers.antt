@@ -1,8 +1,6 @@
 -- A record that does not name the heading has no store, and one that does has one.
 -- These are the two cases of the stage.
 use mathlib.Core.Path.{sym, ◌∙◌}
-use borrow.Author.Tests.{not-true, not-false}
-use borrow.Author.Rules.{rules}
 use Rattle.paper.specs.Record.{blank}
 use Rattle.effects.proofs.Namings.{made-unnaming, made-naming}
 use Rattle.effects.proofs.naming.clear_if_naming.Goals as goal

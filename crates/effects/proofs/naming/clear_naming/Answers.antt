@@ -1,12 +1,7 @@
 use mathlib.Core.Path.{◌≡◌, refl}
-use Prim.Native.Nat.{◌-◌, ◌≤◌, ◌<◌}
+use Prim.Native.Nat.{◌<◌}
 use native.Mathlib.Omega.{arith}
-use lib.ListN.{length}
-use borrow.Author.Rules.{rules}
-use Rattle.paper.specs.Record.{names}
-use Rattle.paper.specs.Store.{clears}
-use Rattle.paper.specs.Table.{rooms, rec}
-use Rattle.effects.specs.Stage.{Made}
+use Rattle.paper.specs.Table.{rooms}
 use Rattle.effects.proofs.Namings.{naming-start, naming-more}
 use Rattle.effects.proofs.naming.clear_naming.Goals as goal
 

@@ -1,15 +1,12 @@
 -- After i turns the entries below i that name the heading are cleared as far as is allowed, and each turn adds one record.
 -- At the end these are all records.
-use mathlib.Core.Path.{◌≡◌, refl}
-use Prim.Native.Nat.{◌-◌, ◌≤◌, ◌<◌}
-use native.Mathlib.Omega.{arith}
+use mathlib.Core.Path.{◌≡◌}
+use Prim.Native.Nat.{◌-◌, ◌≤◌}
 use lib.ListN.{length}
-use borrow.Author.Rules.{rules}
 use Rattle.paper.specs.Record.{names}
 use Rattle.paper.specs.Store.{clears}
 use Rattle.paper.specs.Table.{rooms, rec}
 use Rattle.effects.specs.Stage.{Made}
-use Rattle.effects.proofs.Namings.{naming-start, naming-more}
 use Rattle.effects.proofs.naming.clear_naming.Given as goal
 
 abbrev pub invariant-loop-i : goal.invariant-loop-i

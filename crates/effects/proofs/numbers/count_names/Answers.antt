@@ -3,8 +3,6 @@
 use mathlib.Core.Bool.{true}
 use mathlib.Core.Path.{◌≡◌, refl, sym, ◌∙◌}
 use lib.ListN.{replicate, get_or-replicate}
-use borrow.Author.Tests.{not-true, not-false}
-use borrow.Author.Rules.{rules}
 use Rattle.paper.specs.Table.{sized}
 use Rattle.laws.proofs.Sound.{sized-whole}
 use Rattle.records.specs.Numbered.{Numbered}

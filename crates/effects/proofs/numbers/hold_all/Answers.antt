@@ -1,9 +1,6 @@
 use mathlib.Core.Path.{◌≡◌}
-use Prim.Native.Nat.{◌-◌, ◌≤◌}
 use native.Mathlib.Omega.{arith}
-use borrow.Author.Rules.{rules}
 use Rattle.paper.specs.Table.{rooms}
-use Rattle.records.specs.Numbered.{holding, Numbered}
 use Rattle.records.proofs.Numbered.{holding-none, holdings-all}
 use Rattle.effects.proofs.numbers.hold_all.Goals as goal
 

@@ -2,11 +2,8 @@
 -- At the end that is every entry.
 use mathlib.Core.Path.{◌≡◌}
 use Prim.Native.Nat.{◌-◌, ◌≤◌}
-use native.Mathlib.Omega.{arith}
-use borrow.Author.Rules.{rules}
 use Rattle.paper.specs.Table.{rooms}
 use Rattle.records.specs.Numbered.{holding, Numbered}
-use Rattle.records.proofs.Numbered.{holding-none, holdings-all}
 use Rattle.effects.proofs.numbers.hold_all.Given as goal
 
 abbrev pub invariant-loop-i : goal.invariant-loop-i

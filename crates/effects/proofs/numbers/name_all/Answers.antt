@@ -1,9 +1,6 @@
 use mathlib.Core.Path.{◌≡◌}
-use Prim.Native.Nat.{◌-◌, ◌≤◌}
 use native.Mathlib.Omega.{arith}
-use borrow.Author.Rules.{rules}
 use Rattle.paper.specs.Table.{rooms}
-use Rattle.records.specs.Numbered.{naming, Numbered}
 use Rattle.records.proofs.Numbered.{naming-none, namings-all}
 use Rattle.effects.proofs.numbers.name_all.Goals as goal
 

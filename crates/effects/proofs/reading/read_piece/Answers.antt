@@ -2,7 +2,6 @@
 -- both are as long as they are.
 use mathlib.Core.Path.{ap}
 use lib.ListN.{length}
-use borrow.Author.Rules.{rules}
 use Rattle.effects.proofs.reading.read_piece.Goals as goal
 
 pub returns : goal.returns

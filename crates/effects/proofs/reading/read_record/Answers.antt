@@ -3,8 +3,7 @@
 use mathlib.Core.Path.{sym, ap, ◌∙◌}
 use native.Mathlib.Omega.{arith}
 use lib.ListN.{length}
-use borrow.Author.Rules.{rules}
-use Rattle.effects.proofs.Blocks.{not-no, whole-held, whole_length, whole-taken}
+use Rattle.effects.proofs.Blocks.{whole-held, whole_length, whole-taken}
 use Rattle.effects.proofs.reading.read_record.Goals as goal
 
 pub overflow_mul-i : goal.overflow_mul-i

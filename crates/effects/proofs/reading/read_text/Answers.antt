@@ -1,10 +1,8 @@
 use mathlib.Core.List.{List}
-use mathlib.Core.Path.{◌≡◌, refl, sym, ◌∙◌}
-use Prim.Native.Nat.{ℕ, ◌-◌, ◌≤◌}
+use mathlib.Core.Path.{refl, sym, ◌∙◌}
+use Prim.Native.Nat.{ℕ, ◌-◌}
 use native.Mathlib.Omega.{arith}
-use lib.ListN.{length, get_or, take, drop}
-use lib.Seq.{sets}
-use borrow.Author.Rules.{rules}
+use lib.ListN.{get_or, take, drop}
 use Rattle.paper.specs.Record.{held}
 use Rattle.paper.specs.Table.{rec}
 use Rattle.effects.specs.Listed.{gathered}

@@ -1,16 +1,10 @@
 -- What is still to be copied from the place on, copied there, is the whole copied to the front; so each turn copies the bytes of one
 -- more record that belong to it, and where no record is left nothing is to be copied.
-use mathlib.Core.List.{List}
-use mathlib.Core.Path.{◌≡◌, refl, sym, ◌∙◌}
-use Prim.Native.Nat.{ℕ, ◌-◌, ◌≤◌}
-use native.Mathlib.Omega.{arith}
-use lib.ListN.{length, get_or, take, drop}
+use mathlib.Core.Path.{◌≡◌}
+use Prim.Native.Nat.{◌-◌, ◌≤◌}
+use lib.ListN.{length, take, drop}
 use lib.Seq.{sets}
-use borrow.Author.Rules.{rules}
-use Rattle.paper.specs.Record.{held}
-use Rattle.paper.specs.Table.{rec}
 use Rattle.effects.specs.Listed.{gathered}
-use Rattle.effects.proofs.Gathers.{part_none, part-more, part-most, part-done}
 use Rattle.effects.proofs.reading.read_text.Given as goal
 
 abbrev pub invariant-loop-p : goal.invariant-loop-p

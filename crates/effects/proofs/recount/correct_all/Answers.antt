@@ -1,13 +1,8 @@
 use mathlib.Core.Path.{◌≡◌, refl}
-use Prim.Native.Nat.{◌-◌, ◌≤◌, ◌<◌}
+use Prim.Native.Nat.{◌<◌}
 use native.Mathlib.Omega.{arith}
-use lib.ListN.{length}
-use borrow.Author.Rules.{rules}
-use Rattle.paper.specs.Count.{untrue}
-use Rattle.paper.specs.Store.{fills}
 use Rattle.paper.specs.Table.{rooms}
-use Rattle.effects.specs.Counted.{Counted}
-use Rattle.effects.proofs.Corrected.{corrected, corrected-more}
+use Rattle.effects.proofs.Corrected.{corrected-more}
 use Rattle.effects.proofs.Counted.{counted_start}
 use Rattle.effects.proofs.recount.correct_all.Goals as goal
 

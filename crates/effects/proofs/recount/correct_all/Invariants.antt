@@ -1,16 +1,13 @@
 -- After i turns the headings below i are corrected as far as the stop number allows, and all of them are counted.
 -- Each turn adds one record, which those before left as it was; at the end these are all records.
-use mathlib.Core.Path.{◌≡◌, refl}
-use Prim.Native.Nat.{◌-◌, ◌≤◌, ◌<◌}
-use native.Mathlib.Omega.{arith}
+use mathlib.Core.Path.{◌≡◌}
+use Prim.Native.Nat.{◌-◌, ◌≤◌}
 use lib.ListN.{length}
-use borrow.Author.Rules.{rules}
 use Rattle.paper.specs.Count.{untrue}
 use Rattle.paper.specs.Store.{fills}
 use Rattle.paper.specs.Table.{rooms}
 use Rattle.effects.specs.Counted.{Counted}
-use Rattle.effects.proofs.Corrected.{corrected, corrected-more}
-use Rattle.effects.proofs.Counted.{counted_start}
+use Rattle.effects.proofs.Corrected.{corrected}
 use Rattle.effects.proofs.recount.correct_all.Given as goal
 
 abbrev pub invariant-loop-i : goal.invariant-loop-i

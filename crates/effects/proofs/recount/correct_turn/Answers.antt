@@ -2,7 +2,6 @@
 -- These are the cases of the stage.
 use mathlib.Core.Path.{sym, ap, ◌∙◌}
 use native.Mathlib.Omega.{arith}
-use borrow.Author.Rules.{rules}
 use Rattle.paper.specs.Table.{rec, lay}
 use Rattle.effects.proofs.Corrected.{corrects-other, corrects-none, corrects-one}
 use Rattle.effects.proofs.Counted.{counted_none, counted-one, counted-stopped}

@@ -1,8 +1,6 @@
 -- The bytes changed are those of the two numbers, the second only in a directory,
 -- as in the definition.
 use mathlib.Core.Path.{◌≡◌, sym, ◌∙◌}
-use borrow.Author.Tests.{not-true, not-false}
-use borrow.Author.Rules.{rules}
 use Rattle.paper.specs.Table.{rec}
 use Rattle.laws.proofs.Lay.{length-rec}
 use Rattle.records.proofs.Builds.{whole-there}

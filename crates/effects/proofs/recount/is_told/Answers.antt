@@ -1,8 +1,6 @@
 -- What every heading says is read first, and what a directory's says only there.
 -- These are the cases of what it tells.
 use mathlib.Core.Path.{sym, ◌∙◌}
-use borrow.Author.Tests.{not-true, not-false}
-use borrow.Author.Rules.{rules}
 use Rattle.paper.specs.Table.{rec}
 use Rattle.records.proofs.Said.{tells-not, tells-file, tells-directory}
 use Rattle.effects.proofs.recount.is_told.Goals as goal

@@ -1,10 +1,8 @@
 use mathlib.Core.Path.{◌≡◌, ap, ◌∙◌}
-use Prim.Native.Nat.{ℕ, ◌-◌, ◌%◌, ◌≤◌}
+use Prim.Native.Nat.{ℕ, ◌-◌, ◌%◌}
 use native.Mathlib.Omega.{arith}
-use borrow.Author.Rules.{rules}
 use Rattle.paper.specs.Table.{room}
 use Rattle.scans.proofs.Free.{first-room, walk-rooms}
-use Rattle.effects.specs.Listed.{free_rooms}
 use Rattle.effects.proofs.Places.{front-start, front-more, front-all, room_most}
 use Rattle.effects.proofs.rooms.free_rooms.Goals as goal
 

@@ -1,13 +1,9 @@
 -- At turn m the cursor stands at new record m, and the list is that of the m new records before it.
 -- The next free record past record m is record m + 1, so each turn lists one more; as many as there are places are all.
-use mathlib.Core.Path.{◌≡◌, ap, ◌∙◌}
-use Prim.Native.Nat.{ℕ, ◌-◌, ◌%◌, ◌≤◌}
-use native.Mathlib.Omega.{arith}
-use borrow.Author.Rules.{rules}
+use mathlib.Core.Path.{◌≡◌}
+use Prim.Native.Nat.{◌-◌, ◌≤◌}
 use Rattle.paper.specs.Table.{room}
-use Rattle.scans.proofs.Free.{first-room, walk-rooms}
 use Rattle.effects.specs.Listed.{free_rooms}
-use Rattle.effects.proofs.Places.{front-start, front-more, front-all, room_most}
 use Rattle.effects.proofs.rooms.free_rooms.Given as goal
 
 abbrev pub invariant-loop-m : goal.invariant-loop-m

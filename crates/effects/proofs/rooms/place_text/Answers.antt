@@ -5,7 +5,6 @@ use mathlib.Core.Path.{◌≡◌, sym, ap, ◌∙◌}
 use Prim.Native.Nat.{ℕ, ◌<◌}
 use native.Mathlib.Omega.{arith}
 use lib.ListN.{get_or}
-use borrow.Author.Rules.{rules}
 use Rattle.paper.specs.Record.{position}
 use Rattle.paper.specs.Table.{rooms, rec}
 use Rattle.effects.specs.Listed.{text_of}

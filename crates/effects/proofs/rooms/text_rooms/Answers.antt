@@ -1,11 +1,8 @@
 use mathlib.Core.Bool.{true}
 use mathlib.Core.Path.{◌≡◌, sym, ap, ◌∙◌}
-use Prim.Native.Nat.{ℕ, ◌-◌, ◌%◌, ◌≤◌, ◌<◌}
+use Prim.Native.Nat.{ℕ, ◌%◌, ◌≤◌}
 use native.Mathlib.Omega.{arith}
-use borrow.Author.Rules.{rules}
-use borrow.Author.Tests.{not-true, not-false}
 use Rattle.paper.specs.Table.{sized, rooms}
-use Rattle.effects.specs.Listed.{Placed}
 use Rattle.effects.proofs.Places.{sized-most, placed-start, placed-full, placed_end, placed-none}
 use Rattle.effects.proofs.rooms.text_rooms.Goals as goal
 

@@ -1,14 +1,10 @@
 -- The list holds at each position the first text among the records before the present one, and the count is of those without.
 -- Where none is without, and at the last record, that is the first of all, which is the one that the definition takes.
 use mathlib.Core.Bool.{true}
-use mathlib.Core.Path.{◌≡◌, sym, ap, ◌∙◌}
-use Prim.Native.Nat.{ℕ, ◌-◌, ◌%◌, ◌≤◌, ◌<◌}
-use native.Mathlib.Omega.{arith}
-use borrow.Author.Rules.{rules}
-use borrow.Author.Tests.{not-true, not-false}
+use mathlib.Core.Path.{◌≡◌}
+use Prim.Native.Nat.{◌-◌, ◌≤◌, ◌<◌}
 use Rattle.paper.specs.Table.{sized, rooms}
 use Rattle.effects.specs.Listed.{Placed}
-use Rattle.effects.proofs.Places.{sized-most, placed-start, placed-full, placed_end, placed-none}
 use Rattle.effects.proofs.rooms.text_rooms.Given as goal
 
 abbrev pub invariant-loop-i : goal.invariant-loop-i

@@ -1,6 +1,5 @@
 -- The heading's store is a stage of one, and the text cleared by position is the stage after it.
 -- The two stages one after the other are the whole list.
-use borrow.Author.Rules.{rules}
 use Rattle.paper.specs.Record.{blank}
 use Rattle.effects.specs.Stage.{clear_stores}
 use Rattle.effects.proofs.Stages.{made-both}

@@ -1,12 +1,6 @@
 use mathlib.Core.Path.{◌≡◌, refl}
-use Prim.Native.Nat.{◌-◌, ◌≤◌}
 use native.Mathlib.Omega.{arith}
-use lib.ListN.{length, get_or}
-use borrow.Author.Rules.{rules}
-use Rattle.paper.specs.Scan.{each_below}
 use Rattle.paper.specs.Record.{blank}
-use Rattle.paper.specs.Store.{clear}
-use Rattle.effects.specs.Stage.{Made}
 use Rattle.effects.proofs.Stages.{made-start, made_more}
 use Rattle.effects.proofs.stage.clear_texts.Goals as goal
 

@@ -1,15 +1,11 @@
 -- After p turns the stores of the positions below p are made as far as they are allowed, and each turn makes one more.
 -- At the end these are as many positions as there are to clear.
-use mathlib.Core.Path.{◌≡◌, refl}
+use mathlib.Core.Path.{◌≡◌}
 use Prim.Native.Nat.{◌-◌, ◌≤◌}
-use native.Mathlib.Omega.{arith}
 use lib.ListN.{length, get_or}
-use borrow.Author.Rules.{rules}
 use Rattle.paper.specs.Scan.{each_below}
-use Rattle.paper.specs.Record.{blank}
 use Rattle.paper.specs.Store.{clear}
 use Rattle.effects.specs.Stage.{Made}
-use Rattle.effects.proofs.Stages.{made-start, made_more}
 use Rattle.effects.proofs.stage.clear_texts.Given as goal
 
 abbrev pub invariant-loop-p : goal.invariant-loop-p

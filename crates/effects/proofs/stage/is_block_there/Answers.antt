@@ -6,7 +6,6 @@ use Prim.Native.Nat.{◌/◌}
 use native.Mathlib.Omega.{arith}
 use lib.ListN.{length}
 use borrow.Author.Tests.{ltb-true}
-use borrow.Author.Rules.{rules}
 use Rattle.effects.proofs.stage.is_block_there.Goals as goal
 
 pub returns-then-rooms-room : goal.returns-then-rooms-room

@@ -1,8 +1,7 @@
 use mathlib.Core.Path.{◌≡◌, refl, ◌∙◌}
-use Prim.Native.Nat.{◌-◌, ◌≤◌}
 use native.Mathlib.Omega.{arith}
-use lib.ListN.{length, take, length-set}
-use lib.Seq.{sets, take_all}
+use lib.ListN.{length, length-set}
+use lib.Seq.{take_all}
 use Rattle.records.proofs.Copies.{sets_more}
 use Rattle.effects.proofs.stage.lay_front.Goals as goal
 

@@ -1,7 +1,6 @@
 -- Where no store is allowed none is made; else the one store is made, and one less is allowed.
 -- That is the first `left` stores of a list of one, by its two cases.
 use native.Mathlib.Omega.{arith}
-use borrow.Author.Rules.{rules}
 use Rattle.effects.proofs.Stages.{made-stopped, made_one}
 use Rattle.effects.proofs.stage.put.Goals as goal
 

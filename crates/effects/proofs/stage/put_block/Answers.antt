@@ -2,7 +2,6 @@
 -- That is the first `left` stores of a list of one, by its two cases.
 use native.Mathlib.Omega.{arith}
 use Rattle.effects.proofs.Stages.{made-stopped, made_one}
-use borrow.Author.Rules.{rules}
 use Rattle.effects.proofs.stage.put_block.Goals as goal
 
 pub returns-then-left-eq0 : goal.returns-then-left-eq0

@@ -1,7 +1,6 @@
 -- The record laid is the text's own, and its place stands in the list of record numbers, as far behind the first as its position says.
 -- So the one store that is made, of a whole block as it stands or of any other, is the stage's at this position.
 use native.Mathlib.Omega.{arith}
-use borrow.Author.Rules.{rules}
 use Rattle.paper.specs.Block.{block}
 use Rattle.effects.proofs.stage.put_text.Goals as goal
 

@@ -1,11 +1,8 @@
 use mathlib.Core.Path.{◌≡◌, refl}
-use Prim.Native.Nat.{◌-◌, ◌≤◌}
 use native.Mathlib.Omega.{arith}
 use lib.ListN.{length}
-use borrow.Author.Rules.{rules}
-use Rattle.paper.specs.Scan.{each_below}
 use Rattle.paper.specs.Block.{blocks}
-use Rattle.effects.specs.Stage.{Made, text_store, text_stores}
+use Rattle.effects.specs.Stage.{text_stores}
 use Rattle.effects.proofs.Stages.{made-start, made_more}
 use Rattle.effects.proofs.stage.put_texts.Goals as goal
 

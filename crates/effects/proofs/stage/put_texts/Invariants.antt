@@ -1,14 +1,11 @@
 -- After p turns the stores of the positions below p are made as far as they are allowed, and each turn makes one more.
 -- At the end these are the positions of all blocks of the text.
-use mathlib.Core.Path.{◌≡◌, refl}
+use mathlib.Core.Path.{◌≡◌}
 use Prim.Native.Nat.{◌-◌, ◌≤◌}
-use native.Mathlib.Omega.{arith}
 use lib.ListN.{length}
-use borrow.Author.Rules.{rules}
 use Rattle.paper.specs.Scan.{each_below}
 use Rattle.paper.specs.Block.{blocks}
-use Rattle.effects.specs.Stage.{Made, text_store, text_stores}
-use Rattle.effects.proofs.Stages.{made-start, made_more}
+use Rattle.effects.specs.Stage.{Made, text_store}
 use Rattle.effects.proofs.stage.put_texts.Given as goal
 
 abbrev pub invariant-loop-p : goal.invariant-loop-p

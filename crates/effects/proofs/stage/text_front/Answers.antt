@@ -3,7 +3,6 @@
 use mathlib.Core.Path.{refl}
 use Rattle.paper.specs.Number.{bytes_of}
 use Rattle.effects.specs.Stage.{text_front}
-use borrow.Author.Rules.{rules}
 use Rattle.effects.proofs.stage.text_front.Goals as goal
 
 pub returns : goal.returns

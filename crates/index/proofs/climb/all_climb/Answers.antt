@@ -1,10 +1,6 @@
-use mathlib.Core.Path.{◌≡◌, refl, ◌∙◌}
-use Prim.Native.Nat.{◌-◌}
-use native.Mathlib.Omega.{arith}
-use lib.ListN.{length, drop}
+use mathlib.Core.Path.{refl, ◌∙◌}
 use Rattle.paper.specs.Table.{rooms}
 use Rattle.paper.specs.Index.{rank, is_entry}
-use Rattle.index_laws.specs.Climbs.{climbs}
 use Rattle.index_laws.proofs.Truth.{goes-below}
 use Rattle.index_laws.proofs.Turns.{climb-on, climb-off, climb-end}
 use Rattle.index.specs.Shown.{rank_shown}

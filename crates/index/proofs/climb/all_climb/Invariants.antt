@@ -1,14 +1,11 @@
 -- What is left decides: each place goes on from the rank after the last one,
 -- by the turn of the definition.
-use mathlib.Core.Path.{◌≡◌, refl, ◌∙◌}
+use mathlib.Core.Path.{◌≡◌}
 use Prim.Native.Nat.{◌-◌}
-use native.Mathlib.Omega.{arith}
 use lib.ListN.{length, drop}
 use Rattle.paper.specs.Table.{rooms}
 use Rattle.paper.specs.Index.{rank, is_entry}
 use Rattle.index_laws.specs.Climbs.{climbs}
-use Rattle.index_laws.proofs.Truth.{goes-below}
-use Rattle.index_laws.proofs.Turns.{climb-on, climb-off, climb-end}
 use Rattle.index.specs.Shown.{rank_shown}
 use Rattle.index.proofs.climb.all_climb.Given as goal
 

@@ -1,9 +1,4 @@
-use mathlib.Core.Bool.{◌&&◌}
-use mathlib.Core.Path.{◌≡◌, refl, ◌∙◌}
-use Prim.Native.Nat.{◌-◌}
-use native.Mathlib.Omega.{arith}
-use lib.ListN.{length, drop}
-use Rattle.index_laws.specs.Climbs.{padding}
+use mathlib.Core.Path.{refl, ◌∙◌}
 use Rattle.index_laws.proofs.Turns.{pad-on, pad-end}
 use Rattle.index.proofs.climb.all_padding.Goals as goal
 

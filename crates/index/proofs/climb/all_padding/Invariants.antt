@@ -1,12 +1,10 @@
 -- What was so far and what is left decide,
 -- by the turn of the definition.
 use mathlib.Core.Bool.{◌&&◌}
-use mathlib.Core.Path.{◌≡◌, refl, ◌∙◌}
+use mathlib.Core.Path.{◌≡◌}
 use Prim.Native.Nat.{◌-◌}
-use native.Mathlib.Omega.{arith}
 use lib.ListN.{length, drop}
 use Rattle.index_laws.specs.Climbs.{padding}
-use Rattle.index_laws.proofs.Turns.{pad-on, pad-end}
 use Rattle.index.proofs.climb.all_padding.Given as goal
 
 abbrev pub invariant-loop-i : goal.invariant-loop-i

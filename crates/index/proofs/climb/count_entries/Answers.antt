@@ -1,5 +1,4 @@
 use mathlib.Core.Path.{◌≡◌, refl}
-use Prim.Native.Nat.{◌≤◌, ◌-◌}
 use native.Mathlib.Omega.{arith}
 use Rattle.paper.specs.Scan.{count_below}
 use Rattle.paper.specs.Table.{rooms}
@@ -16,8 +15,7 @@ overflow_add-count c = omega (arith, c.entry_count-count.ensures.1)
 
 pub loop-i-preserved : goal.loop-i-preserved
 loop-i-preserved c =
-    let s = c.args in
-    (
+    let s = c.args in (
       omega arith,
       c.loop-i.invariant.1,
       omega (arith, c.entry_count-count.ensures.1),

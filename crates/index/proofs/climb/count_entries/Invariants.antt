@@ -1,12 +1,10 @@
 -- Counted up to i: one more record
 -- adds one where it is an entry.
-use mathlib.Core.Path.{◌≡◌, refl}
+use mathlib.Core.Path.{◌≡◌}
 use Prim.Native.Nat.{◌≤◌, ◌-◌}
-use native.Mathlib.Omega.{arith}
 use Rattle.paper.specs.Scan.{count_below}
 use Rattle.paper.specs.Table.{rooms}
 use Rattle.paper.specs.Index.{is_entry}
-use Rattle.index_laws.proofs.Turns.{count-on}
 use Rattle.index.proofs.climb.count_entries.Given as goal
 
 abbrev pub invariant-loop-i : goal.invariant-loop-i

@@ -1,7 +1,6 @@
 -- One where the test passes,
 -- and else nothing.
 use native.Mathlib.Omega.{arith}
-use borrow.Author.Rules.{rules}
 use Rattle.index.proofs.climb.entry_count.Goals as goal
 
 pub returns-then-is_entry : goal.returns-then-is_entry

@@ -6,7 +6,6 @@ use Rattle.paper.specs.Index.{rank}
 use Rattle.index_laws.specs.Climbs.{goes_on}
 use Rattle.index_laws.proofs.Ranks.{not-less}
 use Rattle.index.specs.Shown.{rank_shown}
-use borrow.Author.Rules.{rules}
 use Rattle.index.proofs.climb.goes_on.Goals as goal
 
 pub returns-then-t-e : goal.returns-then-t-e

@@ -3,7 +3,6 @@
 use native.Mathlib.Nat.{add-zero}
 use native.Mathlib.Omega.{arith}
 use Rattle.laws.proofs.Lay.{byte-rec}
-use borrow.Author.Rules.{rules}
 use Rattle.index.proofs.climb.is_entry.Goals as goal
 
 pub returns : goal.returns

@@ -3,7 +3,6 @@
 use mathlib.Core.Path.{sym, ◌∙◌}
 use native.Mathlib.Omega.{arith}
 use Rattle.laws.proofs.Lay.{byte-rec}
-use borrow.Author.Rules.{rules}
 use Rattle.index.proofs.read.byte_of.Goals as goal
 
 pub returns : goal.returns

@@ -2,7 +2,6 @@
 -- Both are below 4,294,967,296, so the sum fits.
 use native.Mathlib.Omega.{arith}
 use Rattle.records.proofs.Packed.{number-halves}
-use borrow.Author.Rules.{rules}
 use Rattle.index.proofs.read.eight_of.Goals as goal
 
 pub returns : goal.returns

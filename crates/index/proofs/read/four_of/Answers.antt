@@ -2,7 +2,6 @@
 -- Both are below 65,536, so the sum fits.
 use native.Mathlib.Omega.{arith}
 use Rattle.laws.proofs.Numbers.{number-four}
-use borrow.Author.Rules.{rules}
 use Rattle.index.proofs.read.four_of.Goals as goal
 
 pub returns : goal.returns

@@ -2,7 +2,6 @@
 -- Bytes are below 256, so the sum fits.
 use native.Mathlib.Omega.{arith}
 use Rattle.laws.proofs.Numbers.{number-two}
-use borrow.Author.Rules.{rules}
 use Rattle.index.proofs.read.two_of.Goals as goal
 
 pub returns : goal.returns

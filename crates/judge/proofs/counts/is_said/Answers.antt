@@ -1,7 +1,6 @@
 -- Two bytes, the low one first, are the number or not, and so they say it or not.
 -- Bytes are below 256, so the sum fits.
 use native.Mathlib.Omega.{arith}
-use borrow.Author.Rules.{rules}
 use Rattle.paper.specs.Table.{rec}
 use Rattle.laws.proofs.Lay.{length-rec}
 use Rattle.records.proofs.Said.{says-number}

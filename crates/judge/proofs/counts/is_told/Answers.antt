@@ -1,8 +1,7 @@
 -- What every heading says is read first, and what a directory's says only there.
 -- The type is read of a heading, so it tells whether this is a directory.
 use mathlib.Core.Path.{sym, ◌∙◌}
-use borrow.Author.Tests.{eq-eqb, ne_eqb, not-true, not-false}
-use borrow.Author.Rules.{rules}
+use borrow.Author.Tests.{eq-eqb, ne_eqb}
 use Rattle.paper.specs.Record.{is_kind}
 use Rattle.paper.specs.Table.{rec}
 use Rattle.laws.proofs.Tests.{and_both, and-no-right}

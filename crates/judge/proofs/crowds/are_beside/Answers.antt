@@ -1,7 +1,6 @@
 -- `are_beside` compares the places, then the users: what `stands` says of an entry.
 -- The kind of the second is known to its caller.
 use mathlib.Core.Path.{sym, ◌∙◌}
-use borrow.Author.Rules.{rules}
 use Rattle.paper.specs.Table.{rec}
 use Rattle.judge_laws.proofs.Crowds.{beside-not, beside-user}
 use Rattle.judge.proofs.crowds.are_beside.Goals as goal

@@ -1,13 +1,9 @@
 use mathlib.Core.Bool.{true}
 use mathlib.Core.Path.{◌≡◌, refl, sym, ◌∙◌}
-use Prim.Native.Nat.{ℕ, ◌-◌, ◌≤◌, ◌<◌}
 use native.Mathlib.Omega.{arith}
-use borrow.Author.Tests.{not-true, not-false}
 use borrow.Author.Count.{below_more, below_none}
-use Rattle.judge_laws.specs.Chains.{Chains}
 use Rattle.judge_laws.specs.Mask.{without}
-use Rattle.judge_laws.specs.Crowds.{place_of, roomy, Ranked}
-use Rattle.paper.specs.Table.{rooms}
+use Rattle.judge_laws.specs.Crowds.{roomy}
 use Rattle.judge_laws.proofs.Mask.{rooms-without}
 use Rattle.judge_laws.proofs.Crowds.{roomy-all, crowded-one}
 use Rattle.judge.proofs.crowds.crowd_all.Goals as goal

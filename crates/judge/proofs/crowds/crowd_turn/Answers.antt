@@ -3,8 +3,7 @@
 use mathlib.Core.Bool.{true, false, true≢false}
 use mathlib.Core.Path.{◌≡◌, sym, ap, ◌∙◌}
 use native.Mathlib.Omega.{arith}
-use borrow.Author.Tests.{le-leb, lt-leb, not-true, not-false}
-use borrow.Author.Rules.{rules}
+use borrow.Author.Tests.{le-leb, lt-leb}
 use Rattle.judge_laws.specs.Chains.{last_in}
 use Rattle.judge_laws.specs.Mask.{without}
 use Rattle.judge_laws.specs.Crowds.{place_of, rank_of, roomy}
@@ -42,15 +41,14 @@ last_beside-last-requires c =
     )
 
 pub rank_of-m-requires : goal.rank_of-m-requires
-rank_of-m-requires c =
-    (
-      omega arith,
-      omega arith,
-      sym c.is_entry.ensures ∙ c.if-not-is_entry.false,
-      c.requires.3,
-      c.last_beside-last.ensures.0,
-      c.last_beside-last.ensures.1,
-    )
+rank_of-m-requires c = (
+  omega arith,
+  omega arith,
+  sym c.is_entry.ensures ∙ c.if-not-is_entry.false,
+  c.requires.3,
+  c.last_beside-last.ensures.0,
+  c.last_beside-last.ensures.1,
+)
 
 pub returns-then-limit_of-m : goal.returns-then-limit_of-m
 returns-then-limit_of-m c =

@@ -1,11 +1,9 @@
 use mathlib.Core.Path.{sym, ◌∙◌}
 use Prim.Native.Nat.{◌-◌, ◌<◌}
 use native.Mathlib.Omega.{arith}
-use Rattle.judge_laws.specs.Crowds.{place_of, beside_to}
 use Rattle.judge_laws.specs.Mask.{without}
 use Rattle.paper.specs.Entry.{holder, stands}
 use Rattle.paper.specs.Table.{rooms}
-use Rattle.judge_laws.proofs.Chains.{Walk}
 use Rattle.judge_laws.proofs.Mask.{rec-entry, entries-without}
 use Rattle.judge_laws.proofs.Crowds.{beside-start, beside_end, beside-found, beside-on}
 use Rattle.judge.proofs.crowds.last_beside.Goals as goal

@@ -1,15 +1,8 @@
 -- The walk down a bucket has passed no entry of the place, and all of them are in the bucket, which has only entries that stay.
 -- So what it meets first is the last of them, and at the end there is none.
-use mathlib.Core.Path.{sym, ◌∙◌}
-use Prim.Native.Nat.{◌-◌, ◌<◌}
-use native.Mathlib.Omega.{arith}
 use Rattle.judge_laws.specs.Crowds.{place_of, beside_to}
 use Rattle.judge_laws.specs.Mask.{without}
-use Rattle.paper.specs.Entry.{holder, stands}
-use Rattle.paper.specs.Table.{rooms}
 use Rattle.judge_laws.proofs.Chains.{Walk}
-use Rattle.judge_laws.proofs.Mask.{rec-entry, entries-without}
-use Rattle.judge_laws.proofs.Crowds.{beside-start, beside_end, beside-found, beside-on}
 use Rattle.judge.proofs.crowds.last_beside.Given as goal
 
 abbrev pub invariant-loop-c : goal.invariant-loop-c

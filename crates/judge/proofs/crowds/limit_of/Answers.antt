@@ -2,7 +2,6 @@
 -- The test of the place is that of the definition.
 use native.Mathlib.Omega.{arith}
 use borrow.Author.Tests.{ne_eqb}
-use borrow.Author.Rules.{rules}
 use Rattle.judge.proofs.crowds.limit_of.Goals as goal
 
 pub returns-then-two_of-eq-BASE : goal.returns-then-two_of-eq-BASE

@@ -1,7 +1,6 @@
 -- `place_of` is its definition: the numbers read are those of the record, and the sum does not overflow.
 -- Any function of what `stands` compares would do; this one spreads them.
 use native.Mathlib.Omega.{arith}
-use borrow.Author.Rules.{rules}
 use Rattle.judge_laws.specs.Crowds.{place_of}
 use Rattle.judge.proofs.crowds.place_of.Goals as goal
 

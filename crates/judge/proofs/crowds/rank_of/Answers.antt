@@ -3,7 +3,6 @@
 use mathlib.Core.Path.{sym, ap, ◌∙◌}
 use Prim.Native.Nat.{◌+◌}
 use native.Mathlib.Omega.{arith}
-use borrow.Author.Rules.{rules}
 use Rattle.judge_laws.specs.Mask.{without}
 use Rattle.judge_laws.proofs.Crowds.{rank-first, rank-next}
 use Rattle.judge.proofs.crowds.rank_of.Goals as goal

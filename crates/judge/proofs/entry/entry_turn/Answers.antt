@@ -4,7 +4,6 @@ use mathlib.Core.Bool.{true, true≢false}
 use mathlib.Core.Path.{◌≡◌, sym, ◌∙◌}
 use native.Mathlib.Omega.{arith}
 use borrow.Author.Count.{below_more}
-use borrow.Author.Tests.{not-true, not-false}
 use Rattle.judge_laws.specs.Mask.{without}
 use Rattle.judge_laws.specs.Shapes.{entry_right}
 use Rattle.paper.specs.Table.{rec}
@@ -17,12 +16,11 @@ is_entry_right-requires c =
     (c.requires.0, c.requires.1, c.requires.2, c.requires.4, c.requires.6)
 
 pub returns-then-not-is_entry_right : goal.returns-then-not-is_entry_right
-returns-then-not-is_entry_right c =
-    (
-      λ f. refuted-entry c.args.gone.now c.args.t.now c.requires.1 c.args.i c.requires.0 c.requires.3
-          (sym c.is_entry_right.ensures ∙ c.if-not-is_entry_right.true),
-      λ f. absurd (true≢false (sym f)),
-    )
+returns-then-not-is_entry_right c = (
+  λ f. refuted-entry c.args.gone.now c.args.t.now c.requires.1 c.args.i c.requires.0 c.requires.3
+      (sym c.is_entry_right.ensures ∙ c.if-not-is_entry_right.true),
+  λ f. absurd (true≢false (sym f)),
+)
 
 pub hold_turn-requires : goal.hold_turn-requires
 hold_turn-requires c =
@@ -36,11 +34,10 @@ hold_turn-requires c =
     )
 
 pub returns-then-not-hold_turn : goal.returns-then-not-hold_turn
-returns-then-not-hold_turn c =
-    (
-      λ f. shaped-not-crowded (without c.args.gone.now c.args.t.now) (c.hold_turn.ensures.0 (c.if-not-hold_turn.true)),
-      λ f. absurd (true≢false (sym f)),
-    )
+returns-then-not-hold_turn c = (
+  λ f. shaped-not-crowded (without c.args.gone.now c.args.t.now) (c.hold_turn.ensures.0 (c.if-not-hold_turn.true)),
+  λ f. absurd (true≢false (sym f)),
+)
 
 pub name_turn-requires : goal.name_turn-requires
 name_turn-requires c =

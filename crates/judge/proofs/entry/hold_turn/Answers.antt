@@ -6,7 +6,6 @@ use Prim.Native.Nat.{◌+◌, ◌<◌}
 use native.Mathlib.Omega.{arith}
 use lib.ListN.{get_or}
 use borrow.Author.Tests.{eq-eqb, ne_eqb}
-use borrow.Author.Rules.{rules}
 use Rattle.judge_laws.specs.Mask.{without}
 use Rattle.judge_laws.proofs.Mask.{rooms-without, rec-entry}
 use Rattle.judge_laws.proofs.Pass.{held-base, held_more, held-full}
@@ -16,13 +15,12 @@ use Rattle.paper.specs.Table.{rec}
 use Rattle.judge.proofs.entry.hold_turn.Goals as goal
 
 pub returns-then-d-eq-BASE : goal.returns-then-d-eq-BASE
-returns-then-d-eq-BASE c =
-    (
-      λ f. absurd (true≢false f),
-      λ f. held-base (without c.args.gone.now c.args.t.now) c.args.i c.requires.1 c.args.held.now c.requires.3
-          (rw (rec-entry c.args.gone.now c.args.t.now c.args.i c.requires.0 c.requires.1)
-          (eq-eqb _ _ (sym c.two_of-d.ensures.0 ∙ c.if-d-eq-BASE.true))),
-    )
+returns-then-d-eq-BASE c = (
+  λ f. absurd (true≢false f),
+  λ f. held-base (without c.args.gone.now c.args.t.now) c.args.i c.requires.1 c.args.held.now c.requires.3
+      (rw (rec-entry c.args.gone.now c.args.t.now c.args.i c.requires.0 c.requires.1)
+      (eq-eqb _ _ (sym c.two_of-d.ensures.0 ∙ c.if-d-eq-BASE.true))),
+)
 
 pub bounds-held-d : goal.bounds-held-d
 bounds-held-d c =

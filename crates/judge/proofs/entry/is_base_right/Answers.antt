@@ -5,7 +5,6 @@ use mathlib.Core.Path.{ap, ◌∙◌}
 use Prim.Native.Nat.{ℕ}
 use native.Mathlib.Omega.{arith}
 use borrow.Author.Tests.{le-leb, lt-leb}
-use borrow.Author.Rules.{rules}
 use Rattle.paper.specs.Name.{legal_base}
 use Rattle.paper.specs.Table.{rec}
 use Rattle.judge_laws.specs.Shapes.{base_right}

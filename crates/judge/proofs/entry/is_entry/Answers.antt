@@ -1,9 +1,7 @@
 -- Its kind is read from the record, and whether it stays from its mark.
 -- One that goes is free, and no entry.
 use mathlib.Core.Path.{sym, ◌∙◌}
-use native.Mathlib.Omega.{arith}
 use borrow.Author.Tests.{ne_eqb}
-use borrow.Author.Rules.{rules}
 use Rattle.judge_laws.proofs.Mask.{entry-without}
 use Rattle.judge.proofs.entry.is_entry.Goals as goal
 

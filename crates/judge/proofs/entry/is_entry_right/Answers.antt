@@ -3,8 +3,7 @@
 use mathlib.Core.Bool.{true, false, true≢false}
 use mathlib.Core.Path.{◌≡◌, sym, ◌∙◌}
 use native.Mathlib.Omega.{arith}
-use borrow.Author.Tests.{eq-eqb, ne_eqb, not-true, not-false}
-use borrow.Author.Rules.{rules}
+use borrow.Author.Tests.{eq-eqb, ne_eqb}
 use Rattle.paper.specs.Name.{link_name}
 use Rattle.paper.specs.Record.{is_kind, directory, holder_of, heading_named}
 use Rattle.paper.specs.Layout.{name_of, boxed}

@@ -2,7 +2,6 @@
 -- Any other is read.
 use mathlib.Core.Path.{sym}
 use native.Mathlib.Omega.{arith}
-use borrow.Author.Rules.{rules}
 use Rattle.judge_laws.proofs.Mask.{rec-none}
 use Rattle.judge.proofs.entry.is_holder.Goals as goal
 

@@ -4,7 +4,6 @@ use mathlib.Core.Path.{◌≡◌, refl, sym, ap, ◌∙◌}
 use Prim.Native.Nat.{◌+◌, ◌<◌}
 use native.Mathlib.Omega.{arith}
 use lib.ListN.{get_or}
-use borrow.Author.Rules.{rules}
 use Rattle.judge_laws.specs.Mask.{without}
 use Rattle.judge_laws.proofs.Mask.{rec-entry}
 use Rattle.records.proofs.Numbered.{naming-most, named_more}

@@ -5,7 +5,6 @@ use mathlib.Core.Bool.{true}
 use native.Mathlib.Omega.{arith}
 use lib.Dec.{leb}
 use borrow.Author.Tests.{le-leb, lt-leb}
-use borrow.Author.Rules.{rules}
 use Rattle.judge_laws.specs.Shapes.{heading_right}
 use Rattle.judge_laws.proofs.Tests.{and-past-right}
 use Rattle.laws.proofs.Tests.{and-no-right}

@@ -1,7 +1,6 @@
 -- The bytes are asked of a simple file's heading alone.
 -- What is asked of one is what the called function tells.
 use borrow.Author.Tests.{ne_eqb}
-use borrow.Author.Rules.{rules}
 use Rattle.judge.proofs.heading.is_bare.Goals as goal
 
 pub returns-then-raw_of-ne-SIMPLE : goal.returns-then-raw_of-ne-SIMPLE

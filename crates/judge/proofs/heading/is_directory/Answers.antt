@@ -3,8 +3,6 @@
 use mathlib.Core.Bool.{true, false}
 use mathlib.Core.Path.{◌≡◌, sym, ◌∙◌}
 use native.Mathlib.Omega.{arith}
-use borrow.Author.Rules.{rules}
-use borrow.Author.Tests.{not-true, not-false}
 use Rattle.paper.specs.Record.{directory}
 use Rattle.paper.specs.Table.{rec}
 use Rattle.judge_laws.proofs.Mask.{directory-without}

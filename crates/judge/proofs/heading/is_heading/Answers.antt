@@ -3,7 +3,6 @@
 use mathlib.Core.Path.{sym, ◌∙◌}
 use native.Mathlib.Omega.{arith}
 use borrow.Author.Tests.{ne_eqb}
-use borrow.Author.Rules.{rules}
 use Rattle.judge_laws.proofs.Mask.{heading-without}
 use Rattle.laws.proofs.Lay.{rec-past}
 use Rattle.judge.proofs.heading.is_heading.Goals as goal

@@ -1,7 +1,6 @@
 -- The parts of the test in turn.
 -- Only of a heading that is marked is more asked.
 use borrow.Author.Tests.{ne_eqb}
-use borrow.Author.Rules.{rules}
 use Rattle.judge.proofs.heading.is_mark_right.Goals as goal
 
 pub returns-then-mark-eq-UNMARKED : goal.returns-then-mark-eq-UNMARKED

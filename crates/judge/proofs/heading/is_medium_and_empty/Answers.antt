@@ -1,7 +1,6 @@
 -- The two parts of the test in turn.
 -- The byte and the number read are the record's.
 use borrow.Author.Tests.{ne_eqb}
-use borrow.Author.Rules.{rules}
 use Rattle.judge.proofs.heading.is_medium_and_empty.Goals as goal
 
 pub returns-then-raw_of-ne-MEDIUM : goal.returns-then-raw_of-ne-MEDIUM

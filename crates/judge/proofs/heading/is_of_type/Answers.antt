@@ -1,7 +1,6 @@
 -- The number of both bytes is the kind and 256 times the type.
 -- Bytes are below 256, so it tells both.
 use native.Mathlib.Omega.{arith}
-use borrow.Author.Rules.{rules}
 use Rattle.judge_laws.proofs.Tests.{both-eqb}
 use Rattle.judge.proofs.heading.is_of_type.Goals as goal
 

@@ -1,7 +1,6 @@
 -- The test is asked of a directory's heading alone.
 -- What is asked of one is what the called function tells.
 use borrow.Author.Tests.{ne_eqb}
-use borrow.Author.Rules.{rules}
 use Rattle.judge.proofs.heading.is_plain.Goals as goal
 
 pub returns-then-raw_of-ne-DIRECTORY : goal.returns-then-raw_of-ne-DIRECTORY

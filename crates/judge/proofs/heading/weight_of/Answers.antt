@@ -3,7 +3,6 @@
 use mathlib.Core.Bool.{true}
 use mathlib.Core.Path.{◌≡◌, sym, ◌∙◌}
 use native.Mathlib.Omega.{arith}
-use borrow.Author.Rules.{rules}
 use Rattle.paper.specs.Record.{simple}
 use Rattle.paper.specs.Table.{rec}
 use Rattle.judge_laws.specs.Mask.{without}

@@ -2,9 +2,7 @@ use mathlib.Core.Bool.{true, false}
 use mathlib.Core.Path.{◌≡◌, refl, sym, ◌∙◌}
 use Prim.Native.Nat.{◌+◌, ◌%◌}
 use native.Mathlib.Omega.{arith}
-use borrow.Author.Tests.{not-true, not-false}
-use Rattle.paper.specs.Name.{in_base, all}
-use Rattle.judge_laws.specs.Codes.{spelled}
+use Rattle.paper.specs.Name.{in_base}
 use Rattle.judge_laws.proofs.Names.{all-stops, all-goes, all_none}
 use Rattle.judge.proofs.name.are_in_base.Goals as goal
 

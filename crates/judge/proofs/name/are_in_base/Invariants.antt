@@ -1,13 +1,8 @@
 -- The codes passed so far all pass, and those left are tested as the whole was.
 -- The first that does not pass refutes the test.
-use mathlib.Core.Bool.{true, false}
-use mathlib.Core.Path.{◌≡◌, refl, sym, ◌∙◌}
-use Prim.Native.Nat.{◌+◌, ◌%◌}
-use native.Mathlib.Omega.{arith}
-use borrow.Author.Tests.{not-true, not-false}
+use mathlib.Core.Path.{◌≡◌}
 use Rattle.paper.specs.Name.{in_base, all}
 use Rattle.judge_laws.specs.Codes.{spelled}
-use Rattle.judge_laws.proofs.Names.{all-stops, all-goes, all_none}
 use Rattle.judge.proofs.name.are_in_base.Given as goal
 
 abbrev pub invariant-loop-left : goal.invariant-loop-left

@@ -1,11 +1,8 @@
 -- The sum has the classes of the codes read, the lowest first, and the rest has the codes above them.
 -- Ten classes are no more than 2,046.
-use mathlib.Core.Path.{◌≡◌, sym, ap, ◌∙◌}
-use Prim.Native.Nat.{ℕ, ◌+◌, ◌-◌, ◌*◌, ◌/◌, ◌%◌, ◌^◌, ◌≤◌}
-use native.Mathlib.Omega.{arith}
-use native.Mathlib.Nat.{pow-zero, div-one}
-use Rattle.judge_laws.specs.Codes.{class_of, class_bits}
-use Rattle.judge_laws.proofs.Names.{bits_none, bits-more, bits_most, rest_more}
+use mathlib.Core.Path.{◌≡◌}
+use Prim.Native.Nat.{◌-◌, ◌/◌, ◌^◌, ◌≤◌}
+use Rattle.judge_laws.specs.Codes.{class_bits}
 use Rattle.judge.proofs.name.class_sum.Given as goal
 
 abbrev pub invariant-loop-m : goal.invariant-loop-m

@@ -2,7 +2,6 @@
 -- The number is read as it is laid.
 use mathlib.Core.Path.{sym, ◌∙◌}
 use native.Mathlib.Omega.{arith}
-use borrow.Author.Rules.{rules}
 use Rattle.paper.specs.Table.{rec}
 use Rattle.judge_laws.proofs.Shapes.{above-gap, above-long, above-rest}
 use Rattle.judge.proofs.name.is_laid.Goals as goal

@@ -5,7 +5,6 @@ use mathlib.Core.Logic.{⊎_elim}
 use mathlib.Core.Path.{◌≡◌, sym}
 use Prim.Native.Nat.{ℕ, ◌+◌, ◌^◌, ◌≤◌}
 use native.Mathlib.Omega.{arith}
-use borrow.Author.Rules.{rules}
 use Rattle.paper.specs.Layout.{unpacked}
 use Rattle.paper.specs.Name.{link_name}
 use Rattle.judge_laws.specs.Codes.{class_bits}

@@ -1,7 +1,6 @@
 use mathlib.Core.Path.{◌≡◌, refl, sym, ◌∙◌}
-use Prim.Native.Nat.{◌%◌, ◌^◌, ◌≤◌, ◌<◌}
+use Prim.Native.Nat.{◌%◌}
 use native.Mathlib.Omega.{arith}
-use Rattle.paper.specs.Layout.{unpacking, unpacked}
 use Rattle.judge_laws.proofs.Names.{blank-off, blank-room, blank-less, spelled_out}
 use Rattle.judge.proofs.name.without_blanks.Goals as goal
 

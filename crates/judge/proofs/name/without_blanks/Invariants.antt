@@ -1,10 +1,8 @@
 -- A blank at the end is padding, so the name stays what it is; where there is none every code is a character.
 -- The number is not 0, so it has a code left.
-use mathlib.Core.Path.{◌≡◌, refl, sym, ◌∙◌}
-use Prim.Native.Nat.{◌%◌, ◌^◌, ◌≤◌, ◌<◌}
-use native.Mathlib.Omega.{arith}
+use mathlib.Core.Path.{◌≡◌}
+use Prim.Native.Nat.{◌^◌, ◌≤◌, ◌<◌}
 use Rattle.paper.specs.Layout.{unpacking, unpacked}
-use Rattle.judge_laws.proofs.Names.{blank-off, blank-room, blank-less, spelled_out}
 use Rattle.judge.proofs.name.without_blanks.Given as goal
 
 abbrev pub invariant-loop-value : goal.invariant-loop-value

@@ -1,12 +1,9 @@
 use mathlib.Core.Bool.{true}
 use mathlib.Core.Path.{◌≡◌, refl, sym, ◌∙◌}
-use Prim.Native.Nat.{ℕ, ◌-◌, ◌≤◌, ◌<◌}
 use native.Mathlib.Omega.{arith}
-use borrow.Author.Tests.{not-true, not-false}
 use borrow.Author.Count.{below_more, below_none}
 use Rattle.judge_laws.specs.Mask.{without}
 use Rattle.judge_laws.specs.Counts.{headed}
-use Rattle.paper.specs.Table.{rooms}
 use Rattle.judge_laws.proofs.Mask.{rooms-without}
 use Rattle.judge_laws.proofs.Counts.{all-headed, one-bare}
 use Rattle.judge.proofs.pass.are_named.Goals as goal

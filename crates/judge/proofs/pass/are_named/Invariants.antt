@@ -1,16 +1,11 @@
 -- Every record passed is named if it is a heading, and says its counts where they are judged.
 -- The first that is not refutes the clause.
 use mathlib.Core.Bool.{true}
-use mathlib.Core.Path.{◌≡◌, refl, sym, ◌∙◌}
+use mathlib.Core.Path.{◌≡◌}
 use Prim.Native.Nat.{ℕ, ◌-◌, ◌≤◌, ◌<◌}
-use native.Mathlib.Omega.{arith}
-use borrow.Author.Tests.{not-true, not-false}
-use borrow.Author.Count.{below_more, below_none}
 use Rattle.judge_laws.specs.Mask.{without}
 use Rattle.judge_laws.specs.Counts.{headed}
 use Rattle.paper.specs.Table.{rooms}
-use Rattle.judge_laws.proofs.Mask.{rooms-without}
-use Rattle.judge_laws.proofs.Counts.{all-headed, one-bare}
 use Rattle.judge.proofs.pass.are_named.Given as goal
 
 abbrev pub invariant-loop-i : goal.invariant-loop-i

@@ -2,7 +2,6 @@
 -- It is 65,535 for a base file alone.
 use native.Mathlib.Omega.{arith}
 use borrow.Author.Tests.{ne_eqb}
-use borrow.Author.Rules.{rules}
 use Rattle.judge.proofs.pass.base_of.Goals as goal
 
 pub returns-then-two_of-eq-BASE : goal.returns-then-two_of-eq-BASE

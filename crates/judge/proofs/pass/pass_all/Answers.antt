@@ -1,9 +1,7 @@
-use mathlib.Core.Bool.{true, true≢false}
+use mathlib.Core.Bool.{true≢false}
 use mathlib.Core.Path.{◌≡◌, refl, sym, ◌∙◌}
-use Prim.Native.Nat.{◌-◌, ◌≤◌}
 use native.Mathlib.Omega.{arith}
 use borrow.Author.Tests.{not-true, not-false}
-use Rattle.judge_laws.specs.Pass.{Passed}
 use Rattle.paper.specs.Table.{rooms}
 use Rattle.judge.proofs.pass.pass_all.Goals as goal
 

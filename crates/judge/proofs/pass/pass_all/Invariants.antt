@@ -1,10 +1,8 @@
 -- Every record passed is judged, and what is known is what the turns added.
 -- The first turn that refuses refutes soundness.
-use mathlib.Core.Bool.{true, true≢false}
-use mathlib.Core.Path.{◌≡◌, refl, sym, ◌∙◌}
+use mathlib.Core.Bool.{true}
+use mathlib.Core.Path.{◌≡◌}
 use Prim.Native.Nat.{◌-◌, ◌≤◌}
-use native.Mathlib.Omega.{arith}
-use borrow.Author.Tests.{not-true, not-false}
 use Rattle.judge_laws.specs.Pass.{Passed}
 use Rattle.paper.specs.Table.{rooms}
 use Rattle.judge.proofs.pass.pass_all.Given as goal

@@ -5,7 +5,6 @@ use mathlib.Core.Path.{◌≡◌, sym, ap, ◌∙◌}
 use Prim.Native.Nat.{◌+◌}
 use native.Mathlib.Omega.{arith}
 use borrow.Author.Tests.{eq-eqb, ne_eqb}
-use borrow.Author.Rules.{rules}
 use Rattle.judge_laws.specs.Mask.{without}
 use Rattle.judge_laws.specs.Places.{short_at}
 use Rattle.paper.specs.Record.{byte, is_kind}

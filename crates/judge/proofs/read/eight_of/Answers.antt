@@ -1,6 +1,5 @@
 -- A number of eight bytes is two numbers of four, the low one first.
 -- Both are below 4,294,967,296, so the sum fits.
-use borrow.Author.Rules.{rules}
 use Rattle.judge_laws.proofs.Shapes.{number-eight}
 use Rattle.judge.proofs.read.eight_of.Goals as goal
 

@@ -1,7 +1,6 @@
 -- A number of four bytes is two numbers of two, the low one first.
 -- Both are below 65,536, so the sum fits.
 use native.Mathlib.Omega.{arith}
-use borrow.Author.Rules.{rules}
 use Rattle.laws.proofs.Numbers.{number-four}
 use Rattle.judge.proofs.read.four_of.Goals as goal
 

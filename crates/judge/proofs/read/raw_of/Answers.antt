@@ -2,7 +2,6 @@
 -- The record is in the table, so the byte is there.
 use mathlib.Core.Path.{sym}
 use native.Mathlib.Omega.{arith}
-use borrow.Author.Rules.{rules}
 use Rattle.laws.proofs.Lay.{byte-rec}
 use Rattle.judge.proofs.read.raw_of.Goals as goal
 

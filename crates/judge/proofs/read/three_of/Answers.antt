@@ -1,7 +1,6 @@
 -- Three bytes, the low one first, are the number.
 -- Bytes are below 256, so the sum fits.
 use native.Mathlib.Omega.{arith}
-use borrow.Author.Rules.{rules}
 use Rattle.laws.proofs.Numbers.{number-three}
 use Rattle.judge.proofs.read.three_of.Goals as goal
 

@@ -3,8 +3,6 @@
 use mathlib.Core.Bool.{true, false, true≢false}
 use mathlib.Core.Path.{◌≡◌, sym, ◌∙◌}
 use native.Mathlib.Omega.{arith}
-use borrow.Author.Rules.{rules}
-use borrow.Author.Tests.{not-true, not-false}
 use Rattle.paper.specs.Record.{simple}
 use Rattle.paper.specs.Sound.{text_as_above, in_place}
 use Rattle.paper.specs.Table.{rec}

@@ -1,7 +1,6 @@
 -- `are_twins` compares place, user and name in turn: each difference refutes the test, and the names are what is left of it.
 -- The kind of the second is known to its caller.
 use mathlib.Core.Path.{sym, ◌∙◌}
-use borrow.Author.Rules.{rules}
 use Rattle.paper.specs.Table.{rec}
 use Rattle.judge_laws.proofs.Twins.{twin-not-place, twin-not-user, twin-name}
 use Rattle.judge.proofs.twins.are_twins.Goals as goal

@@ -5,7 +5,6 @@ use mathlib.Core.Path.{◌≡◌, sym, ap, ◌∙◌}
 use Prim.Native.Nat.{◌<◌}
 use native.Mathlib.Omega.{arith}
 use lib.ListN.{length-set}
-use borrow.Author.Rules.{rules}
 use borrow.Author.Tests.{not-true, not-false}
 use Rattle.judge_laws.specs.Chains.{last_in}
 use Rattle.judge_laws.specs.Mask.{without}
@@ -18,15 +17,14 @@ use Rattle.judge_laws.proofs.Twins.{hash-below}
 use Rattle.judge.proofs.twins.chain_turn.Goals as goal
 
 pub returns-then-left-eq0 : goal.returns-then-left-eq0
-returns-then-left-eq0 c =
-    (
-      λ f. absurd (true≢false f),
-      λ f. (
-        λ l. let z : ⊥ = omega arith in absurd z,
-        record { chains = λ l. let z : ⊥ = omega arith in absurd z; head_long = c.requires.3.head_long; next_long = c.requires.3.next_long },
-      ),
-      omega arith,
-    )
+returns-then-left-eq0 c = (
+  λ f. absurd (true≢false f),
+  λ f. (
+    λ l. let z : ⊥ = omega arith in absurd z,
+    record { chains = λ l. let z : ⊥ = omega arith in absurd z; head_long = c.requires.3.head_long; next_long = c.requires.3.next_long },
+  ),
+  omega arith,
+)
 
 pub bounds-head-h : goal.bounds-head-h
 bounds-head-h c =

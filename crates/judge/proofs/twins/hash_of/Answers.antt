@@ -1,7 +1,6 @@
 -- `hash_of` is its definition: the numbers read are those of the record, and none of the sums overflows.
 -- Any function of what twins share would do; this one spreads them.
 use native.Mathlib.Omega.{arith}
-use borrow.Author.Rules.{rules}
 use Rattle.judge_laws.specs.Twins.{hash_of}
 use Rattle.judge.proofs.twins.hash_of.Goals as goal
 

@@ -1,11 +1,10 @@
 use mathlib.Core.Bool.{true≢false}
 use mathlib.Core.Path.{sym, ◌∙◌}
-use Prim.Native.Nat.{◌-◌, ◌≤◌, ◌<◌}
+use Prim.Native.Nat.{◌-◌, ◌<◌}
 use native.Mathlib.Omega.{arith}
 use Rattle.judge_laws.specs.Mask.{without}
-use Rattle.judge_laws.specs.Twins.{twin, twin_to, hash_of}
+use Rattle.judge_laws.specs.Twins.{twin}
 use Rattle.paper.specs.Table.{rooms}
-use Rattle.judge_laws.proofs.Chains.{Walk}
 use Rattle.judge_laws.proofs.Mask.{rec-entry, entries-without}
 use Rattle.judge_laws.proofs.Twins.{twin-start, twin-end, twin-found, twin-on}
 use Rattle.judge.proofs.twins.twin_before.Goals as goal
@@ -56,9 +55,8 @@ loop-c-preserved c =
     )
 
 pub returns : goal.returns
-returns c =
-    (
-      λ f. absurd (true≢false f),
-      λ f l. twin-end (without c.args.gone.now c.args.t.now) c.args.i c.loop-c.c c.loop-c.invariant.0 (omega arith),
-      omega arith,
-    )
+returns c = (
+  λ f. absurd (true≢false f),
+  λ f l. twin-end (without c.args.gone.now c.args.t.now) c.args.i c.loop-c.c c.loop-c.invariant.0 (omega arith),
+  omega arith,
+)

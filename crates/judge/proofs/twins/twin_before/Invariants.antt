@@ -1,15 +1,9 @@
 -- The walk down a bucket has passed no twin, and all twins are in the bucket, which has only entries that stay.
 -- So what it meets first is the last twin, and at the end there is none; where the steps do not last nothing is said.
-use mathlib.Core.Bool.{true≢false}
-use mathlib.Core.Path.{sym, ◌∙◌}
-use Prim.Native.Nat.{◌-◌, ◌≤◌, ◌<◌}
-use native.Mathlib.Omega.{arith}
+use Prim.Native.Nat.{◌≤◌}
 use Rattle.judge_laws.specs.Mask.{without}
-use Rattle.judge_laws.specs.Twins.{twin, twin_to, hash_of}
-use Rattle.paper.specs.Table.{rooms}
+use Rattle.judge_laws.specs.Twins.{twin_to, hash_of}
 use Rattle.judge_laws.proofs.Chains.{Walk}
-use Rattle.judge_laws.proofs.Mask.{rec-entry, entries-without}
-use Rattle.judge_laws.proofs.Twins.{twin-start, twin-end, twin-found, twin-on}
 use Rattle.judge.proofs.twins.twin_before.Given as goal
 
 abbrev pub invariant-loop-c : goal.invariant-loop-c

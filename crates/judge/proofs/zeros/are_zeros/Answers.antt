@@ -1,8 +1,5 @@
-use mathlib.Core.Bool.{true}
 use mathlib.Core.Path.{◌≡◌, sym, ◌∙◌}
-use Prim.Native.Nat.{◌-◌, ◌≤◌}
 use native.Mathlib.Omega.{arith}
-use Rattle.paper.specs.Record.{zeros}
 use Rattle.paper.specs.Table.{rec}
 use Rattle.judge_laws.proofs.Shapes.{zeros-not, zeros-next}
 use Rattle.judge.proofs.zeros.are_zeros.Goals as goal

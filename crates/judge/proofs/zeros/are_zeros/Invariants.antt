@@ -1,12 +1,10 @@
 -- The bytes passed so far are zero; the first that is not refutes the test.
 -- Where none is left to pass, the test passes.
 use mathlib.Core.Bool.{true}
-use mathlib.Core.Path.{◌≡◌, sym, ◌∙◌}
+use mathlib.Core.Path.{◌≡◌}
 use Prim.Native.Nat.{◌-◌, ◌≤◌}
-use native.Mathlib.Omega.{arith}
 use Rattle.paper.specs.Record.{zeros}
 use Rattle.paper.specs.Table.{rec}
-use Rattle.judge_laws.proofs.Shapes.{zeros-not, zeros-next}
 use Rattle.judge.proofs.zeros.are_zeros.Given as goal
 
 abbrev pub invariant-loop-m : goal.invariant-loop-m

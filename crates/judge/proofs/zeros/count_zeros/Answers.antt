@@ -1,8 +1,5 @@
-use mathlib.Core.Bool.{true}
-use mathlib.Core.Path.{◌≡◌, sym, ◌∙◌}
-use Prim.Native.Nat.{◌-◌, ◌≤◌}
+use mathlib.Core.Path.{sym, ◌∙◌}
 use native.Mathlib.Omega.{arith}
-use Rattle.paper.specs.Record.{zeros}
 use Rattle.paper.specs.Table.{rec}
 use Rattle.judge_laws.proofs.Shapes.{zeros-more, zeros-none}
 use Rattle.judge.proofs.zeros.count_zeros.Goals as goal

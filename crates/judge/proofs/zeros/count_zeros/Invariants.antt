@@ -1,12 +1,10 @@
 -- The bytes passed so far are zero: four at once where their number is 0.
 -- The first four that are not leave the rest to the caller.
 use mathlib.Core.Bool.{true}
-use mathlib.Core.Path.{◌≡◌, sym, ◌∙◌}
+use mathlib.Core.Path.{◌≡◌}
 use Prim.Native.Nat.{◌-◌, ◌≤◌}
-use native.Mathlib.Omega.{arith}
 use Rattle.paper.specs.Record.{zeros}
 use Rattle.paper.specs.Table.{rec}
-use Rattle.judge_laws.proofs.Shapes.{zeros-more, zeros-none}
 use Rattle.judge.proofs.zeros.count_zeros.Given as goal
 
 abbrev pub invariant-loop-m : goal.invariant-loop-m

@@ -1,7 +1,6 @@
 -- Each return has the cases that led to it, and the definition computes at those;
 -- the test is on the number.
 use borrow.Author.Tests.{le-leb, lt-leb}
-use borrow.Author.Rules.{rules}
 use Rattle.reader.proofs.argument.as_count.Goals as goal
 
 pub returns-in_default-part : goal.returns-in_default-part

@@ -10,7 +10,6 @@ use Rattle.declarations.specs.Given.{shown_declared}
 use Rattle.declarations.specs.declared.declaration.Declaration.TheVariants.{Wrong}
 use Rattle.words.proofs.Words.{word-names}
 use Rattle.words.proofs.Names.{next-there, next-none, names-one, names-two}
-use borrow.Author.Rules.{rules}
 use Rattle.reader.proofs.argument.declared_at.Goals as goal
 
 pub count_words-requires : goal.count_words-requires

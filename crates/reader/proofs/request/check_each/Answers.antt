@@ -1,14 +1,9 @@
-use Prim.Native.Nat.{◌-◌}
-use mathlib.Core.Path.{◌≡◌, refl, sym, ◌∙◌}
+use mathlib.Core.Path.{refl, sym, ◌∙◌}
 use native.Mathlib.Numerals.{add-one}
-use Rattle.paper.specs.Line.{word}
 use Rattle.paper.specs.Check.{verdict}
-use Rattle.paper.specs.Request.{each, between}
 use Rattle.words.proofs.Words.{word-here, word_next, word-there, word_none}
-use Rattle.reader.specs.Asked.{fault_check, shown_verdict}
+use Rattle.reader.specs.Asked.{fault_check}
 use Rattle.reader.proofs.Verdicts.{each_none, each-past, each-refused, each-passed}
-use native.Mathlib.Omega.{arith}
-use borrow.Author.Rules.{rules}
 use Rattle.reader.proofs.request.check_each.Goals as goal
 
 pub word_at-p-requires : goal.word_at-p-requires

@@ -1,16 +1,11 @@
 -- What the words from k on get is what all get, since every word before k passed; p is where word k starts.
 -- The measure is the words that are left.
 use Prim.Native.Nat.{◌-◌}
-use mathlib.Core.Path.{◌≡◌, refl, sym, ◌∙◌}
-use native.Mathlib.Numerals.{add-one}
+use mathlib.Core.Path.{◌≡◌}
 use Rattle.paper.specs.Line.{word}
 use Rattle.paper.specs.Check.{verdict}
 use Rattle.paper.specs.Request.{each, between}
-use Rattle.words.proofs.Words.{word-here, word_next, word-there, word_none}
 use Rattle.reader.specs.Asked.{fault_check, shown_verdict}
-use Rattle.reader.proofs.Verdicts.{each_none, each-past, each-refused, each-passed}
-use native.Mathlib.Omega.{arith}
-use borrow.Author.Rules.{rules}
 use Rattle.reader.proofs.request.check_each.Given as goal
 
 abbrev pub invariant-loop-k : goal.invariant-loop-k

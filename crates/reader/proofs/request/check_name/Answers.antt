@@ -1,6 +1,5 @@
 -- In each arm the fault is known, and the check that
 -- is called is the one that it has.
-use borrow.Author.Rules.{rules}
 use Rattle.reader.proofs.request.check_name.Goals as goal
 
 pub check_chain-requires : goal.check_chain-requires

@@ -1,8 +1,6 @@
 -- The two tests of the word's stretch
 -- are the definition's.
-use borrow.Author.Tests.{not-true, not-false}
 use Rattle.reader.proofs.Functions.{link-lone}
-use borrow.Author.Rules.{rules}
 use Rattle.reader.proofs.request.is_link_alone.Goals as goal
 
 pub lone_word-w-requires : goal.lone_word-w-requires

@@ -5,7 +5,6 @@ use Rattle.paper.specs.Line.{word}
 use Rattle.paper.specs.Request.{chn, request, read_chn}
 use Rattle.reader.proofs.Verdicts.{read-refused, read-passed}
 use Rattle.reader.proofs.Functions.{chn-form}
-use borrow.Author.Rules.{rules}
 use Rattle.reader.proofs.request.read_chn.Goals as goal
 
 pub word_at-old-requires : goal.word_at-old-requires

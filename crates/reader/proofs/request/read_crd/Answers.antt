@@ -6,7 +6,6 @@ use Rattle.paper.specs.Declaration.{fit_crd}
 use Rattle.paper.specs.Line.{word}
 use Rattle.paper.specs.Request.{crd, miscounted, misnamed, declared_at, parts_at, read_crd}
 use Rattle.reader.proofs.Verdicts.{form-refused, form-unfit, form-fit}
-use borrow.Author.Rules.{rules}
 use Rattle.reader.proofs.request.read_crd.Goals as goal
 
 pub check_form-requires : goal.check_form-requires

@@ -9,7 +9,6 @@ use Rattle.paper.specs.Request.{Request, dpr, needed, miscounted, misnamed, decl
 use Rattle.declarations.specs.Given.{digit_part}
 use Rattle.declarations.proofs.Parts.{digit-back, declared-back, declared-wrong}
 use Rattle.reader.proofs.Verdicts.{read-refused, read-passed, needed-given, needed-none}
-use borrow.Author.Rules.{rules}
 use Rattle.reader.proofs.request.read_dpr.Goals as goal
 
 pub check_form-requires : goal.check_form-requires

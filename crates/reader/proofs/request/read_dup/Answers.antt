@@ -8,7 +8,6 @@ use Rattle.words.specs.Shown.{begin_shown}
 use Rattle.words.proofs.Words.{word-here}
 use Rattle.reader.specs.declared.request.Fault.TheVariants as faults
 use Rattle.reader.proofs.Verdicts.{both-form, form-refused, form-unfit, form-fit}
-use borrow.Author.Rules.{rules}
 use Rattle.reader.proofs.request.read_dup.Goals as goal
 
 pub word_at-old-requires : goal.word_at-old-requires

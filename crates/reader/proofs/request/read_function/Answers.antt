@@ -1,7 +1,6 @@
 -- The first word is known by its place and its stretch, so the function is the definition's,
 -- and the reader that is called is the one it names.
 use Rattle.reader.proofs.Functions.{first_word}
-use borrow.Author.Rules.{rules}
 use Rattle.reader.proofs.request.read_function.Goals as goal
 
 pub word_at-requires : goal.word_at-requires

@@ -9,7 +9,6 @@ use Rattle.words.proofs.Words.{word-here}
 use Rattle.reader.specs.Asked.{old_checks}
 use Rattle.reader.proofs.Verdicts.{read-refused, read-passed, checks-at}
 use Rattle.reader.proofs.Functions.{word-lone}
-use borrow.Author.Rules.{rules}
 use Rattle.reader.proofs.request.read_lst.Goals as goal
 
 pub word_at-p-requires : goal.word_at-p-requires

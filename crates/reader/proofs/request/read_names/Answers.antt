@@ -8,7 +8,6 @@ use Rattle.paper.specs.Request.{request, miscounted, misnamed, read_names}
 use Rattle.reader.specs.Asked.{removing}
 use Rattle.reader.proofs.Verdicts.{read-refused, read-passed}
 use Rattle.reader.proofs.Functions.{count-least, rest-first, rest-count, removal-shown}
-use borrow.Author.Rules.{rules}
 use Rattle.reader.proofs.request.read_names.Goals as goal
 
 pub count_words-requires : goal.count_words-requires

@@ -9,7 +9,6 @@ use Rattle.words.proofs.Words.{word-here}
 use Rattle.reader.specs.Asked.{old_checks, count_of}
 use Rattle.reader.proofs.Verdicts.{checks-at}
 use Rattle.reader.proofs.Numbers.{name-refused, first-refused, count-refused, numbers-passed}
-use borrow.Author.Rules.{rules}
 use Rattle.reader.proofs.request.read_rds.Goals as goal
 
 pub word_at-p-requires : goal.word_at-p-requires

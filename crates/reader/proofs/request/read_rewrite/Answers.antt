@@ -6,7 +6,6 @@ use Rattle.paper.specs.Declaration.{fit_rewrite}
 use Rattle.paper.specs.Line.{word}
 use Rattle.paper.specs.Request.{rewrite, miscounted, misnamed, declared_at, read_rewrite}
 use Rattle.reader.proofs.Verdicts.{form-refused, form-unfit, form-fit}
-use borrow.Author.Rules.{rules}
 use Rattle.reader.proofs.request.read_rewrite.Goals as goal
 
 pub check_form-requires : goal.check_form-requires

@@ -5,7 +5,6 @@ use mathlib.Core.Path.{◌∙◌}
 use Rattle.paper.specs.Request.{read_tree}
 use Rattle.reader.specs.Asked.{tree_name, tree_base}
 use Rattle.reader.proofs.Functions.{word-lone}
-use borrow.Author.Rules.{rules}
 use Rattle.reader.proofs.request.read_tree.Goals as goal
 
 pub word_at-requires : goal.word_at-requires

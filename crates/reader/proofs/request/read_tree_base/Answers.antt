@@ -10,7 +10,6 @@ use Rattle.declarations.proofs.Parts.{digit-back}
 use Rattle.reader.specs.Asked.{tree_base}
 use Rattle.reader.proofs.Verdicts.{read-refused, read-passed, needed-given, needed-none}
 use Rattle.reader.proofs.Functions.{depth-word}
-use borrow.Author.Rules.{rules}
 use Rattle.reader.proofs.request.read_tree_base.Goals as goal
 
 pub check_count-requires : goal.check_count-requires

@@ -11,7 +11,6 @@ use Rattle.declarations.proofs.Parts.{digit-back}
 use Rattle.reader.specs.Asked.{old_checks, tree_name}
 use Rattle.reader.proofs.Verdicts.{read-refused, read-passed, checks-at, needed-given, needed-none}
 use Rattle.reader.proofs.Functions.{depth-word}
-use borrow.Author.Rules.{rules}
 use Rattle.reader.proofs.request.read_tree_name.Goals as goal
 
 pub word_at-p-requires : goal.word_at-p-requires

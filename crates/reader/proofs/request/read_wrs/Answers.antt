@@ -9,7 +9,6 @@ use Rattle.paper.specs.Request.{Request, wrs, needed, miscounted, misnamed, decl
 use Rattle.declarations.specs.Given.{lifetime_part}
 use Rattle.declarations.proofs.Parts.{lifetime-back, declared-back, declared-wrong, declared-parts}
 use Rattle.reader.proofs.Verdicts.{read-refused, read-passed, needed-given, needed-none}
-use borrow.Author.Rules.{rules}
 use Rattle.reader.proofs.request.read_wrs.Goals as goal
 
 pub check_form-requires : goal.check_form-requires

@@ -1,6 +1,5 @@
 -- Each kind of step is one case of `linked`.
 -- A step on hands the state on, a step off its number with the link.
-use borrow.Author.Rules.{rules}
 use Rattle.walk.proofs.chain.at_link.Goals as goal
 
 pub returns-in-On : goal.returns-in-On

@@ -1,7 +1,6 @@
 -- A base name is followed as link 1: it stops the walk, or the names after it are walked as from link 2.
 -- So the walk is of that name and those.
 use mathlib.Core.Path.{◌∙◌}
-use borrow.Author.Rules.{rules}
 use Rattle.paper.specs.Layout.{boxed}
 use Rattle.paper.specs.Walk.{follow}
 use Rattle.walk.specs.Shown.{meant}

@@ -1,7 +1,6 @@
 -- The name is the cut of the line, the step that follows it is the paper's, and its number goes with the link.
 -- So what is done at a link is what the definition does there.
 use mathlib.Core.Path.{◌∙◌}
-use borrow.Author.Rules.{rules}
 use Rattle.paper.specs.Layout.{boxed}
 use Rattle.paper.specs.Walk.{follow}
 use Rattle.walk.specs.Shown.{meant}

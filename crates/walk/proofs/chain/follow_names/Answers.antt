@@ -1,13 +1,6 @@
-use mathlib.Core.Path.{◌≡◌, refl, sym, ◌∙◌}
-use Prim.Native.Nat.{◌+◌, ◌-◌, ◌≤◌}
+use mathlib.Core.Path.{refl, sym, ◌∙◌}
 use native.Mathlib.Omega.{arith}
-use lib.ListN.{length}
-use borrow.Author.Rules.{rules}
-use Rattle.paper.specs.Layout.{boxed}
-use Rattle.paper.specs.Walk.{to_directory}
-use Rattle.words.specs.Place.{names_from}
 use Rattle.words.proofs.Names.{next-there, next-none, names_more}
-use Rattle.walk.specs.Shown.{meant}
 use Rattle.walk.proofs.Chains.{next-on, walk-one, walk-off, walk-on}
 use Rattle.walk.proofs.chain.follow_names.Goals as goal
 

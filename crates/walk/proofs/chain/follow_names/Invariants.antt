@@ -1,16 +1,12 @@
 -- What is left to walk is the whole walk: a word's name is followed where another is joined to it. The link's number stays below
 -- what was passed of the line, in which every joining colon stands, and the measure is what is left of it.
-use mathlib.Core.Path.{◌≡◌, refl, sym, ◌∙◌}
+use mathlib.Core.Path.{◌≡◌}
 use Prim.Native.Nat.{◌+◌, ◌-◌, ◌≤◌}
-use native.Mathlib.Omega.{arith}
 use lib.ListN.{length}
-use borrow.Author.Rules.{rules}
 use Rattle.paper.specs.Layout.{boxed}
 use Rattle.paper.specs.Walk.{to_directory}
 use Rattle.words.specs.Place.{names_from}
-use Rattle.words.proofs.Names.{next-there, next-none, names_more}
 use Rattle.walk.specs.Shown.{meant}
-use Rattle.walk.proofs.Chains.{next-on, walk-one, walk-off, walk-on}
 use Rattle.walk.proofs.chain.follow_names.Given as goal
 
 abbrev pub invariant-loop-q : goal.invariant-loop-q

@@ -1,7 +1,6 @@
 -- A word of one name leaves the base name alone, and a walk of one name ends where it starts.
 -- Else the names after the first follow it.
 use mathlib.Core.Path.{sym, ◌∙◌}
-use borrow.Author.Rules.{rules}
 use Rattle.words.proofs.Names.{next-there, next-none}
 use Rattle.walk.proofs.Chains.{rest_more, walk-alone}
 use Rattle.walk.proofs.chain.instead_directory.Goals as goal

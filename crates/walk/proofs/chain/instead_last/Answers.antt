@@ -1,7 +1,6 @@
 -- Of a word of one name the base name is the last; else the last name is the one that is written.
 -- There are as many links as names.
 use mathlib.Core.Path.{sym, ◌∙◌}
-use borrow.Author.Rules.{rules}
 use Rattle.paper.specs.Layout.{boxed}
 use Rattle.paper.specs.Walk.{look}
 use Rattle.words.proofs.Names.{next-there, next-none}

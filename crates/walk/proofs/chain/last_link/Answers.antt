@@ -1,7 +1,6 @@
 -- The word's own chain has as many links as are counted, the supplied `.W` with them;
 -- where a base name stands in place of the first name there are as many links as names.
 use mathlib.Core.Path.{sym, ◌∙◌}
-use borrow.Author.Rules.{rules}
 use Rattle.paper.specs.Name.{pointed, chain, dot_g, dot_t}
 use Rattle.walk.proofs.Chains.{rest-length}
 use Rattle.walk.proofs.chain.last_link.Goals as goal

@@ -1,11 +1,5 @@
-use mathlib.Core.Path.{◌≡◌, sym, ◌∙◌}
-use Prim.Native.Nat.{◌-◌}
+use mathlib.Core.Path.{sym, ◌∙◌}
 use native.Mathlib.Omega.{arith}
-use lib.ListN.{length}
-use borrow.Author.Rules.{rules}
-use Rattle.paper.specs.Name.{chain}
-use Rattle.paper.specs.Walk.{last_name}
-use Rattle.words.specs.Place.{names_from}
 use Rattle.words.proofs.Names.{next-there, next-none}
 use Rattle.walk.proofs.Chains.{next-on, last_one, last_more, last-chain}
 use Rattle.walk.proofs.chain.last_name.Goals as goal

@@ -1,15 +1,11 @@
 -- The last name of what is left is the last of the chain: a word of one name ends it, and the supplied `.W` is never the last.
 -- The measure is what is left of the line, in which every joining colon stands.
-use mathlib.Core.Path.{◌≡◌, sym, ◌∙◌}
+use mathlib.Core.Path.{◌≡◌}
 use Prim.Native.Nat.{◌-◌}
-use native.Mathlib.Omega.{arith}
 use lib.ListN.{length}
-use borrow.Author.Rules.{rules}
 use Rattle.paper.specs.Name.{chain}
 use Rattle.paper.specs.Walk.{last_name}
 use Rattle.words.specs.Place.{names_from}
-use Rattle.words.proofs.Names.{next-there, next-none}
-use Rattle.walk.proofs.Chains.{next-on, last_one, last_more, last-chain}
 use Rattle.walk.proofs.chain.last_name.Given as goal
 
 abbrev pub invariant-loop-q : goal.invariant-loop-q

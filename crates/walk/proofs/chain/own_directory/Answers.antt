@@ -1,6 +1,5 @@
 -- Where the first name has its point, the chain is the names of the word.
 -- Else it is `.W` and those names.
-use borrow.Author.Rules.{rules}
 use Rattle.words.proofs.Names.{chain-pointed, chain-bare}
 use Rattle.walk.proofs.chain.own_directory.Goals as goal
 

@@ -1,6 +1,5 @@
 -- Each way to begin is one case of the chain and of the base list where it starts: the word's own chain, or `.T` or `.G`
 -- in place of its first name.
-use borrow.Author.Rules.{rules}
 use Rattle.paper.specs.Name.{pointed, chain}
 use Rattle.walk.proofs.chain.to_directory.Goals as goal
 

@@ -1,7 +1,6 @@
 -- The last name of the word's own chain is looked up as its last link, and its number goes with the count of the links.
 -- Of the other two beginnings a base name stands in place of the first name.
 use mathlib.Core.Path.{◌∙◌}
-use borrow.Author.Rules.{rules}
 use Rattle.paper.specs.Layout.{boxed}
 use Rattle.paper.specs.Name.{pointed, chain}
 use Rattle.paper.specs.Walk.{look}

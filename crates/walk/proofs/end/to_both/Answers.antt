@@ -2,7 +2,6 @@
 -- Assumes nothing.
 use mathlib.Core.Path.{sym, ◌∙◌}
 use Rattle.walk.proofs.Ends.{both-old, both-new, both_at}
-use borrow.Author.Rules.{rules}
 use Rattle.walk.proofs.end.to_both.Goals as goal
 
 pub returns-in-Off : goal.returns-in-Off

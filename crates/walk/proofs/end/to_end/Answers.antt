@@ -1,7 +1,6 @@
 -- Each return is one end of the walk: stopped before the directory, stopped at the last name, or at the file.
 -- Assumes nothing.
 use mathlib.Core.Path.{sym, ◌∙◌}
-use borrow.Author.Rules.{rules}
 use Rattle.walk.proofs.Ends.{ended-before, ended-last, ended_at}
 use Rattle.walk.proofs.end.to_end.Goals as goal
 

@@ -1,6 +1,5 @@
 -- The code that applies is joined from the heading's and the entry's own: each call's contract gives one part,
 -- and `applies` is their union.
-use borrow.Author.Rules.{rules}
 use Rattle.paper.specs.Walk.{applies}
 use Rattle.walk.proofs.state.applies.Goals as goal
 

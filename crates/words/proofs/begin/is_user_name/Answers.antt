@@ -2,7 +2,7 @@
 -- where the reach from the first of them ends at the end.
 use mathlib.Core.Path.{sym, ◌∙◌}
 use lib.ListN.{length}
-use borrow.Author.Tests.{not-true, not-false, ne_eqb, eq-eqb}
+use borrow.Author.Tests.{ne_eqb, eq-eqb}
 use Rattle.paper.specs.Name.{in_number, user_name}
 use Rattle.words.proofs.Reaches.{all-reach-from}
 use native.Mathlib.Omega.{arith}

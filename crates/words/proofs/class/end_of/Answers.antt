@@ -1,12 +1,7 @@
-use Prim.Native.Nat.{◌-◌}
-use mathlib.Core.Path.{◌≡◌, refl, sym, ◌∙◌}
+use mathlib.Core.Path.{refl, sym, ◌∙◌}
 use native.Mathlib.Numerals.{add-one}
-use lib.ListN.{length}
-use borrow.Author.Tests.{not-true, not-false}
-use Rattle.words.specs.Place.{reach}
 use Rattle.words.specs.Shown.{test}
 use Rattle.words.proofs.Reaches.{reach-end, reach-go, reach-stop}
-use native.Mathlib.Omega.{arith}
 use Rattle.words.proofs.class.end_of.Goals as goal
 
 pub loop-i-init : goal.loop-i-init

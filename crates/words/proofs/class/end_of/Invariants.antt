@@ -1,14 +1,10 @@
 -- The reach from the place arrived at is the reach from p: a byte that passes moves both, and at one that fails,
 -- or at the end, the reach stays. The measure is what is left of the slice.
 use Prim.Native.Nat.{◌-◌}
-use mathlib.Core.Path.{◌≡◌, refl, sym, ◌∙◌}
-use native.Mathlib.Numerals.{add-one}
+use mathlib.Core.Path.{◌≡◌}
 use lib.ListN.{length}
-use borrow.Author.Tests.{not-true, not-false}
 use Rattle.words.specs.Place.{reach}
 use Rattle.words.specs.Shown.{test}
-use Rattle.words.proofs.Reaches.{reach-end, reach-go, reach-stop}
-use native.Mathlib.Omega.{arith}
 use Rattle.words.proofs.class.end_of.Given as goal
 
 abbrev pub invariant-loop-i : goal.invariant-loop-i

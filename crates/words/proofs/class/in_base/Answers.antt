@@ -1,7 +1,5 @@
 -- The point passes; past it the byte is no point,
 -- and the orders against A and Z decide.
-use borrow.Author.Tests.{le-leb, lt-leb, ne_eqb}
-use native.Mathlib.Omega.{arith}
 use Rattle.words.proofs.class.in_base.Goals as goal
 
 pub returns-in-46 : goal.returns-in-46

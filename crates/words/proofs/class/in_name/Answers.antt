@@ -1,8 +1,6 @@
 -- The first arm's two bytes fail the definition; past it the byte is neither,
 -- and the orders against 33 and 95 decide.
-use mathlib.Core.Logic.{inl, inr, ⊎_elim}
-use borrow.Author.Tests.{le-leb, lt-leb, ne_eqb}
-use native.Mathlib.Omega.{arith}
+use mathlib.Core.Logic.{⊎_elim}
 use Rattle.words.proofs.class.in_name.Goals as goal
 
 pub returns-in-58 : goal.returns-in-58

@@ -1,6 +1,5 @@
 -- In each arm the class is known, and the test that
 -- it stands for is the one that is called.
-use borrow.Author.Rules.{rules}
 use Rattle.words.proofs.class.passes.Goals as goal
 
 pub is_plain-requires : goal.is_plain-requires

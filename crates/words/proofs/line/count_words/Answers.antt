@@ -1,8 +1,5 @@
-use Prim.Native.Nat.{◌-◌, ◌≤◌}
-use mathlib.Core.Path.{◌≡◌, sym, ◌∙◌}
+use mathlib.Core.Path.{sym, ◌∙◌}
 use native.Mathlib.Numerals.{add-one}
-use lib.ListN.{length}
-use Rattle.paper.specs.Line.{word, words}
 use Rattle.words.proofs.Words.{word-zero, word_next, word-there, word_none, next-word-later}
 use native.Mathlib.Omega.{arith}
 use Rattle.words.proofs.line.count_words.Goals as goal

@@ -1,12 +1,9 @@
 -- The place arrived at is where word n starts, which is in the line as long as there is a word n. The measure is what is left
 -- of the line, as each word starts later than the one before it.
 use Prim.Native.Nat.{◌-◌, ◌≤◌}
-use mathlib.Core.Path.{◌≡◌, sym, ◌∙◌}
-use native.Mathlib.Numerals.{add-one}
+use mathlib.Core.Path.{◌≡◌}
 use lib.ListN.{length}
 use Rattle.paper.specs.Line.{word, words}
-use Rattle.words.proofs.Words.{word-zero, word_next, word-there, word_none, next-word-later}
-use native.Mathlib.Omega.{arith}
 use Rattle.words.proofs.line.count_words.Given as goal
 
 abbrev pub invariant-loop-p : goal.invariant-loop-p

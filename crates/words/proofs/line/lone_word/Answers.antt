@@ -4,7 +4,6 @@ use mathlib.Core.List.{[]}
 use mathlib.Core.Path.{refl, sym, ◌∙◌}
 use Rattle.words.specs.Place.{lone_of}
 use Rattle.words.proofs.Names.{next-there, next-none, names-one, names-two}
-use borrow.Author.Rules.{rules}
 use Rattle.words.proofs.line.lone_word.Goals as goal
 
 pub next_name-requires : goal.next_name-requires

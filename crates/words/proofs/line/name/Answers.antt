@@ -4,7 +4,6 @@ use native.Mathlib.Nat.{sub_self}
 use Rattle.words.specs.Place.{is_plain}
 use Rattle.words.proofs.Reaches.{reach-le, reach-inside, reach-end}
 use native.Mathlib.Omega.{arith}
-use borrow.Author.Rules.{rules}
 use Rattle.words.proofs.line.name.Goals as goal
 
 pub end_of-e-requires : goal.end_of-e-requires

@@ -1,11 +1,7 @@
-use Prim.Native.Nat.{◌-◌}
-use mathlib.Core.Path.{◌≡◌, refl, sym, ◌∙◌}
-use lib.ListN.{length}
-use Rattle.words.specs.Place.{next_word}
+use mathlib.Core.Path.{refl, sym, ◌∙◌}
 use Rattle.words.proofs.Words.{next-over, next-joined, next_last, next-later}
 use Rattle.words.proofs.Names.{next-there, next-none}
 use native.Mathlib.Omega.{arith}
-use borrow.Author.Rules.{rules}
 use Rattle.words.proofs.line.next_word.Goals as goal
 
 pub loop-i-init : goal.loop-i-init

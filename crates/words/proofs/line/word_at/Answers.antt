@@ -1,7 +1,5 @@
-use Prim.Native.Nat.{◌-◌, ◌≤◌}
 use mathlib.Core.Path.{◌≡◌, sym, ◌∙◌}
 use native.Mathlib.Numerals.{add-one}
-use Rattle.paper.specs.Line.{word}
 use Rattle.words.proofs.Words.{word-zero, word_next}
 use native.Mathlib.Omega.{arith}
 use Rattle.words.proofs.line.word_at.Goals as goal

@@ -1,11 +1,8 @@
 -- The place arrived at is where word i starts: the first word starts past the leading blanks, and each next word
 -- where `next_word` says. The measure is the words that are left to pass.
 use Prim.Native.Nat.{◌-◌, ◌≤◌}
-use mathlib.Core.Path.{◌≡◌, sym, ◌∙◌}
-use native.Mathlib.Numerals.{add-one}
+use mathlib.Core.Path.{◌≡◌}
 use Rattle.paper.specs.Line.{word}
-use Rattle.words.proofs.Words.{word-zero, word_next}
-use native.Mathlib.Omega.{arith}
 use Rattle.words.proofs.line.word_at.Given as goal
 
 abbrev pub invariant-loop-i : goal.invariant-loop-i

@@ -1,11 +1,8 @@
-use Prim.Native.Nat.{◌+◌, ◌-◌, ◌≤◌}
-use mathlib.Core.Path.{◌≡◌, sym, ap, ◌∙◌}
+use mathlib.Core.Path.{sym, ap, ◌∙◌}
 use lib.ListN.{length}
-use Rattle.words.specs.Place.{names_from}
 use Rattle.words.proofs.Words.{next-later}
 use Rattle.words.proofs.Names.{next-there, next-none, names-one, names_more, joined-inside}
 use native.Mathlib.Omega.{arith}
-use borrow.Author.Rules.{rules}
 use Rattle.words.proofs.name.count_names.Goals as goal
 
 pub loop-q-init : goal.loop-q-init

@@ -1,13 +1,9 @@
 -- The names passed and those left are the names of the word and one: a joined name is one of those left. The measure is what is
 -- left of the line, in which every joining colon stands.
 use Prim.Native.Nat.{◌+◌, ◌-◌, ◌≤◌}
-use mathlib.Core.Path.{◌≡◌, sym, ap, ◌∙◌}
+use mathlib.Core.Path.{◌≡◌}
 use lib.ListN.{length}
 use Rattle.words.specs.Place.{names_from}
-use Rattle.words.proofs.Words.{next-later}
-use Rattle.words.proofs.Names.{next-there, next-none, names-one, names_more, joined-inside}
-use native.Mathlib.Omega.{arith}
-use borrow.Author.Rules.{rules}
 use Rattle.words.proofs.name.count_names.Given as goal
 
 abbrev pub invariant-loop-q : goal.invariant-loop-q

@@ -1,14 +1,9 @@
-use Prim.Native.Nat.{◌+◌, ◌-◌, ◌≤◌}
-use mathlib.Core.Path.{◌≡◌, sym, ◌∙◌}
+use mathlib.Core.Path.{sym, ◌∙◌}
 use native.Mathlib.Numerals.{add-one}
-use lib.ListN.{length}
-use borrow.Author.Tests.{not-true, not-false}
-use Rattle.paper.specs.Request.{first_wrong, first_link}
 use Rattle.words.specs.Place.{names_from}
 use Rattle.words.proofs.Words.{next-later}
 use Rattle.words.proofs.Names.{next-there, next-none, joined-inside, link-range, wrong-here, wrong-none, wrong-later}
 use native.Mathlib.Omega.{arith}
-use borrow.Author.Rules.{rules}
 use Rattle.words.proofs.name.first_wrong.Goals as goal
 
 pub first_link-k-requires : goal.first_link-k-requires

@@ -1,16 +1,10 @@
 -- The first wrong name from i on, counted from k, is the chain's: a link name that is joined leads on, the last one leaves none.
 -- The measure is what is left of the line.
 use Prim.Native.Nat.{◌+◌, ◌-◌, ◌≤◌}
-use mathlib.Core.Path.{◌≡◌, sym, ◌∙◌}
-use native.Mathlib.Numerals.{add-one}
+use mathlib.Core.Path.{◌≡◌}
 use lib.ListN.{length}
-use borrow.Author.Tests.{not-true, not-false}
 use Rattle.paper.specs.Request.{first_wrong, first_link}
 use Rattle.words.specs.Place.{names_from}
-use Rattle.words.proofs.Words.{next-later}
-use Rattle.words.proofs.Names.{next-there, next-none, joined-inside, link-range, wrong-here, wrong-none, wrong-later}
-use native.Mathlib.Omega.{arith}
-use borrow.Author.Rules.{rules}
 use Rattle.words.proofs.name.first_wrong.Given as goal
 
 abbrev pub invariant-loop-p : goal.invariant-loop-p

@@ -3,7 +3,7 @@
 use mathlib.Core.Path.{sym, ◌∙◌}
 use mathlib.Core.Logic.{inl, inr, ⊎_elim}
 use lib.ListN.{length}
-use borrow.Author.Tests.{not-true, not-false, lt-leb, le-leb, ne_eqb}
+use borrow.Author.Tests.{lt-leb, le-leb, ne_eqb}
 use Rattle.paper.specs.Name.{in_base}
 use Rattle.words.proofs.Reaches.{all-reach}
 use Rattle.words.proofs.Names.{base-two, base-bare, base-other}

@@ -8,7 +8,6 @@ use Rattle.paper.specs.Name.{well_formed}
 use Rattle.paper.specs.Request.{first_link}
 use Rattle.words.specs.Place.{names_from}
 use Rattle.words.proofs.Names.{link-range, none-wrong, alone-lone}
-use borrow.Author.Rules.{rules}
 use Rattle.words.proofs.name.is_well_formed.Goals as goal
 
 pub first_wrong-requires : goal.first_wrong-requires

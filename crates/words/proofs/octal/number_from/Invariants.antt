@@ -1,12 +1,9 @@
 -- The number so far and the digits left make the whole number, as they do at the start;
 -- the measure is the digits that are left.
 use Prim.Native.Nat.{◌-◌, ◌≤◌}
-use mathlib.Core.Path.{◌≡◌, refl}
-use native.Mathlib.Numerals.{add-one}
-use lib.ListN.{length, drop, drop_of_length-le}
+use mathlib.Core.Path.{◌≡◌}
+use lib.ListN.{length, drop}
 use Rattle.paper.specs.Name.{counting}
-use Rattle.words.proofs.Octals.{digit-least, digit-next, digit-fits}
-use native.Mathlib.Omega.{arith}
 use Rattle.words.proofs.octal.number_from.Given as goal
 
 abbrev pub invariant-loop-i : goal.invariant-loop-i

@@ -1,7 +1,6 @@
 -- A dash is not given,
 -- and any other name is what its digits make.
 use Rattle.paper.specs.Octal.{octal}
-use borrow.Author.Rules.{rules}
 use Rattle.words.proofs.octal.octal_of.Goals as goal
 
 pub are_same-requires : goal.are_same-requires

@@ -5,8 +5,6 @@ use mathlib.Core.Path.{sym, ap, ◌∙◌}
 use Prim.Native.Nat.{ℕ}
 use Rattle.reader.specs.Asked.{function_of}
 use Rattle.reader.proofs.Functions.{letters, tree-letters, rewrite-letters, no-function}
-use native.Mathlib.Omega.{arith}
-use borrow.Author.Rules.{rules}
 use Rattle.reader.proofs.function.Function.of.Goals as goal
 
 pub are_same-requires : goal.are_same-requires

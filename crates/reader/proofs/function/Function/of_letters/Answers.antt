@@ -5,7 +5,6 @@ use Rattle.paper.specs.Name.{same}
 use Rattle.reader.specs.Asked.{function_of}
 use Rattle.reader.proofs.Functions.{no-letters, no-four}
 use native.Mathlib.Omega.{arith}
-use borrow.Author.Rules.{rules}
 use Rattle.reader.proofs.function.Function.of_letters.Goals as goal
 
 pub returns-in-4411972 : goal.returns-in-4411972

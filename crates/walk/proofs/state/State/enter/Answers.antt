@@ -1,6 +1,5 @@
 -- The heading that the entry names is read once; each return is the case of `enter` that the two tests chose:
 -- no directory, read inhibited, or in.
-use borrow.Author.Rules.{rules}
 use Rattle.walk.proofs.Steps.{enter-none, enter-shut, enter-open}
 use mathlib.Core.Path.{ap}
 use mathlib.Core.Bool.{not}

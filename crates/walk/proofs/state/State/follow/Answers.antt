@@ -1,7 +1,6 @@
 -- A link before the last is the entry looked up and then entered: a refusal of the first step is handed back, and else the
 -- second step decides.
 use mathlib.Core.Path.{sym, ◌∙◌}
-use borrow.Author.Rules.{rules}
 use Rattle.walk.proofs.Steps.{follow-off, follow-on}
 use Rattle.walk.proofs.state.State.follow.Goals as goal
 

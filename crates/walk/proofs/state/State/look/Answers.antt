@@ -1,7 +1,6 @@
 -- The scan finds the entry that `look` finds: where there is none the answer is 11, and else the state has that entry and the
 -- code that applies to it.
 use mathlib.Core.Path.{sym, ◌∙◌}
-use borrow.Author.Rules.{rules}
 use Rattle.walk.proofs.Steps.{look_none, look-found}
 use Rattle.walk.proofs.state.State.look.Goals as goal
 
