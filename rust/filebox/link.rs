@@ -1,5 +1,5 @@
 // How the crates over a static library find it, for their build scripts. Its folder is FILEBOX_LIB, if that is set; else
-// `target/staticlib` of the repository, where `rt staticlib` writes it, which is run if the library is not there.
+// `target/staticlib` of the repository, where `.ci/staticlib` writes it, which is run if the library is not there.
 use std::env;
 use std::path::{Path, PathBuf};
 use std::process::Command;
@@ -20,15 +20,14 @@ fn file(library: &str) -> String {
 }
 
 fn write_library(root: &Path, library: &str) {
-    let status = Command::new("rt")
-        .args(["staticlib", library])
-        .current_dir(root)
+    let status = Command::new(root.join(".ci/staticlib"))
+        .arg(library)
         .status()
-        .expect("`rt staticlib` writes the library; without rt, FILEBOX_LIB names its folder");
-    assert!(status.success(), "rt staticlib {library}: {status}");
+        .expect("`.ci/staticlib` writes the library; without rt, FILEBOX_LIB names its folder");
+    assert!(status.success(), ".ci/staticlib {library}: {status}");
 }
 
-/// Link the static library that `rt staticlib` writes of this crate.
+/// Link the static library that `.ci/staticlib` writes of this crate.
 pub fn link(library: &str) {
     println!("cargo:rerun-if-env-changed=FILEBOX_LIB");
     let folder = env::var_os("FILEBOX_LIB").map_or_else(|| folder(library), PathBuf::from);

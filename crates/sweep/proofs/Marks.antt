@@ -1,6 +1,6 @@
 -- A heading that is put in the queue was not marked, so the queue is no longer than the headings marked, and what is marked since stands in it since.
 -- What is put in is reached, for its entry is a base file's or one of a reached directory.
-use mathlib.Core.Bool.{true, false, ◌||◌, not}
+use mathlib.Core.Bool.{true, false, ◌||◌}
 use mathlib.Core.List.{List}
 use mathlib.Core.Logic.{◌⊎◌, inl, inr, ◌≢◌, by_cases}
 use mathlib.Core.Path.{◌≡◌, refl, sym, ◌∙◌}

@@ -3,7 +3,6 @@
 use mathlib.Core.List.{List, []}
 use mathlib.Core.Path.{◌≡◌, sym, ap, ◌∙◌}
 use Prim.Native.Nat.{ℕ}
-use borrow.Author.Rules.{rules}
 use Rattle.paper.specs.Layout.{boxed}
 use Rattle.paper.specs.Answer.{plain, mending}
 use Rattle.paper.specs.Check.{whole}

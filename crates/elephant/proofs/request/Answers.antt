@@ -2,8 +2,7 @@
 -- than eight arguments, and its link, since no line that is not too long has more than 257 names.
 use mathlib.Core.Path.{sym, ◌∙◌}
 use native.Mathlib.Omega.{arith}
-use borrow.Author.Rules.{rules}
-use borrow.Author.Tests.{lt-ltb, le-ltb, not-true, not-false}
+use borrow.Author.Tests.{lt-ltb, le-ltb}
 use Rattle.laws.proofs.Tests.{and-no-left}
 use Rattle.elephant.proofs.Places.{place-near, link_near}
 use Rattle.elephant.proofs.Refused.{refused-out, refused-unread, refused-long, let_through}

@@ -2,7 +2,6 @@
 -- the buffers for a line and a text are as long as `serve` asks.
 use mathlib.Core.Path.{refl}
 use Rattle.filebox.proofs.TrueIndex.{begins-true}
-use borrow.Author.Rules.{rules}
 use Rattle.filebox.proofs.main.Goals as goal
 
 pub serve-requires : goal.serve-requires

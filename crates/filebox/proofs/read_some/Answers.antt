@@ -2,7 +2,6 @@
 -- where nothing was read, it stays, and no read is left.
 use native.Mathlib.Omega.{arith}
 use Rattle.filebox.proofs.Steps.{came-further}
-use borrow.Author.Rules.{rules}
 use Rattle.filebox.proofs.read_some.Goals as goal
 
 pub returns-then-next : goal.returns-then-next

@@ -1,8 +1,6 @@
 use mathlib.Core.Bool.{true}
-use mathlib.Core.Path.{◌≡◌, refl}
+use mathlib.Core.Path.{refl}
 use native.Mathlib.Omega.{arith}
-use lib.ListN.{length}
-use Rattle.filebox.specs.Shows.{Came}
 use Rattle.filebox.proofs.Steps.{came-none, came-over}
 use Rattle.filebox.proofs.serve.Goals as goal
 

@@ -4,7 +4,6 @@ use mathlib.Core.Logic.{inl, inr, ◌≢◌}
 use mathlib.Core.Path.{◌≡◌}
 use native.Mathlib.Omega.{arith}
 use lib.ListN.{length}
-use borrow.Author.Rules.{rules}
 use Rattle.paper.specs.Table.{rooms}
 use Rattle.indexed.proofs.Mends.{keeps-told, keeps-26, keeps-lent, mend-ready, keeps-afresh}
 use Rattle.indexed.proofs.mend.Goals as goal

@@ -1,7 +1,6 @@
 -- The judge's number where it is not 0, and else 26: the first of the three checks that holds.
 -- Assumes nothing.
 use native.Mathlib.Omega.{arith}
-use borrow.Author.Rules.{rules}
 use Rattle.indexed.proofs.Refusals.{refused-before, refused-26}
 use Rattle.indexed.proofs.refuse.Goals as goal
 

@@ -2,8 +2,6 @@
 -- repaired where something was.
 use mathlib.Core.Path.{sym, ◌∙◌}
 use native.Mathlib.Omega.{arith}
-use borrow.Author.Rules.{rules}
-use borrow.Author.Tests.{not-true, not-false}
 use Rattle.indexed.proofs.Requests.{judged-true, refuses, keeps_cut, keeps-still, repair-ready, keeps-repaired}
 use Rattle.indexed.proofs.request.Goals as goal
 

@@ -1,6 +1,5 @@
 -- The filing ended at a sheet, and the light is red with it and its reply, the buffer as lent;
 -- or it ended whole, and the reading decides.
-use borrow.Author.Rules.{rules}
 use Rattle.lamp.proofs.Lights.{unfiled, filed}
 use Rattle.lamp.proofs.light_of_job.Goals as goal
 

@@ -1,6 +1,5 @@
 -- The reading ended whole or at a sheet, and the light says so:
 -- green, or red with that sheet and its reply.
-use borrow.Author.Rules.{rules}
 use Rattle.lamp.proofs.Lights.{unread, read}
 use Rattle.lamp.proofs.light_of_reading.Goals as goal
 

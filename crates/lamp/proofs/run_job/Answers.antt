@@ -1,7 +1,6 @@
 -- The job is refused, and nothing is touched; or it passes, and then all its texts are there and it is run.
 -- Both are the definition, by its two cases.
 use mathlib.Core.Path.{sym, ◌∙◌}
-use borrow.Author.Rules.{rules}
 use Rattle.lamp.proofs.Lights.{refused, passed}
 use Rattle.lamp.proofs.Refusals.{texts-there}
 use Rattle.lamp.proofs.run_job.Goals as goal

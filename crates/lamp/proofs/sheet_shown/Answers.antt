@@ -1,7 +1,6 @@
 -- Below the last number that is shown the sheet's own is;
 -- from there on the last.
 use native.Mathlib.Omega.{arith}
-use borrow.Author.Rules.{rules}
 use borrow.Author.Tests.{lt-ltb, le-ltb}
 use Rattle.lamp.specs.Shown.{sheet_shown}
 use Rattle.lamp.proofs.sheet_shown.Goals as goal

@@ -1,6 +1,5 @@
 -- A law for each return: what the judge or `is_true` refuses is refused, what passes both is of fit size, sound and with its true index.
 -- Then the stores are those of the sweep, cut or all of them; done, the list is repaired, or as lent where nothing was stored.
-use borrow.Author.Rules.{rules}
 use Rattle.sweep.proofs.Answers.{fits, answers-judged, answers-26, answers-cut, answers-still, answers-repaired}
 use mathlib.Core.Path.{ap}
 use mathlib.Core.Bool.{not}

@@ -6,7 +6,6 @@ use Rattle.elephant.proofs.Ends.{end-off, end-at, filed}
 use Rattle.paper.specs.Effect.{chn_plan}
 use Rattle.walk.proofs.Chains.{last-chain}
 use Rattle.words.specs.declared.begin.Begin.TheVariants.{Own}
-use borrow.Author.Rules.{rules}
 use Rattle.elephant.proofs.change.chn.Goals as goal
 
 pub refused_at-requires : goal.refused_at-requires

@@ -3,7 +3,6 @@
 use mathlib.Core.Path.{sym, ◌∙◌}
 use Rattle.answers.specs.Shown.{place_meant}
 use Rattle.elephant.proofs.Changes.{chn-shut, chn-taken, chn-laid}
-use borrow.Author.Rules.{rules}
 use Rattle.elephant.proofs.change.chn_at.Goals as goal
 
 pub returns-then-inhibits_write : goal.returns-then-inhibits_write

@@ -4,7 +4,6 @@ use Rattle.elephant.proofs.Links.{end-near}
 use Rattle.elephant.proofs.Ends.{end-off, end-at, filed}
 use Rattle.paper.specs.Effect.{dpr_plan}
 use Rattle.words.specs.declared.begin.Begin.TheVariants.{Own}
-use borrow.Author.Rules.{rules}
 use Rattle.elephant.proofs.change.dpr.Goals as goal
 
 pub refused_at-requires : goal.refused_at-requires

@@ -2,7 +2,6 @@
 -- The heading is in the table, so that its record is whole.
 use Rattle.answers.specs.Shown.{place_meant}
 use Rattle.elephant.proofs.Changes.{dpr-shut, dpr-lacks, dpr-laid}
-use borrow.Author.Rules.{rules}
 use Rattle.elephant.proofs.change.dpr_at.Goals as goal
 
 pub returns-then-inhibits_write : goal.returns-then-inhibits_write

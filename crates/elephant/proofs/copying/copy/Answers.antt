@@ -14,7 +14,6 @@ use Rattle.declarations.specs.Given.{level_part}
 use Rattle.answers.specs.Shown.{place_meant}
 use Rattle.elephant.proofs.Walking.{late-ends, copy-telling}
 use Rattle.elephant.proofs.Written.{text-few, text-copied}
-use borrow.Author.Rules.{rules}
 use Rattle.elephant.proofs.copying.copy.Goals as goal
 
 pub file-requires : goal.file-requires

@@ -4,7 +4,6 @@ use Rattle.paper.specs.Effect.{cpy_plan}
 use Rattle.elephant.proofs.Links.{both-near}
 use Rattle.elephant.proofs.Ends.{both-stops, both-reaches, both-there}
 use Rattle.words.specs.declared.begin.Begin.TheVariants.{Own}
-use borrow.Author.Rules.{rules}
 use Rattle.elephant.proofs.copying.cpy.Goals as goal
 
 pub refused_at-requires : goal.refused_at-requires

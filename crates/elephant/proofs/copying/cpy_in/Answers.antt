@@ -2,7 +2,6 @@
 -- The heading that the old entry names is read before any store.
 use borrow.Author.Tests.{not-false}
 use Rattle.elephant.proofs.Walking.{copy-first, copy-second, copy-third, copy-ends}
-use borrow.Author.Rules.{rules}
 use mathlib.Core.Path.{ap}
 use mathlib.Core.Bool.{not}
 use Rattle.elephant.proofs.copying.cpy_in.Goals as goal

@@ -2,7 +2,6 @@
 -- The tests are the checks' own.
 use borrow.Author.Tests.{lt-ltb, le-ltb}
 use Rattle.paper.specs.Check.{verdict}
-use borrow.Author.Rules.{rules}
 use Rattle.elephant.proofs.copying.late_refusal.Goals as goal
 
 pub returns-then-is_marked : goal.returns-then-is_marked

@@ -2,7 +2,6 @@
 -- A sound table's file has at most 1,000 text records, and at most two counts move.
 use native.Mathlib.Omega.{arith}
 use Rattle.elephant.proofs.Clearings.{freed-rooms, both-cleared}
-use borrow.Author.Rules.{rules}
 use Rattle.elephant.proofs.delete.clear_both.Goals as goal
 
 pub overflow_add-count : goal.overflow_add-count

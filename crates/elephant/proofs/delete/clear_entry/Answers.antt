@@ -2,7 +2,6 @@
 -- At most two counts move.
 use native.Mathlib.Omega.{arith}
 use Rattle.elephant.proofs.Clearings.{one-cleared}
-use borrow.Author.Rules.{rules}
 use Rattle.elephant.proofs.delete.clear_entry.Goals as goal
 
 pub overflow_add-counts : goal.overflow_add-counts

@@ -2,9 +2,7 @@
 -- Whether the file is lost and whether a directory has entries is read from its heading, whose counts are true.
 use mathlib.Core.Path.{sym, ◌∙◌}
 use Rattle.answers.specs.Shown.{place_meant}
-use borrow.Author.Tests.{not-true, not-false}
 use Rattle.elephant.proofs.Clearings.{del-shut, del-kept, del-peopled, del-freed}
-use borrow.Author.Rules.{rules}
 use Rattle.elephant.proofs.delete.delete_at.Goals as goal
 
 pub returns-then-inhibits_write : goal.returns-then-inhibits_write

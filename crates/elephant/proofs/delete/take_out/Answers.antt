@@ -4,7 +4,6 @@ use Rattle.paper.specs.Record.{blank}
 use Rattle.paper.specs.Store.{run}
 use Rattle.effects.specs.Counts.{count_stores}
 use Rattle.effects.proofs.Stages.{made-onto}
-use borrow.Author.Rules.{rules}
 use Rattle.elephant.proofs.delete.take_out.Goals as goal
 
 pub returns : goal.returns

@@ -3,7 +3,6 @@
 use native.Mathlib.Omega.{arith}
 use Rattle.elephant.proofs.Clearings.{freed-rooms}
 use Rattle.elephant.proofs.Destroying.{paths-cleared}
-use borrow.Author.Rules.{rules}
 use Rattle.elephant.proofs.destroy.clear_paths.Goals as goal
 
 pub overflow_add-count : goal.overflow_add-count

@@ -2,7 +2,6 @@
 -- Whether a directory has entries is read from its heading, whose counts are true.
 use Rattle.answers.specs.Shown.{place_meant}
 use Rattle.elephant.proofs.Destroying.{dst-shut, dst-peopled, dst-destroyed}
-use borrow.Author.Rules.{rules}
 use Rattle.elephant.proofs.destroy.destroy_at.Goals as goal
 
 pub returns-then-inhibits_write : goal.returns-then-inhibits_write

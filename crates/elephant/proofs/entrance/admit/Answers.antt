@@ -1,6 +1,5 @@
 -- CPY is granted as `grant` grants it, by the same two laws.
 -- Of what is no CPY this promises what `grant` does.
-use borrow.Author.Rules.{rules}
 use Rattle.elephant.proofs.Granted.{cpy-ready, cpy-done}
 use Rattle.elephant.proofs.entrance.admit.Goals as goal
 

@@ -1,7 +1,5 @@
 -- A WRS and a WRS* have a text, whatever the line says of their offsets, and no other request has.
 -- By the cases of the request.
-use Rattle.elephant.proofs.Asking.{no_text}
-use borrow.Author.Rules.{rules}
 use Rattle.elephant.proofs.entrance.bears_text.Goals as goal
 
 pub returns-in-Wrs : goal.returns-in-Wrs

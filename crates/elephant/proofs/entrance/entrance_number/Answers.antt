@@ -1,7 +1,6 @@
 -- The judge's number where it is not 0, then the user's test: the first of the three checks that holds.
 -- Assumes nothing.
 use native.Mathlib.Omega.{arith}
-use borrow.Author.Rules.{rules}
 use Rattle.elephant.proofs.Entering.{entered-judged, entered-over, entered-user}
 use Rattle.elephant.proofs.entrance.entrance_number.Goals as goal
 

@@ -1,7 +1,6 @@
 -- Each arm: what was read gives what its function requires, and that function's promise is the request's.
 -- The laws stand in `Granted`, one of each kind for a function.
 use native.Mathlib.Omega.{arith}
-use borrow.Author.Rules.{rules}
 use Rattle.elephant.proofs.Granted.{line-short, crd-ready, wrs-ready, cpy-ready, dup-ready, chn-ready, remove-ready, rewrite-ready, crd-done, wrs-done, rds-done, cpy-done, dup-done, chn-done, remove-done, dpr-done, rewrite-done, lst-done, lst-base-done, lst-tree-done, lst-base-tree-done}
 use Rattle.elephant.specs.declared.removal.Removal.TheVariants.{Delete, Destroy}
 use Rattle.elephant.proofs.entrance.grant.Goals as goal

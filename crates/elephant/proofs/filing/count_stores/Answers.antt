@@ -1,7 +1,6 @@
 -- The stores are the file's, the counts' and the entry's, and those of the file that is lost, if one is.
 -- At most two counts move, so that the sum fits.
 use native.Mathlib.Omega.{arith}
-use borrow.Author.Rules.{rules}
 use Rattle.elephant.proofs.filing.count_stores.Goals as goal
 
 pub overflow_add-result-then-meets : goal.overflow_add-result-then-meets

@@ -1,6 +1,5 @@
 -- Each beginning is one case of `taken_by`: of a give, whether an entry is displaced.
 -- Assumes nothing.
-use borrow.Author.Rules.{rules}
 use Rattle.elephant.proofs.filing.is_taken.Goals as goal
 
 pub returns-in-Own : goal.returns-in-Own

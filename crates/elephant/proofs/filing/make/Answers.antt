@@ -8,7 +8,6 @@ use Rattle.placing.specs.Placing.{entry_stores}
 use Rattle.elephant.proofs.Ending.{file-count, ends-refused, ends-stored}
 use Rattle.placing.proofs.Meeting.{met-few, lost-listed}
 use Rattle.answers.specs.Shown.{place_meant}
-use borrow.Author.Rules.{rules}
 use Rattle.elephant.proofs.filing.make.Goals as goal
 
 pub needed-needs-requires : goal.needed-needs-requires
@@ -26,13 +25,12 @@ returns-then-refused-ne0 c =
     c.if-refused-ne0.true)
 
 pub count_stores-stores-requires : goal.count_stores-stores-requires
-count_stores-stores-requires c =
-    (
-      rw c.count_file-first.ensures (file-count c.args.file c.args.text.now c.requires.few),
-      rw (c.meet-meets.ensures, c.find-found.ensures)
-          (met-few c.args.table.now c.requires.size c.requires.sound 0 _ c.args.named.0 c.args.name.now c.requires.short
-          c.requires.small _ _ refl),
-    )
+count_stores-stores-requires c = (
+  rw c.count_file-first.ensures (file-count c.args.file c.args.text.now c.requires.few),
+  rw (c.meet-meets.ensures, c.find-found.ensures)
+      (met-few c.args.table.now c.requires.size c.requires.sound 0 _ c.args.named.0 c.args.name.now c.requires.short
+      c.requires.small _ _ refl),
+)
 
 pub returns : goal.returns
 returns c =

@@ -2,7 +2,6 @@
 -- Where there is no new file there is no store.
 use borrow.Author.Tests.{not-true, not-false}
 use Rattle.effects.proofs.Stages.{made-both, made_none}
-use borrow.Author.Rules.{rules}
 use Rattle.elephant.proofs.filing.put_file.Goals as goal
 
 pub returns-then-not-file : goal.returns-then-not-file

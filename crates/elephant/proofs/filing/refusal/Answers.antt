@@ -5,7 +5,6 @@ use Rattle.paper.specs.Check.{verdict}
 use Rattle.records.specs.Shown.{holder_shown}
 use Rattle.elephant.proofs.Ending.{told-first, told-late, told_none}
 use Rattle.answers.specs.Shown.{place_meant}
-use borrow.Author.Rules.{rules}
 use Rattle.elephant.proofs.filing.refusal.Goals as goal
 
 pub returns-then-is_taken : goal.returns-then-is_taken

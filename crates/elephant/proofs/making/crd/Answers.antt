@@ -8,7 +8,6 @@ use Rattle.elephant.proofs.Makes.{crd-stops, crd-reaches}
 use Rattle.paper.specs.Effect.{chain_of}
 use Rattle.words.specs.Place.{word_at}
 use Rattle.elephant.proofs.Ends.{walked-held}
-use borrow.Author.Rules.{rules}
 use Rattle.elephant.proofs.making.crd.Goals as goal
 
 pub refused_at-requires : goal.refused_at-requires
@@ -20,8 +19,7 @@ refused_at-requires c =
 pub file_in-requires : goal.file_in-requires
 file_in-requires c =
     let a = c.args in
-    let p = c.requires in
-    (
+    let p = c.requires in (
       record { size = p.size; sound = p.sound; short = p.short; few = rw c.part.ensures (omega arith); brief = p.brief },
       record {
         held = walked-held a.table.now (record { sized = p.size; sound = p.sound }) a.user (chain_of (word_at a.line.now a.name)) c.in-Reached.d

@@ -3,7 +3,6 @@
 use Rattle.paper.specs.Effect.{dup_plan}
 use Rattle.elephant.proofs.Links.{both-near}
 use Rattle.elephant.proofs.Ends.{both-stops, both-reaches, both-there}
-use borrow.Author.Rules.{rules}
 use Rattle.elephant.proofs.making.dup.Goals as goal
 
 pub refused_at-requires : goal.refused_at-requires

@@ -5,7 +5,6 @@ use mathlib.Core.Path.{refl, sym, ◌∙◌}
 use native.Mathlib.Omega.{arith}
 use Rattle.elephant.specs.Filing.{standing}
 use Rattle.elephant.proofs.Walking.{shut-refused, open-ends, late-ends, no-late}
-use borrow.Author.Rules.{rules}
 use Rattle.elephant.proofs.making.dup_in.Goals as goal
 
 pub returns-then-inhibits_write : goal.returns-then-inhibits_write

@@ -6,7 +6,6 @@ use native.Mathlib.Omega.{arith}
 use Rattle.elephant.specs.Filing.{fresh}
 use Rattle.effects.proofs.Papers.{free-room}
 use Rattle.elephant.proofs.Walking.{free-small, free-length}
-use borrow.Author.Rules.{rules}
 use Rattle.elephant.proofs.making.file.Goals as goal
 
 pub overflow_add-most : goal.overflow_add-most

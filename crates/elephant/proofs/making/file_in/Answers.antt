@@ -3,7 +3,6 @@
 use mathlib.Core.List.{[]}
 use Rattle.paper.specs.Request.{own}
 use Rattle.elephant.proofs.Walking.{shut-refused, open-ends, late-ends, no-late}
-use borrow.Author.Rules.{rules}
 use Rattle.elephant.proofs.making.file_in.Goals as goal
 
 pub returns-then-inhibits_write : goal.returns-then-inhibits_write

@@ -7,7 +7,6 @@ use Rattle.elephant.proofs.Makes.{wrs-stops, wrs-reaches}
 use Rattle.paper.specs.Effect.{chain_of}
 use Rattle.words.specs.Place.{word_at}
 use Rattle.elephant.proofs.Ends.{walked-held}
-use borrow.Author.Rules.{rules}
 use Rattle.elephant.proofs.making.wrs.Goals as goal
 
 pub refused_at-requires : goal.refused_at-requires
@@ -19,8 +18,7 @@ refused_at-requires c =
 pub file_in-requires : goal.file_in-requires
 file_in-requires c =
     let a = c.args in
-    let p = c.requires in
-    (
+    let p = c.requires in (
       p,
       record {
         held = walked-held a.table.now (record { sized = p.size; sound = p.sound }) a.user (chain_of (word_at a.line.now a.name)) c.in-Reached.d

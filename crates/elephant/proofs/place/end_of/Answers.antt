@@ -2,7 +2,6 @@
 -- the line is short.
 use native.Mathlib.Omega.{arith}
 use Rattle.elephant.proofs.Links.{chain-few}
-use borrow.Author.Rules.{rules}
 use Rattle.elephant.proofs.place.end_of.Goals as goal
 
 pub at_link-requires : goal.at_link-requires

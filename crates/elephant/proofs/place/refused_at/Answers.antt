@@ -1,6 +1,5 @@
 -- The refusal has the place that is made of the argument and the link.
 -- Assumes that the link's number is small.
-use borrow.Author.Rules.{rules}
 use Rattle.elephant.proofs.place.refused_at.Goals as goal
 
 pub returns : goal.returns

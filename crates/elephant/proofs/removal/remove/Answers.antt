@@ -1,7 +1,5 @@
-use Prim.Native.Nat.{◌-◌}
 use native.Mathlib.Omega.{arith}
-use borrow.Author.Rules.{rules}
-use Rattle.elephant.proofs.Turns.{Deleting, deleting-start, deleting-left, deleting-end, deleting-ended, deleting-on}
+use Rattle.elephant.proofs.Turns.{deleting-start, deleting-left, deleting-end, deleting-ended, deleting-on}
 use Rattle.elephant.proofs.removal.remove.Goals as goal
 
 pub loop-names-init : goal.loop-names-init

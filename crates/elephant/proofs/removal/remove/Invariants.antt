@@ -1,9 +1,7 @@
 -- What is left of the names is the whole: a name done leaves the table sound, and the word after it is the next name.
 -- The measure is the names not yet done.
 use Prim.Native.Nat.{◌-◌}
-use native.Mathlib.Omega.{arith}
-use borrow.Author.Rules.{rules}
-use Rattle.elephant.proofs.Turns.{Deleting, deleting-start, deleting-left, deleting-end, deleting-ended, deleting-on}
+use Rattle.elephant.proofs.Turns.{Deleting}
 use Rattle.elephant.proofs.removal.remove.Given as goal
 
 abbrev pub invariant-loop-names : goal.invariant-loop-names

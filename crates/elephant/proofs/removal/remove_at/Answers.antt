@@ -1,6 +1,5 @@
 -- What is done at the end of a name is one case of `removal_at`.
 -- The two functions stand on the same.
-use borrow.Author.Rules.{rules}
 use Rattle.elephant.proofs.removal.remove_at.Goals as goal
 
 pub returns-in-Delete : goal.returns-in-Delete

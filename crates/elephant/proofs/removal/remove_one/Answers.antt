@@ -4,7 +4,6 @@ use Rattle.elephant.proofs.Links.{end-near}
 use Rattle.elephant.proofs.Ends.{removal-end, name-off, name-at, filed}
 use Rattle.words.specs.Place.{word_at}
 use Rattle.words.specs.declared.begin.Begin.TheVariants.{Own}
-use borrow.Author.Rules.{rules}
 use Rattle.elephant.proofs.removal.remove_one.Goals as goal
 
 pub at_link-requires : goal.at_link-requires

@@ -2,7 +2,6 @@
 -- since the table is of fit size and sound.
 use native.Mathlib.Omega.{arith}
 use Rattle.effects.proofs.Lengths.{length-few}
-use borrow.Author.Rules.{rules}
 use Rattle.elephant.proofs.Written.{part-there}
 use Rattle.elephant.proofs.reply.copy_part.Goals as goal
 

@@ -1,7 +1,6 @@
 -- The whole text is the part from byte 0 on that is as long as the heading says,
 -- since the table is of fit size and sound.
 use native.Mathlib.Omega.{arith}
-use borrow.Author.Rules.{rules}
 use Rattle.elephant.proofs.Written.{all_there}
 use Rattle.elephant.proofs.reply.copy_text.Goals as goal
 

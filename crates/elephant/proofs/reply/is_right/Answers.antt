@@ -1,6 +1,5 @@
 -- Each case asks its own test of the heading.
 -- Assumes nothing.
-use borrow.Author.Rules.{rules}
 use Rattle.elephant.proofs.reply.is_right.Goals as goal
 
 pub returns-in-Text : goal.returns-in-Text

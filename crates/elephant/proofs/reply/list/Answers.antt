@@ -11,7 +11,6 @@ use Rattle.listing.specs.Shown.{is_listed}
 use Rattle.listing.proofs.Promised.{reply-after}
 use Rattle.elephant.proofs.Verdicts.{none_left, wrote-short, wrote-out}
 use Rattle.effects.proofs.Places.{sized-most}
-use borrow.Author.Rules.{rules}
 use Rattle.elephant.proofs.reply.list.Goals as goal
 
 pub returns-then-reply-n : goal.returns-then-reply-n

@@ -2,7 +2,6 @@
 -- On a sound table what is written is document 02's tree.
 use mathlib.Core.Path.{sym, ◌∙◌}
 use Rattle.elephant.proofs.Trees.{deep-short, deep_out}
-use borrow.Author.Rules.{rules}
 use Rattle.elephant.proofs.reply.list_deep.Goals as goal
 
 pub returns-in_default : goal.returns-in_default

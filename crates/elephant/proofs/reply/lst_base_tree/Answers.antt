@@ -1,6 +1,5 @@
 -- The tree of a user's base files is `lst_base_tree_plan`, which has no other check.
 -- Assumes nothing.
-use borrow.Author.Rules.{rules}
 use Rattle.paper.specs.Effect.{lst_base_tree_plan}
 use Rattle.elephant.proofs.reply.lst_base_tree.Goals as goal
 

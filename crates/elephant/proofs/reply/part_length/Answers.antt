@@ -1,7 +1,6 @@
 -- The part is no longer than what is left from byte a on, and no longer than its count where that is given:
 -- the lesser of the two, by the same tests.
 use native.Mathlib.Omega.{arith}
-use borrow.Author.Rules.{rules}
 use Rattle.elephant.proofs.reply.part_length.Goals as goal
 
 pub returns-in_default : goal.returns-in_default

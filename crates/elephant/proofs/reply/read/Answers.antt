@@ -2,7 +2,6 @@
 -- Assumes nothing but the fit table that is read.
 use Rattle.elephant.proofs.Links.{end-near}
 use Rattle.elephant.proofs.Ends.{read_off, read_at_lem}
-use borrow.Author.Rules.{rules}
 use Rattle.elephant.proofs.reply.read.Goals as goal
 
 pub refused_at-requires : goal.refused_at-requires

@@ -3,7 +3,6 @@
 use borrow.Author.Tests.{not-false}
 use Rattle.answers.specs.Shown.{place_meant}
 use Rattle.elephant.proofs.Readings.{reading-shut, reading-wrong, reading-on}
-use borrow.Author.Rules.{rules}
 use mathlib.Core.Path.{ap}
 use mathlib.Core.Bool.{not}
 use Rattle.elephant.proofs.reply.read_at.Goals as goal

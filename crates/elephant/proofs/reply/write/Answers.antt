@@ -1,6 +1,5 @@
 -- A part of the text of a simple file, the lines of a directory or its tree: what is written is chosen by the same case as the test of the heading.
 -- Each is the promise of the function called.
-use borrow.Author.Rules.{rules}
 use Rattle.elephant.proofs.reply.write.Goals as goal
 
 pub write_text-requires : goal.write_text-requires

@@ -5,7 +5,6 @@ use native.Mathlib.Omega.{arith}
 use Rattle.answers.specs.Shown.{place_meant}
 use Rattle.words.specs.Shown.{meant_part}
 use Rattle.elephant.proofs.Readings.{part-short, part-marked, part-beyond, part-written}
-use borrow.Author.Rules.{rules}
 use Rattle.elephant.proofs.reply.write_text.Goals as goal
 
 pub returns-then-reply-m : goal.returns-then-reply-m

@@ -1,7 +1,6 @@
 -- The two sides of the test are the check's: a table has no more free records than records, so that the sum fits.
 -- The old text's records are those of its heading's length.
 use native.Mathlib.Omega.{arith}
-use borrow.Author.Rules.{rules}
 use Rattle.paper.specs.Record.{is_kind}
 use Rattle.paper.specs.Table.{rooms, rec}
 use Rattle.laws.proofs.Counts.{count_most}

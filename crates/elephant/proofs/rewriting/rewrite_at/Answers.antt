@@ -5,7 +5,6 @@ use native.Mathlib.Omega.{arith}
 use borrow.Author.Tests.{eq-eqb, ne_eqb}
 use Rattle.answers.specs.Shown.{place_meant}
 use Rattle.elephant.proofs.Rewrites.{rewrite-few, rewrite-shut, rewrite-wrong, rewrite-short, rewrite-long, rewrite-laid}
-use borrow.Author.Rules.{rules}
 use mathlib.Core.Path.{ap}
 use mathlib.Core.Bool.{not}
 use Rattle.elephant.proofs.rewriting.rewrite_at.Goals as goal

@@ -2,7 +2,6 @@
 -- text is gone. The four stages one after the other are the rewriting.
 use native.Mathlib.Omega.{arith}
 use Rattle.elephant.proofs.Rewrites.{rewrites}
-use borrow.Author.Rules.{rules}
 use Rattle.elephant.proofs.rewriting.rewrite_text.Goals as goal
 
 pub overflow_add-result : goal.overflow_add-result

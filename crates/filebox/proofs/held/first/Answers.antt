@@ -5,7 +5,6 @@ use native.Mathlib.Omega.{arith}
 use mathlib.Core.Path.{sym}
 use lib.ListN.{length}
 use lib.Seq.{take_all, length-take-le}
-use borrow.Author.Rules.{rules}
 use Rattle.filebox.proofs.held.first.Goals as goal
 
 pub slice_bounds-result-end : goal.slice_bounds-result-end

@@ -6,7 +6,6 @@ use mathlib.Core.Path.{refl, sym}
 use lib.ListN.{length}
 use lib.Seq.{set_out}
 use borrow.Author.Tests.{lt-ltb, le-ltb}
-use borrow.Author.Rules.{rules}
 use Rattle.filebox.proofs.held.keep.Goals as goal
 
 pub returns-then-n-s : goal.returns-then-n-s

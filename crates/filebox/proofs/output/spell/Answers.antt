@@ -1,6 +1,5 @@
 -- A number of 32 bits is one of 64.
 -- Assumes nothing more.
-use borrow.Author.Rules.{rules}
 use Rattle.filebox.proofs.output.spell.Goals as goal
 
 pub returns : goal.returns

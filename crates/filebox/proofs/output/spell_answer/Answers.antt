@@ -1,7 +1,6 @@
 -- Each number is put after those before it,
 -- and seven numbers of twenty digits fit.
 use Rattle.filebox.proofs.Spelling.{lined}
-use borrow.Author.Rules.{rules}
 use Rattle.filebox.proofs.output.spell_answer.Goals as goal
 
 pub returns : goal.returns

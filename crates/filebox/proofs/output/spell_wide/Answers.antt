@@ -3,7 +3,6 @@
 use native.Mathlib.Omega.{arith}
 use mathlib.Core.Path.{refl}
 use Rattle.filebox.proofs.Spelling.{few-digits, spelled}
-use borrow.Author.Rules.{rules}
 use Rattle.filebox.proofs.output.spell_wide.Goals as goal
 
 pub overflow_add-e : goal.overflow_add-e

@@ -2,7 +2,6 @@
 -- and nothing is held any more.
 use mathlib.Core.Bool.{false}
 use Rattle.filebox.proofs.Steps.{answer-shows}
-use borrow.Author.Rules.{rules}
 use Rattle.filebox.proofs.service.answer.Goals as goal
 
 pub returns-then-held : goal.returns-then-held

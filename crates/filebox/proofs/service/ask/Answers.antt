@@ -2,7 +2,6 @@
 -- which is answered as the whole of them is; its answer is what is put into words.
 use mathlib.Core.Path.{refl}
 use Rattle.filebox.proofs.Steps.{request-tells}
-use borrow.Author.Rules.{rules}
 use Rattle.filebox.proofs.service.ask.Goals as goal
 
 pub returns : goal.returns

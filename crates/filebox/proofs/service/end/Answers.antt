@@ -3,7 +3,6 @@
 use mathlib.Core.Logic.{inl, inr}
 use mathlib.Core.Path.{refl, sym, ◌∙◌}
 use Rattle.filebox.proofs.Steps.{answer-ends, text-asked}
-use borrow.Author.Rules.{rules}
 use Rattle.filebox.proofs.service.end.Goals as goal
 
 pub answer-requires : goal.answer-requires

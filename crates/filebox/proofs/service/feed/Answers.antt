@@ -1,10 +1,6 @@
-use mathlib.Core.Path.{◌≡◌, refl}
-use Prim.Native.Nat.{◌-◌, ◌≤◌}
+use mathlib.Core.Path.{refl}
 use native.Mathlib.Omega.{arith}
-use lib.ListN.{length, take}
 use lib.Seq.{take_all}
-use Rattle.filebox.specs.Box.{fed}
-use Rattle.filebox.specs.Shows.{Follows}
 use Rattle.filebox.proofs.Steps.{feed-none, feed-more}
 use Rattle.filebox.proofs.service.feed.Goals as goal
 
@@ -25,8 +21,7 @@ step-now-requires c = tt
 
 pub loop-i-preserved : goal.loop-i-preserved
 loop-i-preserved c =
-    let a = c.args in
-    (
+    let a = c.args in (
       feed-more a.input.now c.loop-i.i a.table.now a.index.now a.line.now a.text.now a.reply.now a.held
           c.loop-i.table c.loop-i.index c.loop-i.line c.loop-i.text c.loop-i.reply c.loop-i.now _ _ _ _ _ _ (omega arith) c.loop-i.invariant.0 c.step-now.ensures,
       omega arith,

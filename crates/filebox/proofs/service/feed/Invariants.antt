@@ -1,13 +1,10 @@
 -- After i bytes what is held shows the box fed with the first i bytes;
 -- the measure is what is left of the input.
-use mathlib.Core.Path.{◌≡◌, refl}
+use mathlib.Core.Path.{◌≡◌}
 use Prim.Native.Nat.{◌-◌, ◌≤◌}
-use native.Mathlib.Omega.{arith}
 use lib.ListN.{length, take}
-use lib.Seq.{take_all}
 use Rattle.filebox.specs.Box.{fed}
 use Rattle.filebox.specs.Shows.{Follows}
-use Rattle.filebox.proofs.Steps.{feed-none, feed-more}
 use Rattle.filebox.proofs.service.feed.Given as goal
 
 abbrev pub invariant-loop-i : goal.invariant-loop-i

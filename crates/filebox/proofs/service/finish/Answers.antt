@@ -3,7 +3,6 @@
 use mathlib.Core.Logic.{inl, inr}
 use native.Mathlib.Omega.{arith}
 use Rattle.filebox.proofs.Steps.{answer-finishes, nothing-finishes}
-use borrow.Author.Rules.{rules}
 use Rattle.filebox.proofs.service.finish.Goals as goal
 
 pub answer-requires : goal.answer-requires

@@ -2,7 +2,6 @@
 -- whose stage goes one byte further.
 use mathlib.Core.Path.{refl}
 use Rattle.filebox.proofs.Steps.{text-grows, line-grows}
-use borrow.Author.Rules.{rules}
 use Rattle.filebox.proofs.service.grow.Goals as goal
 
 pub keep-requires : goal.keep-requires

@@ -2,7 +2,6 @@
 -- any other byte is one of them.
 use borrow.Author.Tests.{eq-eqb, ne_eqb}
 use Rattle.filebox.proofs.Steps.{end-steps, grow-steps}
-use borrow.Author.Rules.{rules}
 use Rattle.filebox.proofs.service.step.Goals as goal
 
 pub end-requires : goal.end-requires

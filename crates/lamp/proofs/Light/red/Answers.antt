@@ -1,6 +1,5 @@
 -- The five numbers are those of the definition,
 -- the sheet's as `sheet_shown` shows it.
-use borrow.Author.Rules.{rules}
 use Rattle.lamp.proofs.Light.red.Goals as goal
 
 pub returns : goal.returns

@@ -1,28 +1,23 @@
-use mathlib.Core.Path.{◌≡◌, refl, ◌∙◌}
-use Prim.Native.Nat.{◌+◌, ◌-◌, ◌≤◌}
+use mathlib.Core.Path.{refl, ◌∙◌}
 use native.Mathlib.Omega.{arith}
-use borrow.Author.Rules.{rules}
-use lib.ListN.{length, drop}
-use Rattle.job.specs.Sheet.{count, start, job}
+use Rattle.job.specs.Sheet.{count, start}
 use Rattle.job.specs.Told.{beside}
-use Rattle.job.specs.Filing.{kept_filing}
 use Rattle.lamp.proofs.Refusals.{start-more, start-within}
 use Rattle.lamp.proofs.Turns.{sheet-at, filing-starts, filing-stops, filing-goes, filing-ends}
 use Rattle.lamp.proofs.filing.file_all.Goals as goal
 
 pub loop-i-init : goal.loop-i-init
 unfolding start
-loop-i-init c =
-    (
-      filing-starts (beside c.args.table.now c.args.index.now) c.args.chain.now c.args.user c.args.stop _,
-      omega arith,
-      refl,
-      omega arith,
-      c.count_sheets-n.ensures,
-      refl,
-      refl,
-      c.requires,
-    )
+loop-i-init c = (
+  filing-starts (beside c.args.table.now c.args.index.now) c.args.chain.now c.args.user c.args.stop _,
+  omega arith,
+  refl,
+  omega arith,
+  c.count_sheets-n.ensures,
+  refl,
+  refl,
+  c.requires,
+)
 
 pub overflow_sub-left : goal.overflow_sub-left
 overflow_sub-left c = omega (arith, c.file_one-answer.ensures.most)

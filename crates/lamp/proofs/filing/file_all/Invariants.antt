@@ -1,15 +1,11 @@
 -- What is left of the job, from the table, its index and the stores that are left, ends as the whole job does; each turn takes one sheet.
 -- The texts are all there, so no place goes past them; the measure is the sheets that are left.
-use mathlib.Core.Path.{◌≡◌, refl, ◌∙◌}
+use mathlib.Core.Path.{◌≡◌}
 use Prim.Native.Nat.{◌+◌, ◌-◌, ◌≤◌}
-use native.Mathlib.Omega.{arith}
-use borrow.Author.Rules.{rules}
 use lib.ListN.{length, drop}
 use Rattle.job.specs.Sheet.{count, start, job}
 use Rattle.job.specs.Told.{beside}
 use Rattle.job.specs.Filing.{kept_filing}
-use Rattle.lamp.proofs.Refusals.{start-more, start-within}
-use Rattle.lamp.proofs.Turns.{sheet-at, filing-starts, filing-stops, filing-goes, filing-ends}
 use Rattle.lamp.proofs.filing.file_all.Given as goal
 
 abbrev pub invariant-loop-i : goal.invariant-loop-i

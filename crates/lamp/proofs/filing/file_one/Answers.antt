@@ -2,7 +2,6 @@
 -- So the request is the filing of the sheet.
 use mathlib.Core.Path.{sym}
 use native.Mathlib.Omega.{arith}
-use borrow.Author.Rules.{rules}
 use lib.Seq.{length-take-le}
 use Rattle.job.specs.Filing.{wrs_line}
 use Rattle.lamp.proofs.Turns.{asked-filed}

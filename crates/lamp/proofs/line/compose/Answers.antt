@@ -1,6 +1,5 @@
 -- Four parts, each put after the ones before it, as far as the array goes.
 -- So it has as much of the whole line as it holds.
-use borrow.Author.Rules.{rules}
 use Rattle.lamp.proofs.Lines.{holds-first, holds_more, holds-line}
 use Rattle.lamp.proofs.line.compose.Goals as goal
 

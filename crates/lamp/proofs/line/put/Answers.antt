@@ -1,7 +1,6 @@
 -- What fits is put after the line so far, and then the line is as long as both together, or full.
 -- What was copied is as much as fits.
 use native.Mathlib.Omega.{arith}
-use borrow.Author.Rules.{rules}
 use lib.Seq.{length-sets}
 use Rattle.lamp.proofs.Lines.{grown-whole, grown-full}
 use Rattle.lamp.proofs.line.put.Goals as goal

@@ -1,7 +1,6 @@
 -- Any number but 0 brings nothing; with 0 the bytes at the front of the buffer are compared with the text.
 -- That is the definition, by its two parts.
 use mathlib.Core.Path.{◌≡◌, ◌∙◌}
-use borrow.Author.Rules.{rules}
 use borrow.Author.Tests.{ne_eqb}
 use Rattle.lamp.proofs.reading.is_brought.Goals as goal
 

@@ -1,12 +1,7 @@
-use mathlib.Core.Path.{◌≡◌, refl, sym, ◌∙◌}
-use Prim.Native.Nat.{◌+◌, ◌-◌, ◌≤◌}
+use mathlib.Core.Path.{refl, sym, ◌∙◌}
 use native.Mathlib.Omega.{arith}
-use borrow.Author.Rules.{rules}
-use lib.ListN.{length, drop}
-use borrow.Author.Tests.{not-true, not-false}
-use Rattle.job.specs.Sheet.{count, start, job}
+use Rattle.job.specs.Sheet.{count, start}
 use Rattle.job.specs.Told.{beside}
-use Rattle.job.specs.Reading.{kept_reading}
 use Rattle.lamp.proofs.Refusals.{start-more, start-within}
 use Rattle.lamp.proofs.Turns.{sheet-at, read-sheet, text-sheet, reading-stops, reading-goes, reading-ends}
 use Rattle.lamp.proofs.reading.read_all.Goals as goal

@@ -1,16 +1,11 @@
 -- What is left of the job, from the table, its index and the buffer as they are, ends as the whole job does; each turn takes one sheet.
 -- The texts are all there, so no place goes past them; the measure is the sheets that are left.
-use mathlib.Core.Path.{◌≡◌, refl, sym, ◌∙◌}
+use mathlib.Core.Path.{◌≡◌}
 use Prim.Native.Nat.{◌+◌, ◌-◌, ◌≤◌}
-use native.Mathlib.Omega.{arith}
-use borrow.Author.Rules.{rules}
 use lib.ListN.{length, drop}
-use borrow.Author.Tests.{not-true, not-false}
 use Rattle.job.specs.Sheet.{count, start, job}
 use Rattle.job.specs.Told.{beside}
 use Rattle.job.specs.Reading.{kept_reading}
-use Rattle.lamp.proofs.Refusals.{start-more, start-within}
-use Rattle.lamp.proofs.Turns.{sheet-at, read-sheet, text-sheet, reading-stops, reading-goes, reading-ends}
 use Rattle.lamp.proofs.reading.read_all.Given as goal
 
 abbrev pub invariant-loop-i : goal.invariant-loop-i

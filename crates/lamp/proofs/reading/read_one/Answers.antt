@@ -2,7 +2,6 @@
 -- So the request is the reading of the sheet, with no text and no store to make.
 use mathlib.Core.Path.{sym}
 use native.Mathlib.Omega.{arith}
-use borrow.Author.Rules.{rules}
 use lib.Seq.{length-take-le}
 use Rattle.job.specs.Reading.{rds_line}
 use Rattle.lamp.proofs.Turns.{keeps-read}

@@ -1,6 +1,5 @@
 -- Each refusal is tried over all sheets; the first that some sheet has is given, with that sheet,
 -- and where none has any the job passes.
-use borrow.Author.Rules.{rules}
 use Rattle.lamp.proofs.Refusals.{refuses-one, refuses-two, refuses-three, refuses-four, refuses-none}
 use Rattle.lamp.proofs.refusal.admit.Goals as goal
 

@@ -1,10 +1,8 @@
 use mathlib.Core.Path.{◌≡◌}
-use Prim.Native.Nat.{◌≤◌, ◌-◌}
 use native.Mathlib.Omega.{arith}
-use borrow.Author.Rules.{rules}
 use Rattle.job.specs.Sheet.{count}
 use Rattle.job.specs.Refusal.{missing}
-use Rattle.lamp.proofs.Refusals.{Left, left-all, left-short, left-more, found_here, found_none}
+use Rattle.lamp.proofs.Refusals.{left-all, left-short, left-more, found_here, found_none}
 use Rattle.lamp.proofs.refusal.first_missing.Goals as goal
 
 pub loop-i-init : goal.loop-i-init

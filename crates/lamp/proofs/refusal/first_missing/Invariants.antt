@@ -2,11 +2,8 @@
 -- Where every text was there, none is missing.
 use mathlib.Core.Path.{◌≡◌}
 use Prim.Native.Nat.{◌≤◌, ◌-◌}
-use native.Mathlib.Omega.{arith}
-use borrow.Author.Rules.{rules}
 use Rattle.job.specs.Sheet.{count}
-use Rattle.job.specs.Refusal.{missing}
-use Rattle.lamp.proofs.Refusals.{Left, left-all, left-short, left-more, found_here, found_none}
+use Rattle.lamp.proofs.Refusals.{Left}
 use Rattle.lamp.proofs.refusal.first_missing.Given as goal
 
 abbrev pub invariant-loop-i : goal.invariant-loop-i

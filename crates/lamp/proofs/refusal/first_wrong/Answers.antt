@@ -1,9 +1,5 @@
-use mathlib.Core.Bool.{false}
 use mathlib.Core.Path.{◌≡◌, sym, ◌∙◌}
-use Prim.Native.Nat.{◌≤◌, ◌-◌}
 use native.Mathlib.Omega.{arith}
-use borrow.Author.Rules.{rules}
-use Rattle.paper.specs.Scan.{any_below}
 use Rattle.scans.proofs.Turns.{any-start, any-still}
 use Rattle.job.specs.Sheet.{count}
 use Rattle.lamp.specs.Refused.{wrong}
@@ -19,12 +15,11 @@ returns-then-is_wrong c =
     c.loop-i.invariant.0
 
 pub loop-i-preserved : goal.loop-i-preserved
-loop-i-preserved c =
-    (
-      any-still (wrong c.args.fault c.args.sheets.now) c.loop-i.i (sym c.is_wrong.ensures ∙ c.if-is_wrong.false) c.loop-i.invariant.0,
-      omega arith,
-      c.loop-i.invariant.2,
-    )
+loop-i-preserved c = (
+  any-still (wrong c.args.fault c.args.sheets.now) c.loop-i.i (sym c.is_wrong.ensures ∙ c.if-is_wrong.false) c.loop-i.invariant.0,
+  omega arith,
+  c.loop-i.invariant.2,
+)
 
 pub returns : goal.returns
 returns c =

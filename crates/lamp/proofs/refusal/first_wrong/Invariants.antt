@@ -1,15 +1,11 @@
 -- No sheet below i has the fault: so the first that has it is the one found,
 -- and none has it where the scan comes to the end.
 use mathlib.Core.Bool.{false}
-use mathlib.Core.Path.{◌≡◌, sym, ◌∙◌}
+use mathlib.Core.Path.{◌≡◌}
 use Prim.Native.Nat.{◌≤◌, ◌-◌}
-use native.Mathlib.Omega.{arith}
-use borrow.Author.Rules.{rules}
 use Rattle.paper.specs.Scan.{any_below}
-use Rattle.scans.proofs.Turns.{any-start, any-still}
 use Rattle.job.specs.Sheet.{count}
 use Rattle.lamp.specs.Refused.{wrong}
-use Rattle.lamp.proofs.Refusals.{found_here, found_none}
 use Rattle.lamp.proofs.refusal.first_wrong.Given as goal
 
 abbrev pub invariant-loop-i : goal.invariant-loop-i

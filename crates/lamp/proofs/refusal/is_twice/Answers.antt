@@ -1,10 +1,8 @@
-use mathlib.Core.Bool.{Bool, false}
+use mathlib.Core.Bool.{Bool}
 use mathlib.Core.Path.{◌≡◌, sym, ◌∙◌}
-use Prim.Native.Nat.{ℕ, ◌≤◌, ◌-◌}
+use Prim.Native.Nat.{ℕ}
 use native.Mathlib.Omega.{arith}
-use borrow.Author.Rules.{rules}
 use Rattle.paper.specs.Name.{same}
-use Rattle.paper.specs.Scan.{any_below}
 use Rattle.paper.specs.Table.{rec}
 use Rattle.laws.proofs.Scans.{any_here}
 use Rattle.scans.proofs.Turns.{any-start, any-still}

@@ -1,15 +1,11 @@
 -- No sheet before j bears the name, while none was found; one that does decides.
 -- The measure is what is left to look at.
-use mathlib.Core.Bool.{Bool, false}
-use mathlib.Core.Path.{◌≡◌, sym, ◌∙◌}
-use Prim.Native.Nat.{ℕ, ◌≤◌, ◌-◌}
-use native.Mathlib.Omega.{arith}
-use borrow.Author.Rules.{rules}
+use mathlib.Core.Bool.{false}
+use mathlib.Core.Path.{◌≡◌}
+use Prim.Native.Nat.{◌≤◌, ◌-◌}
 use Rattle.paper.specs.Name.{same}
 use Rattle.paper.specs.Scan.{any_below}
 use Rattle.paper.specs.Table.{rec}
-use Rattle.laws.proofs.Scans.{any_here}
-use Rattle.scans.proofs.Turns.{any-start, any-still}
 use Rattle.job.specs.Sheet.{link_of}
 use Rattle.lamp.proofs.refusal.is_twice.Given as goal
 

@@ -2,7 +2,6 @@
 -- A text is too long where the buffer is shorter.
 use mathlib.Core.Bool.{not}
 use mathlib.Core.Path.{ap, ◌∙◌}
-use borrow.Author.Rules.{rules}
 use Rattle.lamp.proofs.refusal.is_wrong.Goals as goal
 
 pub returns-in-Malformed : goal.returns-in-Malformed

@@ -1,9 +1,5 @@
-use mathlib.Core.Bool.{true}
 use mathlib.Core.Path.{◌≡◌, sym, ◌∙◌}
-use Prim.Native.Nat.{◌≤◌, ◌<◌, ◌-◌}
 use native.Mathlib.Omega.{arith}
-use borrow.Author.Rules.{rules}
-use Rattle.paper.specs.Record.{zeros}
 use Rattle.paper.specs.Table.{rec}
 use Rattle.judge_laws.proofs.Shapes.{zeros-not, zeros-none, zeros-next}
 use Rattle.lamp.proofs.sheet.are_zeros.Goals as goal
@@ -17,13 +13,12 @@ returns-then-byte_of-ne0 c =
     (λ z. c.if-byte_of-ne0.true (c.byte_of.ensures ∙ z)))
 
 pub loop-m-preserved : goal.loop-m-preserved
-loop-m-preserved c =
-    (
-      zeros-next c.args.place c.loop-m.m (rec c.args.sheets.now c.args.i) c.loop-m.invariant.0 (sym c.byte_of.ensures ∙ c.if-byte_of-ne0.false),
-      omega arith,
-      omega arith,
-      omega arith,
-    )
+loop-m-preserved c = (
+  zeros-next c.args.place c.loop-m.m (rec c.args.sheets.now c.args.i) c.loop-m.invariant.0 (sym c.byte_of.ensures ∙ c.if-byte_of-ne0.false),
+  omega arith,
+  omega arith,
+  omega arith,
+)
 
 pub returns : goal.returns
 returns c =

@@ -1,13 +1,10 @@
 -- The bytes passed are zero; one that is not decides, and at the end all of them are.
 -- The measure is what is left to look at.
 use mathlib.Core.Bool.{true}
-use mathlib.Core.Path.{◌≡◌, sym, ◌∙◌}
+use mathlib.Core.Path.{◌≡◌}
 use Prim.Native.Nat.{◌≤◌, ◌<◌, ◌-◌}
-use native.Mathlib.Omega.{arith}
-use borrow.Author.Rules.{rules}
 use Rattle.paper.specs.Record.{zeros}
 use Rattle.paper.specs.Table.{rec}
-use Rattle.judge_laws.proofs.Shapes.{zeros-not, zeros-none, zeros-next}
 use Rattle.lamp.proofs.sheet.are_zeros.Given as goal
 
 abbrev pub invariant-loop-m : goal.invariant-loop-m

@@ -2,8 +2,6 @@
 -- A link name has at most ten bytes, so the zeros after it stay within the sheet.
 use mathlib.Core.Path.{sym, ◌∙◌}
 use native.Mathlib.Omega.{arith}
-use borrow.Author.Rules.{rules}
-use borrow.Author.Tests.{not-true, not-false}
 use Rattle.lamp.proofs.Sheets.{formed-short, formed-unnamed, formed-unpadded, formed-rest, link-short}
 use Rattle.lamp.proofs.sheet.is_formed.Goals as goal
 

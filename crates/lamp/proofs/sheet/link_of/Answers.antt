@@ -1,7 +1,6 @@
 -- The first ten bytes of the record, up to the first zero:
 -- that is the definition, by its parts.
 use mathlib.Core.Path.{◌∙◌}
-use borrow.Author.Rules.{rules}
 use Rattle.job.specs.Sheet.{link_of}
 use Rattle.lamp.proofs.sheet.link_of.Goals as goal
 

@@ -1,9 +1,7 @@
 use mathlib.Core.Path.{sym}
-use Prim.Native.Nat.{◌≤◌, ◌-◌}
 use native.Mathlib.Omega.{arith}
-use lib.ListN.{length}
 use lib.Seq.{length-take-le}
-use Rattle.lamp.proofs.Sheets.{Passed, passed_none, passed-more, passed-zero, passed-all}
+use Rattle.lamp.proofs.Sheets.{passed_none, passed-more, passed-zero, passed-all}
 use Rattle.lamp.proofs.sheet.unpadded.Goals as goal
 
 pub loop-i-init : goal.loop-i-init

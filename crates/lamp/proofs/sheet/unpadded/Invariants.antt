@@ -1,11 +1,8 @@
 -- The bytes passed are no zeros, so the name is those bytes and the name of the rest;
 -- the first zero ends it, or the end.
-use mathlib.Core.Path.{sym}
 use Prim.Native.Nat.{◌≤◌, ◌-◌}
-use native.Mathlib.Omega.{arith}
 use lib.ListN.{length}
-use lib.Seq.{length-take-le}
-use Rattle.lamp.proofs.Sheets.{Passed, passed_none, passed-more, passed-zero, passed-all}
+use Rattle.lamp.proofs.Sheets.{Passed}
 use Rattle.lamp.proofs.sheet.unpadded.Given as goal
 
 abbrev pub invariant-loop-i : goal.invariant-loop-i

@@ -1,10 +1,7 @@
 use mathlib.Core.Path.{◌≡◌}
-use Prim.Native.Nat.{◌-◌, ◌≤◌}
 use native.Mathlib.Omega.{arith}
-use borrow.Author.Rules.{rules}
 use Rattle.paper.specs.Table.{rooms}
 use Rattle.laws.proofs.Sound.{sized-whole}
-use Rattle.sweep.specs.Listed.{Listed}
 use Rattle.sweep.proofs.reach.list_entries.Goals as goal
 
 pub loop-i-init : goal.loop-i-init

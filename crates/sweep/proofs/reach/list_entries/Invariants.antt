@@ -2,10 +2,7 @@
 -- Each turn lists one more.
 use mathlib.Core.Path.{◌≡◌}
 use Prim.Native.Nat.{◌-◌, ◌≤◌}
-use native.Mathlib.Omega.{arith}
-use borrow.Author.Rules.{rules}
 use Rattle.paper.specs.Table.{rooms}
-use Rattle.laws.proofs.Sound.{sized-whole}
 use Rattle.sweep.specs.Listed.{Listed}
 use Rattle.sweep.proofs.reach.list_entries.Given as goal
 

@@ -1,7 +1,6 @@
 -- A record that is no entry, or an entry whose directory is no heading, leaves the list as it is;
 -- any other is put at the end of its directory's.
 use mathlib.Core.Path.{sym, ◌∙◌}
-use borrow.Author.Rules.{rules}
 use Rattle.sweep.proofs.Marks.{heading-room}
 use Rattle.sweep.proofs.Lists.{listed-other, listed-nowhere, listed_in}
 use Rattle.sweep.proofs.reach.list_entry.Goals as goal

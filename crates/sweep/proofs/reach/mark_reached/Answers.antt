@@ -1,6 +1,5 @@
 -- Entries are listed by their directories, base files' entries followed, and then those of every heading reached.
 -- At the start nothing is marked and nothing waits.
-use borrow.Author.Rules.{rules}
 use Rattle.sweep.proofs.Lists.{listed-none}
 use Rattle.sweep.proofs.Marks.{held_none, waits-begun}
 use Rattle.sweep.proofs.reach.mark_reached.Goals as goal

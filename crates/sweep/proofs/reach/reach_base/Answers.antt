@@ -1,7 +1,6 @@
 -- A record that is no base file's entry adds nothing; any other is followed.
 -- What was marked before stays marked.
 use mathlib.Core.Path.{sym, ◌∙◌}
-use borrow.Author.Rules.{rules}
 use borrow.Author.Tests.{eqb-true, eq-eqb}
 use Rattle.laws.proofs.Tests.{or_left}
 use Rattle.sweep.proofs.Marks.{grown-refl, based-other, based-more}
@@ -12,22 +11,20 @@ returns-then-kind_of-ne-KIND c =
     (c.requires.2, grown-refl _ _ _, based-other _ _ c.args.i c.requires.3 (λ k x. c.if-kind_of-ne-KIND.true (c.kind_of.ensures ∙ k)))
 
 pub returns-then-holder_of-ne-BASE : goal.returns-then-holder_of-ne-BASE
-returns-then-holder_of-ne-BASE c =
-    (
-      c.requires.2,
-      grown-refl _ _ _,
-      based-other _ _ c.args.i c.requires.3 (λ k x. c.if-holder_of-ne-BASE.true (c.holder_of.ensures.0 ∙ eqb-true _ _ x)),
-    )
+returns-then-holder_of-ne-BASE c = (
+  c.requires.2,
+  grown-refl _ _ _,
+  based-other _ _ c.args.i c.requires.3 (λ k x. c.if-holder_of-ne-BASE.true (c.holder_of.ensures.0 ∙ eqb-true _ _ x)),
+)
 
 pub reach-requires : goal.reach-requires
-reach-requires c =
-    (
-      c.requires.0,
-      c.requires.1,
-      sym c.kind_of.ensures ∙ c.if-kind_of-ne-KIND.false,
-      or_left _ _ (eq-eqb _ _ (sym c.holder_of.ensures.0 ∙ c.if-holder_of-ne-BASE.false)),
-      c.requires.2,
-    )
+reach-requires c = (
+  c.requires.0,
+  c.requires.1,
+  sym c.kind_of.ensures ∙ c.if-kind_of-ne-KIND.false,
+  or_left _ _ (eq-eqb _ _ (sym c.holder_of.ensures.0 ∙ c.if-holder_of-ne-BASE.false)),
+  c.requires.2,
+)
 
 pub returns : goal.returns
 returns c =

@@ -1,9 +1,6 @@
 use mathlib.Core.Path.{◌≡◌}
-use Prim.Native.Nat.{◌-◌, ◌≤◌}
 use native.Mathlib.Omega.{arith}
-use borrow.Author.Rules.{rules}
 use Rattle.paper.specs.Table.{rooms}
-use Rattle.sweep.specs.Marked.{Based, Held, Grown}
 use Rattle.sweep.proofs.Marks.{grown-refl, grown-trans, based-none}
 use Rattle.sweep.proofs.reach.reach_bases.Goals as goal
 

@@ -2,11 +2,8 @@
 -- Each turn follows one more.
 use mathlib.Core.Path.{◌≡◌}
 use Prim.Native.Nat.{◌-◌, ◌≤◌}
-use native.Mathlib.Omega.{arith}
-use borrow.Author.Rules.{rules}
 use Rattle.paper.specs.Table.{rooms}
 use Rattle.sweep.specs.Marked.{Based, Held, Grown}
-use Rattle.sweep.proofs.Marks.{grown-refl, grown-trans, based-none}
 use Rattle.sweep.proofs.reach.reach_bases.Given as goal
 
 abbrev pub invariant-loop-i : goal.invariant-loop-i

@@ -1,16 +1,7 @@
 -- The directory's entries from `next` on are followed, at every turn, and the one before `next` is the next of them.
 -- Those between two of its list are of other directories; at the end none is left.
-use mathlib.Core.Path.{◌≡◌, ◌∙◌}
-use Prim.Native.Nat.{◌-◌}
-use native.Mathlib.Omega.{arith}
-use borrow.Author.Rules.{rules}
-use Rattle.judge_laws.specs.Tally.{last_below}
-use Rattle.judge_laws.proofs.Lasts.{last-most}
-use Rattle.laws.proofs.Sound.{sized-whole}
-use Rattle.sweep.specs.Listed.{inside}
 use Rattle.sweep.specs.Marked.{Held, Grown}
-use Rattle.sweep.proofs.Marks.{reached-room, reached-kind, inside-entry, inside-leads, grown-refl, grown-trans}
-use Rattle.sweep.proofs.Closed.{Followed, followed-none, followed-more, followed-all}
+use Rattle.sweep.proofs.Closed.{Followed}
 use Rattle.sweep.proofs.reach.reach_from.Given as goal
 
 abbrev pub invariant-loop-next : goal.invariant-loop-next

@@ -1,8 +1,4 @@
-use Prim.Native.Nat.{◌-◌, ◌≤◌}
 use native.Mathlib.Omega.{arith}
-use borrow.Author.Rules.{rules}
-use Rattle.paper.specs.Table.{rooms}
-use Rattle.sweep.specs.Marked.{Based, Held, Waits}
 use Rattle.sweep.proofs.Marks.{held-end, based-grown}
 use Rattle.sweep.proofs.Closed.{waits-more, reaches}
 use Rattle.sweep.proofs.reach.reach_on.Goals as goal

@@ -1,12 +1,8 @@
 -- What is marked waits in the queue from `taken` on or has its entries followed, at every turn; what stands in the queue is reached.
 -- Each turn follows the first that waits; at the end none does, so the marks are closed.
 use Prim.Native.Nat.{◌-◌, ◌≤◌}
-use native.Mathlib.Omega.{arith}
-use borrow.Author.Rules.{rules}
 use Rattle.paper.specs.Table.{rooms}
 use Rattle.sweep.specs.Marked.{Based, Held, Waits}
-use Rattle.sweep.proofs.Marks.{held-end, based-grown}
-use Rattle.sweep.proofs.Closed.{waits-more, reaches}
 use Rattle.sweep.proofs.reach.reach_on.Given as goal
 
 abbrev pub invariant-loop-taken : goal.invariant-loop-taken

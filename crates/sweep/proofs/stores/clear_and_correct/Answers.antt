@@ -4,7 +4,6 @@ use mathlib.Core.Bool.{true}
 use mathlib.Core.Path.{◌≡◌}
 use native.Mathlib.Omega.{arith}
 use lib.ListN.{length}
-use borrow.Author.Rules.{rules}
 use Rattle.paper.specs.Count.{recounts}
 use Rattle.paper.specs.Table.{sized}
 use Rattle.laws.proofs.Sound.{sized-whole}

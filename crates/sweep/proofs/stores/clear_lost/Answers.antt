@@ -2,7 +2,6 @@
 -- Clearing leaves the number of records, so all stages are over the records of the table as found.
 use mathlib.Core.Path.{◌≡◌}
 use native.Mathlib.Omega.{arith}
-use borrow.Author.Rules.{rules}
 use Rattle.paper.specs.Table.{rooms}
 use Rattle.sweep.specs.Lost.{lost_stores}
 use Rattle.effects.proofs.Counted.{counted-both}

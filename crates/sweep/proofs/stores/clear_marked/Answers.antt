@@ -1,12 +1,6 @@
 use mathlib.Core.Path.{◌≡◌, refl}
-use Prim.Native.Nat.{◌+◌, ◌-◌, ◌≤◌}
 use native.Mathlib.Omega.{arith}
-use lib.ListN.{length}
-use borrow.Author.Rules.{rules}
-use Rattle.paper.specs.Store.{clears}
 use Rattle.paper.specs.Table.{rooms}
-use Rattle.effects.specs.Counted.{Counted}
-use Rattle.sweep.specs.Lost.{has_mark}
 use Rattle.effects.proofs.Counted.{counted_start, counted-more}
 use Rattle.sweep.proofs.stores.clear_marked.Goals as goal
 

@@ -1,15 +1,12 @@
 -- After i turns the records below i with the mark are cleared as far as the stop number allows, and all of them are counted.
 -- Each turn adds one record; at the end these are all records.
-use mathlib.Core.Path.{◌≡◌, refl}
+use mathlib.Core.Path.{◌≡◌}
 use Prim.Native.Nat.{◌+◌, ◌-◌, ◌≤◌}
-use native.Mathlib.Omega.{arith}
 use lib.ListN.{length}
-use borrow.Author.Rules.{rules}
 use Rattle.paper.specs.Store.{clears}
 use Rattle.paper.specs.Table.{rooms}
 use Rattle.effects.specs.Counted.{Counted}
 use Rattle.sweep.specs.Lost.{has_mark}
-use Rattle.effects.proofs.Counted.{counted_start, counted-more}
 use Rattle.sweep.proofs.stores.clear_marked.Given as goal
 
 abbrev pub invariant-loop-i : goal.invariant-loop-i

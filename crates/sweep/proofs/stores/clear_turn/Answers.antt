@@ -2,7 +2,6 @@
 -- These are the two cases of the stage.
 use native.Mathlib.Omega.{arith}
 use borrow.Author.Tests.{eq-eqb, ne_eqb}
-use borrow.Author.Rules.{rules}
 use Rattle.effects.proofs.Counted.{counted_none, counted-one, counted-stopped}
 use Rattle.sweep.proofs.stores.clear_turn.Goals as goal
 

@@ -1,7 +1,6 @@
 -- Past the marks there is none, and a mark that is not there is 0.
 -- Else it is the mark itself.
 use mathlib.Core.Path.{refl, sym}
-use borrow.Author.Rules.{rules}
 use Rattle.sweep.proofs.Cleared.{marked-past}
 use Rattle.sweep.proofs.stores.is_reached.Goals as goal
 

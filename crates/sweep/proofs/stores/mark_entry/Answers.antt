@@ -1,7 +1,6 @@
 -- A base file's entry stays, and so does one whose directory is reached.
 -- Any other is lost.
 use mathlib.Core.Path.{sym, ap, ◌∙◌}
-use borrow.Author.Rules.{rules}
 use borrow.Author.Tests.{eq-eqb, ne_eqb}
 use Rattle.paper.specs.Sweep.{reached}
 use Rattle.sweep.proofs.Cleared.{mark-base, mark-held, mark-entry}

@@ -1,12 +1,9 @@
 use mathlib.Core.Path.{◌≡◌, refl, ◌∙◌}
-use Prim.Native.Nat.{◌-◌, ◌≤◌}
 use native.Mathlib.Omega.{arith}
-use lib.ListN.{length, length-set}
+use lib.ListN.{length-set}
 use borrow.Author.Count.{below_none}
-use borrow.Author.Rules.{rules}
 use Rattle.paper.specs.Table.{rooms}
 use Rattle.laws.proofs.Sound.{sized-whole}
-use Rattle.sweep.specs.Lost.{LostBelow}
 use Rattle.sweep.proofs.Cleared.{lost-more}
 use Rattle.sweep.proofs.stores.mark_lost.Goals as goal
 
@@ -36,8 +33,7 @@ overflow_add-i c =
 
 pub loop-i-preserved : goal.loop-i-preserved
 loop-i-preserved c =
-    let w = sized-whole c.args.table.now c.requires.0 in
-    (
+    let w = sized-whole c.args.table.now c.requires.0 in (
       lost-more c.args.table.now c.loop-i.lost c.loop-i.i c.mark_of.result c.loop-i.invariant.0 (omega arith) c.mark_of.ensures,
       length-set c.loop-i.lost c.loop-i.i c.mark_of.result ∙ c.loop-i.invariant.1,
       omega arith,

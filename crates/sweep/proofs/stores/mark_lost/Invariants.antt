@@ -1,15 +1,10 @@
 -- After i turns each record below i has its mark, found in the table as it is.
 -- At the end these are all records.
-use mathlib.Core.Path.{◌≡◌, refl, ◌∙◌}
+use mathlib.Core.Path.{◌≡◌}
 use Prim.Native.Nat.{◌-◌, ◌≤◌}
-use native.Mathlib.Omega.{arith}
-use lib.ListN.{length, length-set}
-use borrow.Author.Count.{below_none}
-use borrow.Author.Rules.{rules}
+use lib.ListN.{length}
 use Rattle.paper.specs.Table.{rooms}
-use Rattle.laws.proofs.Sound.{sized-whole}
 use Rattle.sweep.specs.Lost.{LostBelow}
-use Rattle.sweep.proofs.Cleared.{lost-more}
 use Rattle.sweep.proofs.stores.mark_lost.Given as goal
 
 abbrev pub invariant-loop-i : goal.invariant-loop-i

@@ -1,7 +1,6 @@
 -- An entry has its own mark, a heading is lost if it is not reached, and text if its heading is not.
 -- These are the cases of the mark.
 use mathlib.Core.Path.{sym, ap, ◌∙◌}
-use borrow.Author.Rules.{rules}
 use Rattle.paper.specs.Sweep.{reached}
 use Rattle.sweep.proofs.Cleared.{mark-reached, mark-heading, mark-other, mark-kept, mark-text}
 use Rattle.sweep.proofs.stores.mark_of.Goals as goal

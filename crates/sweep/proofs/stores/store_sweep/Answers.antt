@@ -1,6 +1,5 @@
 -- The marks are of the table as lent, and the stores by them are those of the sweep.
 -- So the first of them that the stop number allows are the first of the sweep's.
-use borrow.Author.Rules.{rules}
 use Rattle.sweep.proofs.Cleared.{stores-by-marks}
 use Rattle.sweep.proofs.stores.store_sweep.Goals as goal
 

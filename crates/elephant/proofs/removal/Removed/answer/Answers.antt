@@ -2,7 +2,6 @@
 -- No more stores are left than the stop number.
 use Prim.Native.Nat.{◌≤◌}
 use native.Mathlib.Omega.{arith}
-use borrow.Author.Rules.{rules}
 use Rattle.elephant.proofs.removal.Removed.answer.Goals as goal
 
 pub overflow_cast-left : goal.overflow_cast-left

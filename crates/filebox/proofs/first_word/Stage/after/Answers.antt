@@ -1,7 +1,5 @@
 -- In each arm the stage is known, and the byte is the key of that arm
 -- or, in the last one, none of the keys.
-use borrow.Author.Tests.{ne_eqb}
-use borrow.Author.Rules.{rules}
 use Rattle.filebox.proofs.first_word.Stage.after.Goals as goal
 
 pub returns-in-32 : goal.returns-in-32
