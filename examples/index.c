@@ -3,7 +3,7 @@
  * true is refused, after a power cut, or for a table from elsewhere, one mend builds it, and a sweep keeps it. Each is held to what
  * include/filebox.h promises: it ends with status 1 at the first that is otherwise.
  *
- *     rt staticlib filebox_c
+ *     .ci/staticlib filebox_c
  *     gcc -std=c11 -Iinclude examples/index.c target/staticlib/libfilebox_c.a -o target/index && target/index
  */
 #include <stdio.h>

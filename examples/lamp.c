@@ -3,7 +3,7 @@
  * refused, and one that loses its power and is mended. Each is held to what include/filebox.h promises: it ends with status 1 at the first
  * that is otherwise.
  *
- *     rt staticlib filebox_c
+ *     .ci/staticlib filebox_c
  *     gcc -std=c11 -Iinclude examples/lamp.c target/staticlib/libfilebox_c.a -o target/lamp && target/lamp
  */
 #include <stdio.h>

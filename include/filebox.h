@@ -2,7 +2,7 @@
  * The file box: requests and mending over a table that the caller lends (document 01, "Records, requests and replies of the file box"),
  * with parts of a sheet, trees, rewrites, gives and takes, files destroyed everywhere, counts in the headings, names of six bits a
  * character in the entries, a sorted index beside the table and a sweep of lost loops (document 02), and the lamp, which files the sheets of
- * a job and reads each back (its request m). Link with libfilebox_c.a, which `rt staticlib filebox_c` writes for x86-64; it keeps nothing
+ * a job and reads each back (its request m). Link with libfilebox_c.a, which `.ci/staticlib filebox_c` writes for x86-64; it keeps nothing
  * between calls, allocates nothing, and needs of the C library at most memcpy, memmove and memset.
  *
  * The functions are proved for every table, index, line, text, reply buffer, sheets, texts, read-back buffer, chain, name, user and stop
