@@ -15,7 +15,7 @@ use Rattle.paper.specs.Answer.{requested}
 use Rattle.paper.proofs.Cases.{hold}
 use Rattle.disk.specs.Phase.{first, entry, last, phase_of, phase}
 
--- `(WRS M).R`, `(WRS* M).R`, `DEL.R`, `DST.R` and `DUP.R.G`
+-- `WRS M .R`, `WRS* M .R`, `DEL .R`, `DST .R` and `DUP .R .G`
 abbrev wrs : List ℕ
 wrs = 87 ∷ 82 ∷ 83 ∷ 32 ∷ 77 ∷ 32 ∷ 46 ∷ 82 ∷ []
 

@@ -3,7 +3,7 @@
 pub mod Ranks
 -- a sound table has no rank twice, so the linear test is the definition: `sound-apart`, `sound-judged`
 pub mod Apart
--- a request: `one_Index`, `kept-as-before`, `unfit-as-before`, `not-true-26`, `only-26`, `stays-true`, `cut-as-lent`
+-- a request: `one_index`, `kept-as-before`, `unfit-as-before`, `not-true-26`, `only-26`, `stays-true`, `cut-as-lent`
 pub mod Requests
 -- where a box begins: `free-good`
 pub mod Free

@@ -13,7 +13,7 @@ use Rattle.job.specs.Filing.{wrs_line, filed, filing_by}
 use Rattle.job.specs.Reading.{rds_line, read_back, brought, reading_by}
 use Rattle.job.specs.Lamp.{red, lit}
 
--- `CRD.R`, `DUP.R.R:A`: a directory, named by two entries and with one, its base entry of user 1, and its own entry A; and one free record
+-- `CRD .R`, `DUP .R .R:A`: a directory, named by two entries and with one, its base entry of user 1, and its own entry A; and one free record
 abbrev looped : List ℕ
 looped =
     take 12 (heading_record 0 0 0 1 0) ++ 2 ∷ 0 ∷ 1 ∷ replicate 17 0

@@ -82,7 +82,7 @@ unfoldable pub hold_all : List Case → Bool
 hold_all [] = true
 hold_all (c ∷ cs) = holds c && hold_all cs
 
--- `CRD.R`, `CRD.R:A`, `DEL.R`
+-- `CRD .R`, `CRD .R:A`, `DEL .R`
 abbrev pub crd_r : List ℕ
 crd_r = 67 ∷ 82 ∷ 68 ∷ 32 ∷ 46 ∷ 82 ∷ []
 
@@ -92,7 +92,7 @@ crd_ra = crd_r ++ 58 ∷ 65 ∷ []
 abbrev pub del_r : List ℕ
 del_r = 68 ∷ 69 ∷ 76 ∷ 32 ∷ 46 ∷ 82 ∷ []
 
--- `RDS ` and a name; `(WRS M).WWW`
+-- `RDS ` and a name; `WRS M .WWW`
 abbrev pub rds : List ℕ → List ℕ
 rds name = 82 ∷ 68 ∷ 83 ∷ 32 ∷ name
 
@@ -107,7 +107,7 @@ abbrev pub pair : List ℕ
 pair = replicate 64 0
 
 -- "record 0 is 1,0,0,0,1", and document 02: "A heading now stores how many entries name it (bytes 12-13) and, for a directory, how many
--- it holds (bytes 14-15)"; "after `CRD.R` record 0 has 1 in byte 12"
+-- it holds (bytes 14-15)"; "after `CRD .R` record 0 has 1 in byte 12"
 abbrev pub box : (named holds : ℕ) → List ℕ
 box named holds = 1 ∷ 0 ∷ 0 ∷ 0 ∷ 1 ∷ replicate 7 0 ++ named ∷ 0 ∷ holds ∷ 0 ∷ replicate 16 0
 
@@ -171,7 +171,7 @@ sheet level = sheet_of level 1
 abbrev pub desk : List ℕ
 desk = sheet 0 ++ entry_r ++ heading_r ++ nights 84 2
 
--- `CPY.R.G .` and the letter of a level; the entry of `.G` that it makes
+-- `CPY .R .G .` and the letter of a level; the entry of `.G` that it makes
 abbrev pub cpy_rg : (letter : ℕ) → List ℕ
 cpy_rg letter = 67 ∷ 80 ∷ 89 ∷ 32 ∷ dot_r ++ 32 ∷ 46 ∷ 71 ∷ 32 ∷ 46 ∷ letter ∷ []
 
@@ -194,7 +194,7 @@ lettered =
     ++ 3 ∷ 9 ∷ 0 ∷ 0 ∷ 0 ∷ 0 ∷ 0 ∷ 0 ∷ 65 ∷ 66 ∷ 67 ∷ 68 ∷ 69 ∷ 70 ∷ 71 ∷ 72 ∷ 73 ∷ replicate 15 0
     ++ entry_r
 
--- `RDS.R` and what follows, on a table, with a reply buffer of n zeros: the number, the argument, and the bytes written
+-- `RDS .R` and what follows, on a table, with a reply buffer of n zeros: the number, the argument, and the bytes written
 abbrev pub reads : (table after : List ℕ) (n number argument : ℕ) → List ℕ → Case
 reads table after n number argument out =
     asks table (rds (dot_r ++ after)) [] (replicate n 0) 1 9
@@ -228,7 +228,7 @@ line_f = 70 ∷ 77 ∷ 46 ∷ 80 ∷ 49 ∷ 32 ∷ 32 ∷ 32 ∷ 32 ∷ 70 ∷ 1
 abbrev pub loop : List ℕ
 loop = box 2 1 ++ entry_r ++ within 0 68 0 0
 
--- `WRS* `, a declaration and ` .R`; `CPY.R.G`; `DPR.R.1`
+-- `WRS* `, a declaration and ` .R`; `CPY .R .G`; `DPR .R .1`
 abbrev pub wrs_star : List ℕ → List ℕ
 wrs_star decl = 87 ∷ 82 ∷ 83 ∷ 42 ∷ 32 ∷ decl ++ 32 ∷ dot_r
 
@@ -255,12 +255,12 @@ new_limits = limits 0 1 0 25 ++ entry_r ++ written 0 66 24 ++ written 1 66 1
 abbrev pub half : List ℕ → List ℕ → List ℕ
 half one other = limits 0 1 1 0 ++ entry_r ++ one ++ other
 
--- `(WRS* M).R` with 25 times `B`, on a table, with this stop number: the number, the names done, the stores, and the table after
+-- `WRS* M .R` with 25 times `B`, on a table, with this stop number: the number, the names done, the stores, and the table after
 abbrev pub rewrites : (table : List ℕ) (stop number names stores : ℕ) → List ℕ → Case
 rewrites table stop number names stores after =
     asks table (wrs_star (77 ∷ [])) (replicate 25 66) [] 1 stop (answer number 0 0 names 0 0 stores) after []
 
--- `CHN.R.G`; `DEL.R:A`
+-- `CHN .R .G`; `DEL .R:A`
 abbrev pub chn_rg : List ℕ
 chn_rg = 67 ∷ 72 ∷ 78 ∷ 32 ∷ dot_r ++ 32 ∷ 46 ∷ 71 ∷ []
 
@@ -361,7 +361,7 @@ cases =
     ∷ declares (46 ∷ []) true
     ∷ declares (77 ∷ 70 ∷ []) false
     ∷ declares (49 ∷ []) false
-    -- "user 1, 64 zero bytes, `CRD.R`": heading, entry, and "after `CRD.R` record 0 has 1 in byte 12"
+    -- "user 1, 64 zero bytes, `CRD .R`": heading, entry, and "after `CRD .R` record 0 has 1 in byte 12"
     ∷ asks pair crd_r [] [] 1 9 (answer 0 0 0 1 0 0 3) (heading_r ++ entry_r) []
     -- "With k = 1 only record 0, answer 22, and mending gives zeros again. With 32 bytes: 19." "A new heading starts with both at 0."
     ∷ asks pair crd_r [] [] 1 1 (answer 22 0 0 0 0 0 1) (box 0 0 ++ blank) []
@@ -370,7 +370,7 @@ cases =
     -- with k = 2 the entry stands and the count is untrue: "At its end mending corrects untrue counts, one store a heading"
     ∷ asks pair crd_r [] [] 1 2 (answer 22 0 0 0 0 0 2) (box 0 0 ++ entry_r) []
     ∷ mends (box 0 0 ++ entry_r) 9 (answer 0 0 0 0 0 0 1) (heading_r ++ entry_r)
-    -- "then `CRD.R:A` gets 19; `DEL.R` gives zeros", and "takes 3 stores": the file about to be cleared gets its count too
+    -- "then `CRD .R:A` gets 19; `DEL .R` gives zeros", and "takes 3 stores": the file about to be cleared gets its count too
     ∷ asks (heading_r ++ entry_r) crd_ra [] [] 1 9 (answer 19 0 0 0 0 0 0) (heading_r ++ entry_r) []
     ∷ asks (heading_r ++ entry_r) del_r [] [] 1 9 (answer 0 0 0 1 0 0 3) pair []
     ∷ asks (heading_r ++ entry_r) del_r [] [] 1 1 (answer 22 0 0 0 0 0 1) (heading_r ++ blank) []
@@ -511,13 +511,13 @@ cases =
     ∷ asks (sheet 0 ++ entry_r ++ blank) crd_r [] [] 1 4 (answer 22 0 0 0 0 0 4) (displaced (sheet_of 0 0) heading_r) []
     ∷ mends (displaced (sheet 0) (box 0 0)) 9 (answer 0 0 0 0 0 0 2) (displaced blank heading_r)
     ∷ mends (displaced (sheet 0) (box 0 0)) 1 (answer 22 0 0 0 0 0 1) (displaced blank (box 0 0))
-    -- .. and displaced where another entry names it: `DUP.R.G`
+    -- .. and displaced where another entry names it: `DUP .R .G`
     ∷ asks (two_files 1 2 2) (dup dot_r (46 ∷ 71 ∷ [])) [] [] 1 9 (answer 0 0 0 1 1 0 3) (two_files 2 1 0) []
-    -- "counts still true get no store": `DUP.R:A.R:A.1`, `CHN.R.G`
+    -- "counts still true get no store": `DUP .R:A .R:A .1`, `CHN .R .G`
     ∷ asks inside (dup (dot_r ++ link) (dot_r ++ link ++ 32 ∷ 46 ∷ 49 ∷ [])) [] [] 1 9 (answer 0 0 0 1 1 0 1)
     (box 1 1 ++ entry_r ++ sheet 0 ++ within 0 65 2 1) []
     ∷ asks (heading_r ++ entry_r) chn_rg [] [] 1 9 (answer 0 0 0 1 0 0 1) (heading_r ++ ours 71 0) []
-    -- "one store each": a directory in itself, `DUP.R.R:D` and `DEL.R:D`
+    -- "one store each": a directory in itself, `DUP .R .R:D` and `DEL .R:D`
     ∷ asks (heading_r ++ entry_r ++ blank) (dup dot_r (dot_r ++ 58 ∷ 68 ∷ [])) [] [] 1 9 (answer 0 0 0 1 0 0 2) loop []
     ∷ asks loop (del_r ++ 58 ∷ 68 ∷ []) [] [] 1 9 (answer 0 0 0 1 0 0 2) (heading_r ++ entry_r ++ blank) []
     -- "Soundness says that both are true": bytes 12-13, the second of them too, and bytes 14-15; a table of document 01 has neither
@@ -559,7 +559,7 @@ cases =
     ∷ asks loop (dst dot_r) [] [] 1 9 (answer 18 1 1 0 0 0 0) loop []
     ∷ asks (heading_r ++ entry_r) (dst dot_r) [] [] 1 9 (answer 0 0 0 1 0 0 2) pair []
     ∷ asks (holding_a 1 0) (dst dot_r) [] [] 1 9 (answer 14 1 1 0 0 0 0) (holding_a 1 0) []
-    -- "`DST` takes 1 to 8 names": `DST.R:A.R:A` gets 11 at its second name, with one name done; `DST.R:A.R` destroys both
+    -- "`DST` takes 1 to 8 names": `DST .R:A .R:A` gets 11 at its second name, with one name done; `DST .R:A .R` destroys both
     ∷ asks inside (dst (dot_ra ++ 32 ∷ dot_ra)) [] [] 1 9 (answer 11 2 2 1 0 0 3) (heading_r ++ entry_r ++ pair) []
     ∷ asks inside (dst (dot_ra ++ 32 ∷ dot_r)) [] [] 1 9 (answer 0 0 0 2 0 0 5) (pair ++ pair) []
     ∷ asks inside (dst (dot_ra ++ 32 ∷ dot_ra)) [] [] 1 2 (answer 22 0 0 0 0 0 2) (box 1 1 ++ entry_r ++ pair) []
@@ -573,7 +573,7 @@ cases =
     ∷ mends (drop 32 lettered) 9 (answer 0 0 0 0 0 0 2) pair
     ∷ mends (ours 82 3 ++ drop 32 (take 64 lettered) ++ sheet 0) 9 (answer 0 0 0 0 0 0 3) (pair ++ blank)
     ∷ mends (ours 82 3 ++ drop 32 (take 64 lettered) ++ sheet 0) 1 (answer 22 0 0 0 0 0 1) (blank ++ drop 32 (take 64 lettered) ++ sheet 0)
-    -- document 02, six-bit names: "one 60-bit number", all of it; "first character highest": `DUP.R:A.R:__________` and its line
+    -- document 02, six-bit names: "one 60-bit number", all of it; "first character highest": `DUP .R:A .R:__________` and its line
     ∷ asks (inside ++ blank) (dup dot_ra (dot_r ++ 58 ∷ replicate 10 95)) [] [] 1 9 (answer 0 0 0 1 0 0 3)
     (box 1 2 ++ entry_r ++ sheet_of 0 2 ++ within 0 65 2 0 ++ drop 96 longest) []
     ∷ asks longest (76 ∷ 83 ∷ 84 ∷ 32 ∷ dot_r) [] (replicate 21 7) 1 9 (answer 0 0 0 1 0 21 0) longest (line_of (replicate 10 95))
@@ -615,7 +615,7 @@ cases =
     -- "Every request keeps the index true"
     ∷ keeps pair (padding 2) crd_r 1 9 0 (heading_r ++ entry_r) (1 ∷ padding 1)
     ∷ keeps (shelf ++ blank) (1 ∷ 3 ∷ padding 3) (dup dot_r (night ++ link)) 1 9 0 (given entry_r entry_a) (4 ∷ 1 ∷ 3 ∷ padding 2)
-    -- ".. a delete refused midway included": `DEL.R.W`
+    -- ".. a delete refused midway included": `DEL .R .W`
     ∷ keeps (heading_r ++ entry_r) (1 ∷ padding 1) (del_r ++ 32 ∷ 46 ∷ 87 ∷ []) 1 9 11 pair (padding 2)
     -- "26, exactly when the list's length or content differs from this": order, padding, length
     ∷ keeps shelf (3 ∷ 1 ∷ padding 2) del_r 1 9 26 shelf (3 ∷ 1 ∷ padding 2)
