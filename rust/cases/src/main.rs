@@ -9,12 +9,12 @@ use std::fmt::{Display, Write};
 
 const HEAD: &str = "-- Random cases: the second program's outcomes, held against the definitions.
 use mathlib.Core.Bool.{true, false}
-use mathlib.Core.List.{List, [], _∷_}
-use mathlib.Core.Path.{_≡_, refl}
+use mathlib.Core.List.{List, [], ◌∷◌}
+use mathlib.Core.Path.{◌≡◌, refl}
 use Prim.Native.Nat.{ℕ}
-use Rattle·paper·specs.specs.Entry.{Holder}
-use Rattle·paper·specs.specs.Case.{Case, asks, mends, orders, looks, keeps, mendsKept, sweeps, answer, holdAll}
-use Rattle·paper·proofs.proofs.Cases.{hold}
+use Rattle.paper.specs.Entry.{Holder}
+use Rattle.paper.specs.Case.{Case, asks, mends, orders, looks, keeps, mends_kept, sweeps, answer, hold_all}
+use Rattle.paper.proofs.Cases.{hold}
 ";
 
 /// The most cases of the list on one table.
@@ -176,7 +176,7 @@ impl Story {
         let (mut after, mut kept) = (table.to_vec(), list_lent);
         let mended = beside::mend(&mut after, &mut kept, stop);
         let left = format!("{} {} {}", mended.number, list(&after), list(&kept));
-        self.listed.push(format!("mendsKept {lent} {stop} {left}"));
+        self.listed.push(format!("mends_kept {lent} {stop} {left}"));
     }
 
     /// The list of a sound table; and a name looked up through it, or through one without any meaning.
@@ -215,7 +215,7 @@ impl Story {
             let told = beside::mend(&mut mended, &mut index, 99);
             let left = format!("{} {} {}", told.number, list(&mended), list(&index));
             let lent = format!("{} {}", list(&cut), list(&kept));
-            self.swept.push(format!("mendsKept {lent} 99 {left}"));
+            self.swept.push(format!("mends_kept {lent} 99 {left}"));
             self.sweeps(&mended, &index, 99);
         }
     }
@@ -362,10 +362,12 @@ fn near(list: Vec<u16>, records: usize) -> Vec<u16> {
 /// Lists of cases, and that each of them holds.
 fn tell(what: &str, table: u64, cases: &[String]) {
     for (part, cases) in cases.chunks(TOLD).enumerate() {
-        let name = format!("{what}{table}part{part}");
+        let name = format!("{what}{table}_part{part}");
         let cases: String = cases.iter().map(|case| format!("{case}\n    ∷ ")).collect();
         println!("{name} : List Case\n{name} =\n    {cases}[]\n");
-        println!("told{name} : holdAll {name} ≡ true\nunfolding hold {name}\ntold{name} = refl\n");
+        println!(
+            "told_{name} : hold_all {name} ≡ true\nunfolding hold {name}\ntold_{name} = refl\n"
+        );
     }
 }
 
