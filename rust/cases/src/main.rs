@@ -11,8 +11,6 @@ const HEAD: &str = "-- Random cases: the second program's outcomes, held against
 use mathlib.Core.Bool.{true, false}
 use mathlib.Core.List.{List, [], ◌∷◌}
 use mathlib.Core.Path.{◌≡◌, refl}
-use Prim.Native.Nat.{ℕ}
-use Rattle.paper.specs.Entry.{Holder}
 use Rattle.paper.specs.Case.{Case, asks, mends, orders, looks, keeps, mends_kept, sweeps, answer, hold_all}
 use Rattle.paper.proofs.Cases.{hold}
 ";
