@@ -89,7 +89,8 @@ pub done_refused : (t : List ℕ) (n : ℕ) → n ≡ judged t → n ≢ 0 → D
 unfolding judged
 done_refused t n j e = rw j (go (sized t) refl (sound six t) refl (rw j at e))
   where
-    go : (z : Bool) → sized t ≡ z → (b : Bool) → sound six t ≡ b → ◌≢◌ {A = ℕ} (cond z (cond b 0 2) 1) 0 → Done six old t (cond z (cond b 0 2) 1) t
+    go : (z : Bool) → sized t ≡ z → (b : Bool) → sound six t ≡ b → ◌≢◌ {A = ℕ} (cond z (cond b 0 2) 1) 0
+        → Done six old t (cond z (cond b 0 2) 1) t
     go false p b q e = done-unsized six old t p
     go true p false q e = done-by six old t 2 t (unsound-stay six old t p q)
     go true p true q e = absurd (e refl)

@@ -18,7 +18,8 @@ use Rattle.paper.specs.Convert.{moved, converted}
 use Rattle.laws.proofs.Lay.{Whole, length-rec, length-lay, lay-same, lay-other, ext-table}
 use Rattle.laws.proofs.Runs.{length_run}
 use Rattle.laws.proofs.Fills.{rec-filled}
-use Rattle.convert.specs.Sides.{turned}
+use Rattle.layouts.proofs.Lengths.{Fits}
+use Rattle.convert.specs.Turned.{turned}
 
 -- ---- one record
 
@@ -39,10 +40,6 @@ pub record Moving (A B : Layout) (t s : List ℕ) (n : ℕ) : Type 0 where
 
 pub moving-start : (A B : Layout) (t : List ℕ) → Moving A B t t 0
 moving-start A B t = record { size = refl; done = λ j l _. let z : ⊥ = omega arith in absurd z; left = λ j _ _. refl }
-
--- a record that its layout can lay has 32 bytes again
-abbrev pub Fits : Layout → Layout → Type 0
-Fits A B = (r : List ℕ) → length r ≡ 32 → length (moved A B r) ≡ 32
 
 module _ (A B : Layout) (fits : Fits A B) where
   length-turned : (s : List ℕ) (n : ℕ) → length (turned A B s n) ≡ length s

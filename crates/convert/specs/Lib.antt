@@ -1,2 +1,2 @@
-pub mod Sides
+pub mod Turned
 pub mod Looked

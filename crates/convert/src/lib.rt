@@ -9,7 +9,7 @@ ghost use Rattle.std.specs.Prelude.{◌≡◌};
 ghost use Rattle.paper.specs.Layout.{old, six};
 ghost use Rattle.paper.specs.Convert.{converting};
 
-use crate::moving::convert_all;
+use crate::moving::{FromSix, ToSix, convert_all};
 use crate::old::are_legible;
 use judge::judge;
 use records::bytes::is_sized;
@@ -25,9 +25,9 @@ pub fn to_six(table: &mut [u8]) -> u8
     if !are_legible(table) {
         return 2;
     }
-    convert_all(table, true);
+    convert_all::<ToSix>(table);
     if judge(table) != 0 {
-        convert_all(table, false);
+        convert_all::<FromSix>(table);
         return 2;
     }
     0
@@ -41,6 +41,6 @@ pub fn from_six(table: &mut [u8]) -> u8
     if number != 0 {
         return number;
     }
-    convert_all(table, false);
+    convert_all::<FromSix>(table);
     0
 }

@@ -27,7 +27,7 @@ impl OldName {
 pub(crate) fn old_name(table: &[u8], room: Room) -> &[u8]
     ensures { result.now ≡ name_of old (rec table.now room.0) }
 {
-    let length = byte_of(table, room, OldName::LENGTH) as usize;
+    let length = usize::from(byte_of(table, room, OldName::LENGTH));
     let field = part(
         record_at(table, room),
         OldName::NAME,
@@ -64,11 +64,7 @@ fn is_legible(table: &[u8], room: Room) -> bool
     ensures { result ≡ legible old (rec table.now room.0) }
 {
     let name = old_name(table, room);
-    if !is_link_name(name) {
-        return false;
-    }
-    let again = old_record(table, room, name);
-    are_same(record_at(table, room), &again)
+    is_link_name(name) && are_same(record_at(table, room), &old_record(table, room, name))
 }
 
 // Whether record i is legible, if it is an entry.
@@ -76,23 +72,12 @@ fn is_legible_at(table: &[u8], i: usize) -> bool
     requires { i < rooms table.now }
     ensures { result ≡ legible_at old table.now i }
 {
-    if kind_of(table, Room(i)) != Entry::KIND {
-        return true;
-    }
-    is_legible(table, Room(i))
+    kind_of(table, Room(i)) != Entry::KIND || is_legible(table, Room(i))
 }
 
 // Whether every entry is legible.
 pub(crate) fn are_legible(table: &[u8]) -> bool
     ensures { result ≡ all_legible old table.now }
 {
-    let n = rooms(table).0;
-    let mut i: usize = 0;
-    while i < n {
-        if !is_legible_at(table, i) {
-            return false;
-        }
-        i += 1;
-    }
-    true
+    (0..rooms(table).0).all(|i| is_legible_at(table, i))
 }

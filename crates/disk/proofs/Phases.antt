@@ -10,10 +10,10 @@ use borrow.Author.Tests.{ne_eqb, eq-eqb, lt-ltb, le-ltb}
 use lib.Dec.{eqb}
 use lib.ListN.{length, take, drop, length-drop}
 use lib.Seq.{take_all}
-use Rattle.paper.specs.Record.{byte, is_kind}
+use Rattle.paper.specs.Record.{byte}
 use Rattle.paper.specs.Table.{rooms, rec}
 use Rattle.paper.specs.Name.{same}
-use Rattle.laws.proofs.Tests.{false-by, and-no-right}
+use Rattle.laws.proofs.Tests.{false-by}
 use Rattle.laws.proofs.Entries.{same_true}
 use Rattle.disk.specs.Phase.{only_counts, phase_of, phase}
 
@@ -51,15 +51,9 @@ module _ (x r : List ℕ) where
   pub kinds-differ : byte x 0 ≢ byte r 0 → same x r ≡ false
   kinds-differ n = false-by (same x r) (λ e. n (ap (λ (s : List ℕ). byte s 0) (same_true x r e)))
 
--- ---- a heading with other counts, test by test
+-- ---- a heading with other counts
 
 module _ (x r : List ℕ) where
-  pub counts-kind : byte x 0 ≢ 1 → only_counts x r ≡ false
-  counts-kind n = rw (ne_eqb _ _ n)
-
-  pub counts-front : same (take 12 x) (take 12 r) ≡ false → only_counts x r ≡ false
-  counts-front e = and-no-right (is_kind 1 x) _ (rw e)
-
   -- what stands past the counts, as many bytes of it as there are
   pub counts-back : byte x 0 ≡ 1 → same (take 12 x) (take 12 r) ≡ true
       → only_counts x r ≡ same (take (length x) (drop 16 x)) (take (length r) (drop 16 r))
@@ -75,11 +69,7 @@ pub phase-in : (t u : List ℕ) (i : ℕ) → length t ≡ length u → i < room
 unfolding phase
 phase-in t u i e l = rw (eq-eqb _ _ e, lt-ltb _ _ l)
 
--- .. and else there is nothing to write
-pub phase-longer : (t u : List ℕ) (i : ℕ) → length t ≢ length u → phase t u i ≡ 0
-unfolding phase
-phase-longer t u i n = rw (ne_eqb _ _ n)
-
+-- .. and past the last there is nothing to write
 pub phase-past : (t u : List ℕ) (i : ℕ) → rooms t ≤ i → phase t u i ≡ 0
 unfolding phase
 phase-past t u i l = rw (le-ltb _ _ l) (go (eqb (length t) (length u)))

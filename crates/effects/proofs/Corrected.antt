@@ -3,18 +3,21 @@
 use mathlib.Core.Bool.{Bool, true, false, ◌&&◌, cond}
 use mathlib.Core.List.{List, [], ◌∷◌, append_assoc}
 use mathlib.Core.Path.{◌≡◌, refl, ap, ◌∙◌}
-use Prim.Native.Nat.{ℕ, ◌+◌, ◌-◌, ◌/◌, ◌%◌, ◌<◌}
+use Prim.Native.Nat.{ℕ, ◌+◌, ◌*◌, ◌-◌, ◌/◌, ◌%◌, ◌<◌}
 use native.Mathlib.Omega.{arith}
-use lib.ListN.{length, take, drop, take-append-drop}
+use lib.Dec.{eqb}
+use lib.ListN.{get_or, length, take, drop, take-append-drop}
 use lib.Seq.{sets, sets-eq, drop-drop}
 use borrow.Author.Tests.{ne_eqb}
-use Rattle.paper.specs.Count.{namings, holdings, counts_right, recounted, untrue}
+use Rattle.paper.specs.Count.{says, namings, holdings, counts_right, recounted, untrue}
 use Rattle.paper.specs.Number.{bytes_of}
-use Rattle.paper.specs.Record.{byte, is_kind, directory}
+use Rattle.paper.specs.Record.{byte, two, is_kind, directory}
 use Rattle.paper.specs.Store.{puts, fills}
 use Rattle.paper.specs.Table.{rooms, rec}
 use Rattle.records.specs.Counts.{tells}
-use Rattle.laws.proofs.Lay.{length-rec}
+use Rattle.laws.proofs.Lay.{length-rec, byte-rec}
+use Rattle.laws.proofs.Numbers.{number-two}
+use Rattle.records.proofs.Said.{says-number}
 use Rattle.laws.proofs.Recounts.{length-recounted}
 use Rattle.effects.specs.Corrected.{told, corrects}
 use Rattle.effects.specs.Counted.{Counted}
@@ -23,19 +26,27 @@ use Rattle.effects.proofs.Counted.{counted-more, rec-ahead}
 -- ---- one heading
 
 module _ (n m : ℕ) (r : List ℕ) (l : length r ≡ 32) where
-  pub told-file : directory r ≡ false → sets r 12 (n % 256 ∷ n / 256 % 256 ∷ []) ≡ told n m r
+  pub told-file : directory r ≡ false → sets r 12 (bytes_of 2 n) ≡ told n m r
   unfolding told bytes_of
   told-file d =
       sets-eq (n % 256 ∷ n / 256 % 256 ∷ []) r 12 (omega arith)
       ∙ append_assoc (take 12 r) (n % 256 ∷ n / 256 % 256 ∷ []) (drop 14 r)
       ∙ rw (d, ← (drop-drop 2 14 r), take-append-drop 2 (drop 14 r))
 
-  pub told-directory : directory r ≡ true → sets r 12 (n % 256 ∷ n / 256 % 256 ∷ m % 256 ∷ m / 256 % 256 ∷ []) ≡ told n m r
+  pub told-directory : directory r ≡ true → sets (sets r 12 (bytes_of 2 n)) 14 (bytes_of 2 m) ≡ told n m r
   unfolding told bytes_of
   told-directory d =
       sets-eq (n % 256 ∷ n / 256 % 256 ∷ m % 256 ∷ m / 256 % 256 ∷ []) r 12 (omega arith)
       ∙ append_assoc (take 12 r) (n % 256 ∷ n / 256 % 256 ∷ m % 256 ∷ m / 256 % 256 ∷ []) (drop 16 r)
       ∙ rw d
+
+-- the two bytes of a record of a table are a number, or not
+pub says-two : (t : List ℕ) (i j n : ℕ) → i < rooms t → j < 31 → ((k : ℕ) → get_or t k 0 < 256) → n < 65536
+    → says n j (rec t i) ≡ eqb (two (rec t i) j) n
+says-two t i j n l m b s =
+    let low : byte (rec t i) j < 256 = rw (byte-rec t i j (omega arith)) (b (i * 32 + j)) in
+    let high : byte (rec t i) (j + 1) < 256 = rw (byte-rec t i (j + 1) (omega arith)) (b (i * 32 + (j + 1))) in
+    rw (number-two (rec t i) j) (says-number (rec t i) j (length-rec t i l) m n low high s)
 
 -- the store, or none
 module _ (n m i : ℕ) (r : List ℕ) where

@@ -14,7 +14,7 @@ use Rattle.paper.specs.Block.{blocks}
 use Rattle.laws.proofs.Lists.{join-cong, sets-append}
 use Rattle.effects.specs.Listed.{between}
 
-join-split : (f : ℕ → List ℕ) (p m : ℕ) → join_below f (p + m) ≡ join_below f p ++ join_below (λ i. f (p + i)) m
+pub join-split : {A : Type 0} (f : ℕ → List A) (p m : ℕ) → join_below f (p + m) ≡ join_below f p ++ join_below (λ i. f (p + i)) m
 unfolding join_below
 join-split f p zero = rw add-zero (sym (append-nil (join_below f p)))
 join-split f p (suc m) = rw (add-suc, join-split f p m) (append_assoc (join_below f p) (join_below (λ i. f (p + i)) m) (f (p + m)))

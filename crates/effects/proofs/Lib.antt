@@ -9,3 +9,4 @@ pub mod Counted
 pub mod Corrected
 pub mod Namings
 pub mod Allowed
+pub mod Tallies

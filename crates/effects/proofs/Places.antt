@@ -16,7 +16,7 @@ use borrow.Author.Tests.{eq-eqb, ne_eqb, leb-true, lt-ltb, le-ltb}
 use Rattle.paper.specs.Scan.{Found, at, nowhere, or_else, first_below, count_below}
 use Rattle.paper.specs.Record.{byte, is_kind, heading_of, position, text_at}
 use Rattle.paper.specs.Table.{sized, rooms, rec, room, place, text_room}
-use Rattle.laws.proofs.Tests.{and_both, and_left, and_right, and-no-left, and-no-right}
+use Rattle.laws.proofs.Tests.{and_both, and_left, and_right, and-no-right}
 use Rattle.laws.proofs.Scans.{first-here, first-at}
 use Rattle.laws.proofs.Counts.{count-cong, count-more-at, count-least}
 use Rattle.laws.proofs.Lay.{byte-rec}
@@ -145,15 +145,6 @@ pub kind-here : (t : List ℕ) (i : ℕ) → byte (rec t i) 0 ≡ get_or t (i * 
 kind-here t i = byte-rec t i 0 (omega arith) ∙ rw add-zero
 
 -- text of a heading, or not, by its kind and its heading
-pub text-by : (t : List ℕ) (h i : ℕ) → get_or t (i * 32) 0 ≡ 3 → heading_of (rec t i) ≡ h → text_of h (rec t i) ≡ true
-text-by t h i e f = and_both (is_kind 3 (rec t i)) _ (eq-eqb _ _ (kind-here t i ∙ e)) (eq-eqb _ _ f)
-
-pub wrong-kind : (t : List ℕ) (h i : ℕ) → (get_or t (i * 32) 0 ≡ 3 → ⊥) → text_of h (rec t i) ≡ false
-wrong-kind t h i d = and-no-left (is_kind 3 (rec t i)) _ (ne_eqb _ _ (λ (x : byte (rec t i) 0 ≡ 3). d (sym (kind-here t i) ∙ x)))
-
-pub wrong-heading : (t : List ℕ) (h i : ℕ) → (heading_of (rec t i) ≡ h → ⊥) → text_of h (rec t i) ≡ false
-wrong-heading t h i d = and-no-right (is_kind 3 (rec t i)) _ (ne_eqb _ _ d)
-
 -- .. and not at the position p
 text-none : (h p : ℕ) (r : List ℕ) → text_of h r ≡ false → text_at h p r ≡ false
 text-none h p r e = go (is_kind 3 r) (eqb (heading_of r) h) (eqb (position r) p) e

@@ -4,7 +4,7 @@ use mathlib.Core.Bool.{Bool, true, false, cond}
 use mathlib.Core.List.{List, [], ◌∷◌, append-nil}
 use mathlib.Core.Logic.{◌≢◌}
 use mathlib.Core.Path.{◌≡◌, refl, ap, ◌∙◌}
-use Prim.Native.Nat.{ℕ, ◌+◌, ◌≤◌}
+use Prim.Native.Nat.{ℕ, ◌+◌, ◌≤◌, min, max}
 use native.Mathlib.Omega.{arith}
 use lib.Dec.{eqb}
 use lib.ListN.{length, length-append}
@@ -14,7 +14,7 @@ use Rattle.paper.specs.Store.{puts, run}
 use Rattle.paper.specs.Answer.{yes_no}
 use Rattle.laws.proofs.Runs.{rooms-run}
 use Rattle.effects.specs.Stage.{Made}
-use Rattle.effects.specs.Counts.{lower, higher, one_of, other_of, moved, recount, count_store, count_stores, count_moves}
+use Rattle.effects.specs.Counts.{one_of, other_of, moved, recount, count_store, count_stores, count_moves}
 use Rattle.effects.specs.declared.counts.Moves.{Moves}
 use Rattle.effects.proofs.Stages.{made_none, made-onto}
 
@@ -31,16 +31,18 @@ made-moved t u k l m i bytes e q x = rw (e, ← q) x
 
 -- ---- both
 
-pub made-alone : (t u : List ℕ) (k l : ℕ) (m : Moves) (a b c : ℕ) → a ≡ one_of m → b ≡ other_of m → c ≡ lower a b → a ≡ b
-    → Made t u k l (count_store t m c) → Made t u k l (count_stores t m)
+pub made-alone : (t u : List ℕ) (k l : ℕ) (m : Moves) (a b : ℕ) → a ≡ min (one_of m) (other_of m) → b ≡ max (one_of m) (other_of m) → a ≡ b
+    → Made t u k l (count_store t m a) → Made t u k l (count_stores t m)
 unfolding count_stores
-made-alone t u k l m a b c p q r e x = rw (← p, ← q, ← r, eq-eqb a b e, append-nil) x
+made-alone t u k l m a b p q e x =
+    let same : one_of m ≡ other_of m = omega arith in rw (← p, eq-eqb (one_of m) (other_of m) same, append-nil) x
 
-pub made-two : (t u v : List ℕ) (k l n : ℕ) (m : Moves) (a b c d : ℕ) → a ≡ one_of m → b ≡ other_of m → c ≡ lower a b → d ≡ higher a b → a ≢ b
-    → Made t u k l (count_store t m c) → Made u v l n (count_store u m d) → Made t v k n (count_stores t m)
+pub made-two : (t u v : List ℕ) (k l n : ℕ) (m : Moves) (a b : ℕ) → a ≡ min (one_of m) (other_of m) → b ≡ max (one_of m) (other_of m) → a ≢ b
+    → Made t u k l (count_store t m a) → Made u v l n (count_store u m b) → Made t v k n (count_stores t m)
 unfolding count_stores
-made-two t u v k l n m a b c d p q r s e x y =
-    rw (← p, ← q, ← r, ← s, ne_eqb a b e) (made-onto t u v k l n (count_store t m c) (λ w. count_store w m d) x y)
+made-two t u v k l n m a b p q d x y =
+    let two : one_of m ≢ other_of m = λ e. d (omega arith) in
+    rw (← p, ← q, ne_eqb (one_of m) (other_of m) two) (made-onto t u v k l n (count_store t m a) (λ w. count_store w m b) x y)
 
 -- ---- how many
 
@@ -57,10 +59,10 @@ unfolding count_stores count_moves
 count-length t m = rw (length-append, store_length t m c) (ap (λ (n : ℕ). yes_no (moved (rooms t) m c) + n) (go (eqb (one_of m) (other_of m))))
   where
     c : ℕ
-    c = lower (one_of m) (other_of m)
+    c = min (one_of m) (other_of m)
 
     d : ℕ
-    d = higher (one_of m) (other_of m)
+    d = max (one_of m) (other_of m)
 
     u : List ℕ
     u = run t (count_store t m c)
@@ -73,17 +75,16 @@ yes-most : (b : Bool) → yes_no b ≤ 1
 yes-most true = omega arith
 yes-most false = omega arith
 
-pub counts_alone : (n : ℕ) (m : Moves) (a b c x : ℕ) (y : Bool) → a ≡ one_of m → b ≡ other_of m → c ≡ lower a b → a ≡ b → y ≡ moved n m c
-    → x ≡ 0 + yes_no y → (x ≡ count_moves n m) × (x ≤ 2)
+pub counts-alone : (n : ℕ) (m : Moves) (a b : ℕ) (x : Bool) → a ≡ min (one_of m) (other_of m) → b ≡ max (one_of m) (other_of m) → a ≡ b
+    → x ≡ moved n m a → (yes_no x + 0 ≡ count_moves n m) × (yes_no x + 0 ≤ 2)
 unfolding count_moves
-counts_alone n m a b c x y p q r e f g =
-    (rw (← p, ← q, ← r, ← f, eq-eqb a b e) (omega (arith, g)), omega (arith, g, yes-most y))
+counts-alone n m a b x p q e f =
+    let same : one_of m ≡ other_of m = omega arith in
+    (rw (← p, ← f, eq-eqb (one_of m) (other_of m) same), omega (arith, yes-most x))
 
-pub counts-two : (n : ℕ) (m : Moves) (a b c d x z : ℕ) (y w : Bool) → a ≡ one_of m → b ≡ other_of m → c ≡ lower a b → d ≡ higher a b → a ≢ b
-    → y ≡ moved n m c → w ≡ moved n m d → x ≡ 0 + yes_no y → z ≡ x + yes_no w → (z ≡ count_moves n m) × (z ≤ 2)
+pub counts-two : (n : ℕ) (m : Moves) (a b : ℕ) (x y : Bool) → a ≡ min (one_of m) (other_of m) → b ≡ max (one_of m) (other_of m) → a ≢ b
+    → x ≡ moved n m a → y ≡ moved n m b → (yes_no x + yes_no y ≡ count_moves n m) × (yes_no x + yes_no y ≤ 2)
 unfolding count_moves
-counts-two n m a b c d x z y w p q r s e f h g k =
-    (rw (← p, ← q, ← r, ← s, ← f, ← h, ne_eqb a b e) (omega (arith, g, k)), omega (arith, g, k, yes-most y, yes-most w))
-
-pub one-small : (x : ℕ) (y : Bool) → x ≡ 0 + yes_no y → x ≤ 1
-one-small x y g = omega (arith, g, yes-most y)
+counts-two n m a b x y p q d f g =
+    let two : one_of m ≢ other_of m = λ e. d (omega arith) in
+    (rw (← p, ← q, ← f, ← g, ne_eqb (one_of m) (other_of m) two), omega (arith, yes-most x, yes-most y))

@@ -4,3 +4,4 @@ pub mod Counts
 pub mod Counted
 pub mod Corrected
 pub mod Allowed
+pub mod Tally

@@ -1,8 +1,7 @@
 // The counts in the headings, corrected after an entry's store: those of the at most two headings that it moves, read and stored again.
-ghost use Rattle.std.specs.Prelude.{◌≡◌, ◌+◌, ◌-◌, ◌≤◌, ◌<◌};
-ghost use Rattle.paper.specs.Answer.{yes_no};
+ghost use Rattle.std.specs.Prelude.{◌≡◌, ◌≤◌, ◌<◌, min, max};
 ghost use Rattle.paper.specs.Table.{rooms};
-ghost use Rattle.effects.specs.Counts.{lower, higher, count_after, turned, moved, count_store, count_stores, count_moves};
+ghost use Rattle.effects.specs.Counts.{number_of, one_of, other_of, count_after, turned, moved, count_store, count_stores, count_moves};
 ghost use Rattle.effects.specs.Stage.{Made};
 
 use crate::stage::put;
@@ -10,88 +9,55 @@ use records::bytes::{Room, rooms};
 use records::heading::{held_count, named_count, recounted};
 
 // The headings whose counts an entry's store moves: the one that it names, the one that an entry named there before it, and the
-// directory that holds one entry more, or one less; 65,535 for none.
+// directory that holds one entry more, or one less.
 #[derive(Clone, Copy)]
 pub struct Moves {
-    pub named: Room,
-    pub lost: Room,
-    pub more: Room,
-    pub less: Room,
+    pub named: Option<Room>,
+    pub lost: Option<Room>,
+    pub more: Option<Room>,
+    pub less: Option<Room>,
 }
 
-impl Moves {
-    pub const NONE: usize = 65535;
-}
-
-fn lower(a: Room, b: Room) -> Room
-    ensures { result.0 ≡ lower a.0 b.0 }
+// The number of a heading; where there is none, one that no table's record has.
+fn number_of(heading: Option<Room>) -> usize
+    ensures { result ≡ number_of heading }
 {
-    if a.0 < b.0 {
-        return a;
-    }
-    b
+    heading.map_or(65535, |room| room.0)
 }
 
-fn higher(a: Room, b: Room) -> Room
-    ensures { result.0 ≡ higher a.0 b.0 }
+// The two headings whose counts move, the lower one first; where there is but one, it is both.
+fn both_of(moves: Moves) -> (Room, Room)
+    ensures { (result.0.0 ≡ min (one_of moves) (other_of moves)) × (result.1.0 ≡ max (one_of moves) (other_of moves)) }
 {
-    if a.0 < b.0 {
-        return b;
-    }
-    a
-}
-
-fn one_more(n: usize, yes: bool) -> usize
-    requires { n < 65536 }
-    ensures { result ≡ n + yes_no yes }
-{
-    if yes {
-        return n + 1;
-    }
-    n
-}
-
-fn one_less(n: usize, yes: bool) -> usize
-    ensures { result ≡ n - yes_no yes }
-{
-    if !yes {
-        return n;
-    }
-    if n == 0 {
-        return 0;
-    }
-    n - 1
+    let one = number_of(moves.named).min(number_of(moves.less));
+    let other = number_of(moves.lost).min(number_of(moves.more));
+    (Room(one.min(other)), Room(one.max(other)))
 }
 
 // The count of a heading, where one has one more and one has one less.
-fn count_after(count: Room, heading: Room, up: Room, down: Room) -> Room
+fn count_after(count: Room, heading: Room, up: Option<Room>, down: Option<Room>) -> Room
     requires { count.0 < 65536 }
-    ensures { result.0 ≡ count_after count.0 heading.0 up.0 down.0 }
+    ensures { result.0 ≡ count_after count.0 heading.0 (number_of up) (number_of down) }
 {
-    Room(one_less(one_more(count.0, heading.0 == up.0), heading.0 == down.0))
+    let grown = count.0 + usize::from(heading.0 == number_of(up));
+    Room(grown.saturating_sub(usize::from(heading.0 == number_of(down))))
 }
 
 // Whether that is another count.
-fn is_turned(heading: Room, up: Room, down: Room) -> bool
-    ensures { result ≡ turned heading.0 up.0 down.0 }
+fn is_turned(heading: Room, up: Option<Room>, down: Option<Room>) -> bool
+    ensures { result ≡ turned heading.0 (number_of up) (number_of down) }
 {
-    if heading.0 == up.0 {
-        return heading.0 != down.0;
-    }
-    heading.0 == down.0
+    (heading.0 == number_of(up)) != (heading.0 == number_of(down))
 }
 
 // Whether a count of a heading moves, in a table of so many records.
+#[tactic(auto, unfolding(crate::specs::Counts::moved))]
 fn is_moved(most: Room, moves: Moves, heading: Room) -> bool
     ensures { result ≡ moved most.0 moves heading.0 }
 {
-    if most.0 <= heading.0 {
-        return false;
-    }
-    if is_turned(heading, moves.named, moves.lost) {
-        return true;
-    }
-    is_turned(heading, moves.more, moves.less)
+    heading.0 < most.0
+        && (is_turned(heading, moves.named, moves.lost)
+            || is_turned(heading, moves.more, moves.less))
 }
 
 // "one store each": a heading's, if a count of it moves.
@@ -116,13 +82,12 @@ fn recount_one(table: &mut [u8], moves: Moves, heading: Room, left: usize) -> us
 pub fn recount(table: &mut [u8], moves: Moves, left: usize) -> usize
     ensures { Made table.old table.new left result (count_stores table.old moves) }
 {
-    let a = lower(moves.named, moves.less);
-    let b = lower(moves.lost, moves.more);
-    let rest = recount_one(table, moves, lower(a, b), left);
-    if a.0 == b.0 {
+    let (low, high) = both_of(moves);
+    let rest = recount_one(table, moves, low, left);
+    if low.0 == high.0 {
         return rest;
     }
-    recount_one(table, moves, higher(a, b), rest)
+    recount_one(table, moves, high, rest)
 }
 
 // How many stores these are.
@@ -130,11 +95,8 @@ pub fn count_moves(table: &[u8], moves: Moves) -> usize
     ensures { (result ≡ count_moves (rooms table.now) moves) × (result ≤ 2) }
 {
     let most = rooms(table);
-    let a = lower(moves.named, moves.less);
-    let b = lower(moves.lost, moves.more);
-    let first = one_more(0, is_moved(most, moves, lower(a, b)));
-    if a.0 == b.0 {
-        return first;
-    }
-    one_more(first, is_moved(most, moves, higher(a, b)))
+    let (low, high) = both_of(moves);
+    let first = is_moved(most, moves, low);
+    let second = low.0 != high.0 && is_moved(most, moves, high);
+    usize::from(first) + usize::from(second)
 }

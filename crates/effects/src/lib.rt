@@ -1,7 +1,6 @@
 // The stages of a request's stores, and the passes over a table that they stand on.
 #![tactic(auto)]
 
-mod block;
 pub mod counts;
 pub mod naming;
 pub mod numbers;

@@ -14,10 +14,11 @@ fn clear_if_naming(table: &mut [u8], heading: Room, room: Room, left: usize) -> 
     ensures { Made table.old table.new left result
         (cond (names heading.0 (rec table.old room.0)) (clear room.0 ∷ []) []) }
 {
-    if !names(table, room, heading) {
-        return left;
+    if names(table, room, heading) {
+        put(table, room, [0u8; Room::SIZE], left)
+    } else {
+        left
     }
-    put(table, room, [0u8; Room::SIZE], left)
 }
 
 // "then every entry naming it, by record number"
@@ -25,12 +26,9 @@ pub fn clear_naming(table: &mut [u8], heading: Room, left: usize) -> usize
     ensures { Made table.old table.new left result
         (clears (λ i. names heading.0 (rec table.old i)) (rooms table.old)) }
 {
-    let n = rooms(table).0;
     let mut rest = left;
-    let mut i: usize = 0;
-    while i < n {
+    for i in 0..rooms(table).0 {
         rest = clear_if_naming(table, heading, Room(i), rest);
-        i += 1;
     }
     rest
 }

@@ -8,9 +8,9 @@ ghost use Rattle.effects.specs.Counted.{Counted};
 ghost use Rattle.effects.specs.Corrected.{told, corrects};
 
 use crate::numbers::{count_holds, count_names};
-use records::bytes::{Room, byte_of, is_sized, kind_of, rooms};
+use records::bytes::{Room, is_sized, kind_of, rooms, two_bytes, two_of};
 use records::heading::{Heading, is_directory};
-use records::store::{store, whole};
+use records::store::{copy_in, store, whole};
 
 // A heading's record with these counts; a file that is no directory keeps its bytes 14-15.
 fn counted(table: &[u8], room: Room, named: u16, held: u16) -> [u8; Room::SIZE]
@@ -18,38 +18,20 @@ fn counted(table: &[u8], room: Room, named: u16, held: u16) -> [u8; Room::SIZE]
     ensures { result ≡ told named held (rec table.now room.0) }
 {
     let mut r = whole(table, room);
-    r[Heading::NAMED] = (named % 256) as u8;
-    r[Heading::NAMED + 1] = (named / 256 % 256) as u8;
-    if !is_directory(table, room) {
-        return r;
+    copy_in(&mut r, Heading::NAMED, &two_bytes(named as usize));
+    if is_directory(table, room) {
+        copy_in(&mut r, Heading::HELD, &two_bytes(held as usize));
     }
-    r[Heading::HELD] = (held % 256) as u8;
-    r[Heading::HELD + 1] = (held / 256 % 256) as u8;
     r
 }
 
-// Whether the two bytes of record i from a place on are a number.
-fn is_said(table: &[u8], i: usize, place: usize, n: u16) -> bool
-    requires { (i < rooms table.now) × (place < 31) }
-    ensures { result ≡ says n place (rec table.now i) }
+// Whether a heading says these counts.
+fn is_told(table: &[u8], room: Room, named: u16, held: u16) -> bool
+    requires { room.0 < rooms table.now }
+    ensures { result ≡ tells named held (rec table.now room.0) }
 {
-    let low = byte_of(table, Room(i), place) as u16;
-    let high = byte_of(table, Room(i), place + 1) as u16;
-    low + high * 256 == n
-}
-
-// Whether heading i says these counts.
-fn is_told(table: &[u8], i: usize, named: u16, held: u16) -> bool
-    requires { i < rooms table.now }
-    ensures { result ≡ tells named held (rec table.now i) }
-{
-    if !is_said(table, i, Heading::NAMED, named) {
-        return false;
-    }
-    if !is_directory(table, Room(i)) {
-        return true;
-    }
-    is_said(table, i, Heading::HELD, held)
+    two_of(table, room, Heading::NAMED) == named
+        && (!is_directory(table, room) || two_of(table, room, Heading::HELD) == held)
 }
 
 // Record i, if it is a heading that says other counts, is stored with these if the stop number allows one more store; how many are needed
@@ -66,17 +48,14 @@ fn correct_turn(
     ensures { Counted table.old table.new stop needed result (corrects named held i (rec table.old i))
         × (result ≤ needed + 1) }
 {
-    if kind_of(table, Room(i)) != Heading::KIND {
+    let room = Room(i);
+    if kind_of(table, room) != Heading::KIND || is_told(table, room, named, held) {
         return needed;
     }
-    if is_told(table, i, named, held) {
-        return needed;
+    if needed < stop {
+        let bytes = counted(table, room, named, held);
+        store(table, room, bytes);
     }
-    if stop <= needed {
-        return needed + 1;
-    }
-    let r = counted(table, Room(i), named, held);
-    store(table, Room(i), r);
     needed + 1
 }
 
@@ -90,12 +69,9 @@ fn correct_all(
     requires { (length table.old ≤ 65536) × Numbered (namings table.old) named.now × Numbered (holdings table.old) held.now }
     ensures { Counted table.old table.new stop 0 result (recounts table.old) × (result ≤ 2048) }
 {
-    let n = rooms(table).0;
     let mut needed: usize = 0;
-    let mut i: usize = 0;
-    while i < n {
+    for i in 0..rooms(table).0 {
         needed = correct_turn(table, named[i], held[i], i, needed, stop);
-        i += 1;
     }
     needed
 }

@@ -11,16 +11,17 @@ use Rattle.paper.specs.Request as asked
 use Rattle.paper.specs.Request.{crd, wrs, rds, cpy, dup, chn, del, dst, dpr, lst, lst_base, lst_tree, lst_base_tree, rewrite, request, unread, read, text_too_long}
 use Rattle.paper.specs.Request.{own, take_of, give_to}
 use Rattle.laws.proofs.Tests.{clash}
-use Rattle.words.specs.Shown.{begin_shown, begin_meant, shown_part, meant_part}
-use Rattle.declarations.proofs.Parts.{lifetime-back, level-back, digit-back}
-use Rattle.reader.specs.Asked.{shown_request, shown_read}
+use Rattle.words.specs.Shown.{begin_shown, begin_meant}
+use Rattle.records.specs.Part.{shown_part, meant_part}
+use Rattle.reader.specs.Asked.{shown_request}
 use Rattle.reader.specs.Tied.{Tied, TiedRead}
 use Rattle.reader.specs.declared.request.Request.{Request}
 use Rattle.reader.specs.contracts.request.Request.{the_type}
 use Rattle.reader.specs.declared.request.Request.TheVariants.{Crd, Wrs, Rds, Cpy, Dup, Chn, Del, Dst, Dpr, Lst, LstBase, LstTree, LstBaseTree, Rewrite}
-use Rattle.reader.specs.declared.request.Read.TheVariants as answers
+use Rattle.std.specs.Prelude.{Ok}
 use Rattle.reader.proofs.Ties.{tied}
 use Rattle.elephant.specs.Meant.{request_meant}
+use Rattle.reader.specs.Asked.{shown_read}
 use Rattle.elephant.proofs.Grants.{word-there}
 
 begin-back : (b : asked.Begin) → begin_meant (begin_shown b) ≡ b
@@ -33,13 +34,13 @@ part-back (given n) = refl
 part-back not_given = refl
 
 pub request-back : (line : List ℕ) (q : asked.Request) → Tied line q → request_meant line (shown_request q) ≡ q
-request-back line (crd w v d) t = rw (word-there line 1 w t, level-back v, digit-back d)
-request-back line (wrs f v d w) t = rw (word-there line 2 w t, level-back v, digit-back d)
+request-back line (crd w v d) t = rw (word-there line 1 w t, part-back v, part-back d)
+request-back line (wrs f v d w) t = rw (word-there line 2 w t, part-back v, part-back d)
 request-back line (rds b w f n) t = rw (begin-back b, word-there line 1 w t, part-back f, part-back n)
 request-back line (cpy b o n f v d) t =
-    rw (begin-back b, word-there line 1 o t.0, word-there line 2 n t.1, lifetime-back f, level-back v, digit-back d)
+    rw (begin-back b, word-there line 1 o t.0, word-there line 2 n t.1, part-back f, part-back v, part-back d)
 request-back line (dup b o e n d) t =
-    rw (begin-back b, begin-back e, word-there line 1 o t.0, word-there line 2 n t.1, digit-back d)
+    rw (begin-back b, begin-back e, word-there line 1 o t.0, word-there line 2 n t.1, part-back d)
 request-back line (chn o l) t = rw (word-there line 1 o t.0, word-there line 2 l t.1)
 request-back line (del ws) t = ap del (sym t)
 request-back line (dst ws) t = ap dst (sym t)
@@ -51,10 +52,10 @@ request-back line (lst_base_tree d) t = refl
 request-back line (rewrite w) t = rw (word-there line 2 w t)
 
 -- what was read, from what the reader answers
-pub read-granted : (line : List ℕ) (r : Request) → answers.Granted r ≡ shown_read (read line) → read line ≡ request (request_meant line r)
+pub read-granted : (line : List ℕ) (r : Request) → Ok r ≡ shown_read (read line) → read line ≡ request (request_meant line r)
 read-granted line r e = go (read line) (tied line) e
   where
-    go : (x : asked.Read) → TiedRead line x → answers.Granted r ≡ shown_read x → x ≡ request (request_meant line r)
+    go : (x : asked.Read) → TiedRead line x → Ok r ≡ shown_read x → x ≡ request (request_meant line r)
     go (request q) t z =
         unfold TiedRead in
         let y : r ≡ shown_request q = cc in

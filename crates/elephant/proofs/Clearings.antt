@@ -6,8 +6,9 @@ use mathlib.Core.Path.{◌≡◌, sym, ap, ◌∙◌}
 use Prim.Native.Nat.{ℕ, ◌+◌, ◌≤◌, ◌<◌}
 use native.Mathlib.Omega.{arith}
 use lib.ListN.{length, length-append}
+use Rattle.std.specs.Prelude.{Result, Err}
 use Rattle.paper.specs.Code.{no_write}
-use Rattle.paper.specs.Check.{Place}
+use Rattle.paper.specs.Check.{Place, refusal_at}
 use Rattle.paper.specs.Record.{byte, text_length, holder_of, heading_named, blank}
 use Rattle.paper.specs.Table.{rooms, rec, lay}
 use Rattle.paper.specs.Block.{blocks, blocks_of}
@@ -25,13 +26,11 @@ use Rattle.effects.specs.declared.counts.Moves.{Moves}
 use Rattle.effects.proofs.Recounts.{count-length}
 use Rattle.placing.specs.Placing.{last_by, gone, peopled_by}
 use Rattle.placing.proofs.Meeting.{peopled-met, cleared-lost, cleared-corrected}
-use Rattle.answers.specs.Shown.{place_shown}
 use Rattle.walk.specs.Shown.{meant}
 use Rattle.walk.specs.declared.state.State.{State}
 use Rattle.elephant.specs.Done.{Fit, Filed}
-use Rattle.elephant.specs.Removed.{spent, Spent, Came}
-use Rattle.elephant.specs.declared.removal.Removed.{Removed}
-use Rattle.elephant.specs.declared.removal.Removed.TheVariants.{Ended}
+use Rattle.elephant.specs.Removed.{ended_at, ended_meant, left_told, spent, Spent, Came}
+use Rattle.elephant.specs.declared.removal.Ended.{Ended}
 use Rattle.elephant.proofs.Verdicts.{first_holds, second_holds, both-pass, came_refused, came-passed}
 
 -- ---- an entry and its file
@@ -41,7 +40,8 @@ module _ (t : List ℕ) (h : ℕ) (f : Fit t) (l : h < rooms t) (k : byte (rec t
   few = omega (arith, length_most (rec t h) (((sound-clauses t f.sized f.sound).own h l).heading k))
 
   -- a file freed, by the records listed and their count
-  pub freed-rooms : (r : List ℕ) (b n : ℕ) → r ≡ text_rooms t h b → b ≡ blocks n → n ≡ text_length (rec t h) → freed t h ≡ clear_stores h r b
+  pub freed-rooms : (r : List ℕ) (b n : ℕ) → r ≡ text_rooms t h b → b ≡ blocks n → n ≡ text_length (rec t h)
+      → freed t h ≡ clear_stores h r b
   freed-rooms r b n p q o = file-freed t h f.sized few ∙ rw (p, q, o)
 
 module _ (t : List ℕ) (e : ℕ) (m : Moves) where
@@ -52,15 +52,16 @@ module _ (t : List ℕ) (e : ℕ) (m : Moves) where
   counts-length = count-length (lay t e blank) m ∙ ap (λ (n : ℕ). count_moves n m) (rooms-lay t e blank)
 
   -- the entry and the counts that its clearing moves
-  pub one-cleared : (v : List ℕ) (left rest n : ℕ) (a : Removed) → n ≡ count_moves (rooms t) m → Made t v left rest out → a ≡ spent left (n + 1)
+  pub one-cleared : (v : List ℕ) (left rest n : ℕ) (a : Result ℕ Ended) → n ≡ count_moves (rooms t) m → Made t v left rest out
+      → left_told a ≡ spent left (n + 1)
       → Spent t left out a v
   one-cleared v left rest n a z x o =
       let q : n + 1 ≡ length out = omega (arith, counts-length, z) in
       record { answer = o ∙ ap (spent left) q; table = x.table }
 
   -- two stages, the entry with its counts and the file
-  pub both-cleared : (h : ℕ) (r : List ℕ) (b : ℕ) → freed t h ≡ clear_stores h r b → (u v : List ℕ) (left rest y c : ℕ) (a : Removed)
-      → c ≡ count_moves (rooms t) m → Made t u left rest out → Made u v rest y (clear_stores h r b) → a ≡ spent left (c + (b + 2))
+  pub both-cleared : (h : ℕ) (r : List ℕ) (b : ℕ) → freed t h ≡ clear_stores h r b → (u v : List ℕ) (left rest y c : ℕ) (a : Result ℕ Ended)
+      → c ≡ count_moves (rooms t) m → Made t u left rest out → Made u v rest y (clear_stores h r b) → left_told a ≡ spent left (c + (b + 2))
       → Spent t left (out ++ freed t h) a v
   both-cleared h r b g u v left rest y c a z x w o =
       let q : c + (b + 2) ≡ length (out ++ clear_stores h r b) =
@@ -73,8 +74,9 @@ module _ (t : List ℕ) (place : Place) (k : ℕ) (d f : State) where
   abbrev e : ℕ
   e = f.entry.0
 
-  pub del-shut : no_write d.code.0 ≡ true → Came t k (del_at t place (meant d) (meant f)) (Ended 14 (place_shown place) k) t
-  del-shut a = came_refused t k _ _ (first_holds (write_inhibited place (meant d)) _ a)
+  pub del-shut : no_write d.code.0 ≡ true → (q : Ended) → ended_meant q ≡ ended_at k (refusal_at 14 place)
+      → Came t k (del_at t place (meant d) (meant f)) (Err q) t
+  del-shut a q m = came_refused t k _ _ q m (first_holds (write_inhibited place (meant d)) _ a)
 
   module _ (a : no_write d.code.0 ≡ false) (x : Filed t (meant f)) (h : ℕ) (g : h ≡ heading_named (rec t e)) where
     abbrev moves : Moves
@@ -89,13 +91,14 @@ module _ (t : List ℕ) (place : Place) (k : ℕ) (d f : State) where
         cleared-corrected t x.fit.sized x.fit.sound e x.entry x.stands
         ∙ ap (λ (n : ℕ). count_stores (lay t e blank) (gone (holder_of (rec t e)) n)) (sym g)
 
-    passed : (ss : List Store) (r : Removed) (v : List ℕ) → losing t e blank ≡ false → with_counts t (clear e ∷ []) ++ settled t e blank ≡ ss
+    passed : (ss : List Store) (r : Result ℕ Ended) (v : List ℕ) → losing t e blank ≡ false
+        → with_counts t (clear e ∷ []) ++ settled t e blank ≡ ss
         → Spent t k ss r v → Came t k (del_at t place (meant d) (meant f)) r v
     passed ss r v b q z =
         came-passed t v k _ r (both-pass (write_inhibited place (meant d)) (still_peopled place (losing t e blank)) a b) (rw q z)
 
     -- another entry names the file
-    pub del-kept : last_by t h ≡ false → (r : Removed) (v : List ℕ) → Spent t k (clear e ∷ count_stores (lay t e blank) moves) r v
+    pub del-kept : last_by t h ≡ false → (r : Result ℕ Ended) (v : List ℕ) → Spent t k (clear e ∷ count_stores (lay t e blank) moves) r v
         → Came t k (del_at t place (meant d) (meant f)) r v
     unfolding losing settled
     del-kept z r v w =
@@ -108,13 +111,15 @@ module _ (t : List ℕ) (place : Place) (k : ℕ) (d f : State) where
       unfolding losing
       losing-by = rw (lost-by true z, ← g) (peopled-met t x.fit.sized x.fit.sound h)
 
-      pub del-peopled : peopled_by t h ≡ true → Came t k (del_at t place (meant d) (meant f)) (Ended 18 (place_shown place) k) t
-      del-peopled y =
-          came_refused t k _ _
+      pub del-peopled : peopled_by t h ≡ true → (q : Ended) → ended_meant q ≡ ended_at k (refusal_at 18 place)
+          → Came t k (del_at t place (meant d) (meant f)) (Err q) t
+      del-peopled y q m =
+          came_refused t k _ _ q m
           (second_holds (write_inhibited place (meant d)) (still_peopled place (losing t e blank)) [] a (losing-by ∙ y))
 
       -- the file is lost
-      pub del-freed : peopled_by t h ≡ false → (r : Removed) (v : List ℕ) → Spent t k (clear e ∷ count_stores (lay t e blank) moves ++ freed t h) r v
+      pub del-freed : peopled_by t h ≡ false → (r : Result ℕ Ended) (v : List ℕ)
+          → Spent t k (clear e ∷ count_stores (lay t e blank) moves ++ freed t h) r v
           → Came t k (del_at t place (meant d) (meant f)) r v
       unfolding settled
       del-freed y r v w =

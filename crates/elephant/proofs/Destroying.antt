@@ -11,8 +11,9 @@ use lib.Dec.{eqb}
 use lib.ListN.{length, take, length-append}
 use lib.Seq.{take_all}
 use borrow.Author.Tests.{eqb-true, lt-leb}
+use Rattle.std.specs.Prelude.{Result, Err}
 use Rattle.paper.specs.Code.{no_write}
-use Rattle.paper.specs.Check.{Place}
+use Rattle.paper.specs.Check.{Place, refusal_at}
 use Rattle.paper.specs.Count.{namings, recounts}
 use Rattle.paper.specs.Record.{byte, is_kind, heading_named, names, blank}
 use Rattle.paper.specs.Table.{sized, rooms, rec}
@@ -33,13 +34,11 @@ use Rattle.effects.proofs.Papers.{clear-stores-length}
 use Rattle.effects.proofs.Stages.{made-onto}
 use Rattle.placing.specs.Placing.{peopled_by}
 use Rattle.placing.proofs.Meeting.{peopled-met}
-use Rattle.answers.specs.Shown.{place_shown}
 use Rattle.walk.specs.Shown.{meant}
 use Rattle.walk.specs.declared.state.State.{State}
 use Rattle.elephant.specs.Done.{Fit, Filed}
-use Rattle.elephant.specs.Removed.{spent, Spent, Came}
-use Rattle.elephant.specs.declared.removal.Removed.{Removed}
-use Rattle.elephant.specs.declared.removal.Removed.TheVariants.{Ended}
+use Rattle.elephant.specs.Removed.{ended_at, ended_meant, left_told, spent, Spent, Came}
+use Rattle.elephant.specs.declared.removal.Ended.{Ended}
 use Rattle.elephant.proofs.Verdicts.{first_holds, second_holds, both-pass, came_refused, came-passed}
 
 -- ---- every path to a file, and the file
@@ -85,9 +84,9 @@ module _ (t : List ℕ) (h : ℕ) (f : Fit t) (l : h < rooms t) (k : byte (rec t
         ∙ omega (arith, ap length g, clear-stores-length h r b, naming-length t h)
 
     -- three stages: the file, the entries that name it, and the counts of the table that these leave
-    pub paths-cleared : (u w v : List ℕ) (left x y n m : ℕ) (a : Removed) → Made t u left x (clear_stores h r b)
+    pub paths-cleared : (u w v : List ℕ) (left x y n m : ℕ) (a : Result ℕ Ended) → Made t u left x (clear_stores h r b)
         → Made u w x y (clears (λ i. names h (rec u i)) (rooms u)) → Counted w v y 0 m (cond (sized w) (recounts w) [])
-        → n ≡ named_count (rec t h) → a ≡ spent left (m + (n + (b + 1))) → Spent t left (with_counts t (destroying t h)) a v
+        → n ≡ named_count (rec t h) → left_told a ≡ spent left (m + (n + (b + 1))) → Spent t left (with_counts t (destroying t h)) a v
     paths-cleared u w v left x y n m a p q o e z =
         record {
           answer = z ∙ by_cases (dec_lt left (length (destroying t h))) short long;
@@ -122,19 +121,20 @@ module _ (t : List ℕ) (h : ℕ) (f : Fit t) (l : h < rooms t) (k : byte (rec t
 -- ---- one name
 
 module _ (t : List ℕ) (place : Place) (k : ℕ) (f : State) where
-  pub dst-shut : no_write f.code.0 ≡ true → Came t k (dst_at t place (meant f)) (Ended 14 (place_shown place) k) t
-  dst-shut a = came_refused t k _ _ (first_holds (write_inhibited place (meant f)) _ a)
+  pub dst-shut : no_write f.code.0 ≡ true → (q : Ended) → ended_meant q ≡ ended_at k (refusal_at 14 place)
+      → Came t k (dst_at t place (meant f)) (Err q) t
+  dst-shut a q m = came_refused t k _ _ q m (first_holds (write_inhibited place (meant f)) _ a)
 
   module _ (a : no_write f.code.0 ≡ false) (x : Filed t (meant f)) (h : ℕ) (g : h ≡ heading_named (rec t f.entry.0)) where
     peopled-by : with_entries t (heading_named (rec t f.entry.0)) ≡ peopled_by t h
     peopled-by = rw (← g) (peopled-met t x.fit.sized x.fit.sound h)
 
-    pub dst-peopled : peopled_by t h ≡ true → Came t k (dst_at t place (meant f)) (Ended 18 (place_shown place) k) t
-    dst-peopled y =
-        came_refused t k _ _
+    pub dst-peopled : peopled_by t h ≡ true → (q : Ended) → ended_meant q ≡ ended_at k (refusal_at 18 place) → Came t k (dst_at t place (meant f)) (Err q) t
+    dst-peopled y q m =
+        came_refused t k _ _ q m
         (second_holds (write_inhibited place (meant f)) (still_peopled place (with_entries t (heading_named (rec t f.entry.0)))) [] a (peopled-by ∙ y))
 
-    pub dst-destroyed : peopled_by t h ≡ false → (r : Removed) (v : List ℕ) → Spent t k (with_counts t (destroying t h)) r v
+    pub dst-destroyed : peopled_by t h ≡ false → (r : Result ℕ Ended) (v : List ℕ) → Spent t k (with_counts t (destroying t h)) r v
         → Came t k (dst_at t place (meant f)) r v
     dst-destroyed y r v w =
         came-passed t v k _ r

@@ -16,17 +16,13 @@ use Rattle.paper.specs.Walk.{last_name}
 use Rattle.paper.specs.Answer.{Outcome, granted, requested, ran, single, deleting}
 use Rattle.laws.proofs.Tests.{truth}
 use Rattle.words.specs.Place.{joined, names_from, word_at}
-use Rattle.words.specs.Shown.{begin_meant, meant_part}
+use Rattle.words.specs.Shown.{begin_meant}
+use Rattle.records.specs.Part.{meant_part}
 use Rattle.words.specs.declared.begin.Begin.{Begin}
 use Rattle.words.specs.declared.begin.Begin.TheVariants.{Own, Take, Give}
-use Rattle.words.specs.declared.octal.Part.{Part}
-use Rattle.declarations.specs.Given.{lifetime_part, level_part, digit_part}
-use Rattle.declarations.specs.declared.part.Lifetime.{Lifetime}
-use Rattle.declarations.specs.declared.part.Level.{Level}
-use Rattle.declarations.specs.declared.part.Digit.{Digit}
+use Rattle.std.specs.Prelude.{Option, Ok}
 use Rattle.reader.specs.declared.request.Request.{Request}
 use Rattle.reader.specs.declared.request.Request.TheVariants.{Crd, Wrs, Rds, Cpy, Dup, Chn, Dpr, Lst, LstBase, LstTree, LstBaseTree, Rewrite}
-use Rattle.reader.specs.declared.request.Read.TheVariants.{Granted}
 use Rattle.demands.proofs.Request.Read.{Told}
 use Rattle.demands.proofs.Request.Begun.{Gives}
 use Rattle.demands.proofs.Request.Formed as formed
@@ -71,7 +67,8 @@ module _ {t line text : List ℕ} {u : ℕ} {r : Request} (a : Admitted t line t
   hears : (q : Request) → r ≡ q → Told text (request_meant line q)
   hears q e = told line text (request_meant line q) (asks q e)
 
-  comes : (q : Request) → r ≡ q → (reply : List ℕ) (k : ℕ) → requested boxed t line text reply u k ≡ granted boxed t text reply u k (request_meant line q)
+  comes : (q : Request) → r ≡ q → (reply : List ℕ) (k : ℕ)
+      → requested boxed t line text reply u k ≡ granted boxed t text reply u k (request_meant line q)
   comes q e reply k =
       requested-granted t line text reply u k a.passed r a.read a.short
       ∙ ap (λ (x : Request). granted boxed t text reply u k (request_meant line x)) e
@@ -85,16 +82,16 @@ module _ {t line text : List ℕ} {u : ℕ} {r : Request} (a : Admitted t line t
   new-named : (p : ℕ) (s : List ℕ) → formed.Named (word_at line p) → length s ≤ 24000 → Named t line p s
   new-named p s n l = record { size = a.fit.sized; sound = a.fit.sound; short = (named-last (word_at line p) n).short; few = l; brief = line-short }
 
-  pub crd-ready : (p : ℕ) (l : Level) (d : Digit) → r ≡ Crd p l d → Named t line p []
+  pub crd-ready : (p : ℕ) (l d : Option ℕ) → r ≡ Crd p l d → Named t line p []
   crd-ready p l d e = new-named p [] (hears (Crd p l d) e).name (omega arith)
 
-  pub wrs-ready : (f : ℕ) (l : Level) (d : Digit) (p : ℕ) → r ≡ Wrs f l d p → Named t line p text
+  pub wrs-ready : (f : ℕ) (l d : Option ℕ) (p : ℕ) → r ≡ Wrs f l d p → Named t line p text
   wrs-ready f l d p e = new-named p text (hears (Wrs f l d p) e).name (hears (Wrs f l d p) e).text
 
-  pub cpy-ready : (b : Begin) (o n : ℕ) (f : Lifetime) (l : Level) (d : Digit) → r ≡ Cpy b o n f l d → Named t line n []
+  pub cpy-ready : (b : Begin) (o n : ℕ) (f l d : Option ℕ) → r ≡ Cpy b o n f l d → Named t line n []
   cpy-ready b o n f l d e = new-named n [] (hears (Cpy b o n f l d) e).new (omega arith)
 
-  pub dup-ready : (b : Begin) (o : ℕ) (to : Begin) (n : ℕ) (d : Digit) → r ≡ Dup b o to n d → Linked t line to n
+  pub dup-ready : (b : Begin) (o : ℕ) (to : Begin) (n : ℕ) (d : Option ℕ) → r ≡ Dup b o to n d → Linked t line (record { at = n; begin = to })
   dup-ready b o to n d e =
       let h = hears (Dup b o to n d) e in
       let q = give-last line to n h.gives in
@@ -116,7 +113,7 @@ module _ {t line text : List ℕ} {u : ℕ} {r : Request} (a : Admitted t line t
   pub remove-ready : (x : Removal) (p n : ℕ) → r ≡ removal_asked x p n
       → (p ≡ (word line 1).start) × (n ≡ length (drop 1 (words line))) × (n ≤ 8)
   remove-ready x p n e =
-      let d = names-read x line p n (sym (ap Granted e) ∙ a.read) in
+      let d = names-read x line p n (sym (ap Ok e) ∙ a.read) in
       let w = names-first x line text p n (asks (removal_asked x p n) e) in
       (d.0 ∙ w.0, d.1, rw d.1 w.1)
 
@@ -134,7 +131,8 @@ module _ {t line text : List ℕ} {u : ℕ} {r : Request} (a : Admitted t line t
 
   module _ (reply : List ℕ) (k : ℕ) (z : Answer) (v : List ℕ) where
     -- a plan that stores
-    storing-done : (q : Request) → r ≡ q → (x : Planned) → granted boxed t text reply u k (request_meant line q) ≡ single t reply k (ran k x) → Silent x
+    storing-done : (q : Request) → r ≡ q → (x : Planned) → granted boxed t text reply u k (request_meant line q) ≡ single t reply k (ran k x)
+        → Silent x
         → Did t k x z v → Promised (requested boxed t line text reply u k) z v reply
     storing-done q e x g s h = subst (λ (o : Outcome). Promised o z v reply) (sym (comes q e reply k ∙ g)) (promised-storing t reply k x z v s h)
 
@@ -143,35 +141,36 @@ module _ {t line text : List ℕ} {u : ℕ} {r : Request} (a : Admitted t line t
         → Storeless x → Wrote t reply x z v → Promised (requested boxed t line text reply u k) z t v
     writing-done q e x g s h = subst (λ (o : Outcome). Promised o z t v) (sym (comes q e reply k ∙ g)) (promised-writing t reply k x z v s h)
 
-    pub crd-done : (p : ℕ) (l : Level) (d : Digit) → r ≡ Crd p l d → Did t k (crd_plan boxed t u (word_at line p) (level_part l) (digit_part d)) z v
+    pub crd-done : (p : ℕ) (l d : Option ℕ) → r ≡ Crd p l d → Did t k (crd_plan boxed t u (word_at line p) (meant_part l) (meant_part d)) z v
         → Promised (requested boxed t line text reply u k) z v reply
     unfolding granted
     crd-done p l d e h =
-        let x : Planned = crd_plan boxed t u (word_at line p) (level_part l) (digit_part d) in
-        storing-done (Crd p l d) e x refl (crd-silent t u (word_at line p) (level_part l) (digit_part d)) h
+        let x : Planned = crd_plan boxed t u (word_at line p) (meant_part l) (meant_part d) in
+        storing-done (Crd p l d) e x refl (crd-silent t u (word_at line p) (meant_part l) (meant_part d)) h
 
-    pub wrs-done : (f : ℕ) (l : Level) (d : Digit) (p : ℕ) → r ≡ Wrs f l d p
-        → Did t k (wrs_plan boxed t u text f (level_part l) (digit_part d) (word_at line p)) z v → Promised (requested boxed t line text reply u k) z v reply
+    pub wrs-done : (f : ℕ) (l d : Option ℕ) (p : ℕ) → r ≡ Wrs f l d p
+        → Did t k (wrs_plan boxed t u text f (meant_part l) (meant_part d) (word_at line p)) z v
+        → Promised (requested boxed t line text reply u k) z v reply
     unfolding granted
     wrs-done f l d p e h =
-        let x : Planned = wrs_plan boxed t u text f (level_part l) (digit_part d) (word_at line p) in
-        storing-done (Wrs f l d p) e x refl (wrs-silent t u text f (level_part l) (digit_part d) (word_at line p)) h
+        let x : Planned = wrs_plan boxed t u text f (meant_part l) (meant_part d) (word_at line p) in
+        storing-done (Wrs f l d p) e x refl (wrs-silent t u text f (meant_part l) (meant_part d) (word_at line p)) h
 
-    pub cpy-done : (b : Begin) (o n : ℕ) (f : Lifetime) (l : Level) (d : Digit) → r ≡ Cpy b o n f l d
-        → Did t k (cpy_plan boxed t (list b) u (from b o) (word_at line n) (lifetime_part f) (level_part l) (digit_part d)) z v
+    pub cpy-done : (b : Begin) (o n : ℕ) (f l d : Option ℕ) → r ≡ Cpy b o n f l d
+        → Did t k (cpy_plan boxed t (list b) u (from b o) (word_at line n) (meant_part f) (meant_part l) (meant_part d)) z v
         → Promised (requested boxed t line text reply u k) z v reply
     unfolding granted
     cpy-done b o n f l d e h =
-        let x : Planned = cpy_plan boxed t (list b) u (from b o) (word_at line n) (lifetime_part f) (level_part l) (digit_part d) in
-        storing-done (Cpy b o n f l d) e x refl (cpy-silent t (list b) u (from b o) (word_at line n) (lifetime_part f) (level_part l) (digit_part d)) h
+        let x : Planned = cpy_plan boxed t (list b) u (from b o) (word_at line n) (meant_part f) (meant_part l) (meant_part d) in
+        storing-done (Cpy b o n f l d) e x refl (cpy-silent t (list b) u (from b o) (word_at line n) (meant_part f) (meant_part l) (meant_part d)) h
 
-    pub dup-done : (b : Begin) (o : ℕ) (to : Begin) (n : ℕ) (d : Digit) → r ≡ Dup b o to n d
-        → Did t k (dup_plan boxed t (list b) (list to) (begin_meant to) (from b o) (from to n) (digit_part d)) z v
+    pub dup-done : (b : Begin) (o : ℕ) (to : Begin) (n : ℕ) (d : Option ℕ) → r ≡ Dup b o to n d
+        → Did t k (dup_plan boxed t (list b) (list to) (begin_meant to) (from b o) (from to n) (meant_part d)) z v
         → Promised (requested boxed t line text reply u k) z v reply
     unfolding granted
     dup-done b o to n d e h =
-        let x : Planned = dup_plan boxed t (list b) (list to) (begin_meant to) (from b o) (from to n) (digit_part d) in
-        storing-done (Dup b o to n d) e x refl (dup-silent t (list b) (list to) (begin_meant to) (from b o) (from to n) (digit_part d)) h
+        let x : Planned = dup_plan boxed t (list b) (list to) (begin_meant to) (from b o) (from to n) (meant_part d) in
+        storing-done (Dup b o to n d) e x refl (dup-silent t (list b) (list to) (begin_meant to) (from b o) (from to n) (meant_part d)) h
 
     pub chn-done : (o l : ℕ) → r ≡ Chn o l → Did t k (chn_plan boxed t u (word_at line o) (word_at line l)) z v
         → Promised (requested boxed t line text reply u k) z v reply
@@ -179,7 +178,8 @@ module _ {t line text : List ℕ} {u : ℕ} {r : Request} (a : Admitted t line t
     chn-done o l e h =
         storing-done (Chn o l) e (chn_plan boxed t u (word_at line o) (word_at line l)) refl (chn-silent t u (word_at line o) (word_at line l)) h
 
-    pub dpr-done : (p c : ℕ) → r ≡ Dpr p c → Did t k (dpr_plan boxed t u (word_at line p) c) z v → Promised (requested boxed t line text reply u k) z v reply
+    pub dpr-done : (p c : ℕ) → r ≡ Dpr p c → Did t k (dpr_plan boxed t u (word_at line p) c) z v
+        → Promised (requested boxed t line text reply u k) z v reply
     unfolding granted
     dpr-done p c e h = storing-done (Dpr p c) e (dpr_plan boxed t u (word_at line p) c) refl (dpr-silent t u (word_at line p) c) h
 
@@ -199,7 +199,7 @@ module _ {t line text : List ℕ} {u : ℕ} {r : Request} (a : Admitted t line t
         by Delete = unfold granted in refl
         by Destroy = unfold granted in refl
 
-    pub rds-done : (b : Begin) (p : ℕ) (f n : Part) → r ≡ Rds b p f n → Wrote t reply (reading (Text f n) t (list b) reply (from b p)) z v
+    pub rds-done : (b : Begin) (p : ℕ) (f n : Option ℕ) → r ≡ Rds b p f n → Wrote t reply (reading (Text f n) t (list b) reply (from b p)) z v
         → Promised (requested boxed t line text reply u k) z t v
     unfolding granted rds_plan
     rds-done b p f n e h =

@@ -21,9 +21,16 @@ use Rattle.demands.proofs.Request.Spoken.{Said, said}
 use Rattle.demands.proofs.Answered.Links.{linked-fair}
 use Rattle.words.specs.declared.begin.Begin.TheVariants.{Own}
 use Rattle.words.proofs.Words.{word-names}
-use Rattle.reader.specs.Asked.{shown_read, shown_refusal}
+use Rattle.reader.specs.Asked as reader
+use Rattle.reader.specs.Asked.{shown_read}
 use Rattle.reader.specs.declared.request.Refusal as given
-use Rattle.reader.specs.declared.request.Read.TheVariants as answers
+use Rattle.std.specs.Prelude.{Result, Ok, Err, MatchResult}
+use Rattle.std.specs.Result.{IsErrAnd}
+use Rattle.reader.specs.declared.request.Request as answered
+use Rattle.answers.specs.Shown.{told}
+use Rattle.answers.specs.declared.Refusal as code
+use Rattle.elephant.specs.Entrance.{unread_by}
+use Rattle.elephant.proofs.Ends.{handed}
 use Rattle.elephant.proofs.Links.{chain-few}
 
 abbrev NearCheck : Check → Type 0
@@ -57,7 +64,8 @@ near-needed argument (part.given n) r l = tt
 near-needed argument part.not_given r l = l
 
 -- a check for each of some words
-each-near : (f : ℕ → Word → Check) → ((p : ℕ) (w : Word) → (f p w).refusal.place.argument ≡ p) → (p : ℕ) (ws : List Word) → p + length ws ≤ 9
+each-near : (f : ℕ → Word → Check) → ((p : ℕ) (w : Word) → (f p w).refusal.place.argument ≡ p) → (p : ℕ) (ws : List Word)
+    → p + length ws ≤ 9
     → Every NearCheck (each f p ws)
 unfolding each
 each-near f h p [] l = tt
@@ -106,7 +114,8 @@ module _ (line : List ℕ) where
   near-tree : Near (read_tree line)
   unfolding read_tree
   near-tree =
-      let n : (r : ℕ → Request) → Near (needed 2 (depth_given (word line 2).names) r) = λ r. near-needed 2 (depth_given (word line 2).names) r (omega arith) in
+      let depth : Part = depth_given (word line 2).names in
+      let n : (r : ℕ → Request) → Near (needed 2 depth r) = λ r. near-needed 2 depth r (omega arith) in
       either Near (lone_point (word line 1).names) _ _ (near-then _ _ (omega arith, tt) (n _))
       (near-then _ _ (omega arith, (omega arith, (omega arith, tt))) (n _))
 
@@ -165,12 +174,12 @@ module _ (line : List ℕ) where
   near = either Near (legal_line line) _ _ near-function (omega arith)
 
   -- the reader's answer
-  pub place-near : (f : given.Refusal) → answers.Refused f ≡ shown_read (read line) → f.place ≤ 8
+  pub place-near : (f : given.Refusal) → Err (reader.refusal_meant f) ≡ shown_read (read line) → f.place ≤ 8
   place-near f e = go (read line) near e
     where
-      go : (x : Read) → Near x → answers.Refused f ≡ shown_read x → f.place ≤ 8
+      go : (x : Read) → Near x → Err (reader.refusal_meant f) ≡ shown_read x → f.place ≤ 8
       go (request r) h z = clash (cc)
-      go (unread g) h z = let y : f ≡ shown_refusal g = cc in rw y h
+      go (unread g) h z = let y : reader.refusal_meant f ≡ g = cc in rw (← y) at h
 
 -- "At most 256 bytes"
 legal-short : (line : List ℕ) → legal_line line ≡ true → length line ≤ 256
@@ -207,9 +216,15 @@ module _ (line : List ℕ) where
         go false l z = let y : refusal_at 4 (whole 0) ≡ g = cc in rw (← y) (omega arith)
 
   -- the link of the reader's answer
-  pub link_near : (f : given.Refusal) → answers.Refused f ≡ shown_read (read line) → f.link ≤ 65535
+  pub link_near : (f : given.Refusal) → Err (reader.refusal_meant f) ≡ shown_read (read line) → f.link ≤ 65535
   link_near f e = go (read line) refl e
     where
-      go : (x : Read) → read line ≡ x → answers.Refused f ≡ shown_read x → f.link ≤ 65535
+      go : (x : Read) → read line ≡ x → Err (reader.refusal_meant f) ≡ shown_read x → f.link ≤ 65535
       go (request r) q z = clash (cc)
-      go (unread g) q z = let y : f ≡ shown_refusal g = cc in rw y (unread-near g q)
+      go (unread g) q z = let y : reader.refusal_meant f ≡ g = cc in rw (← y) at (unread-near g q)
+
+-- what the reader answers, with its refusal as the answer has it
+pub read-shown : (x : Read) (w : Result answered.Request given.Refusal) (r : Result answered.Request code.Refusal) → reader.told w ≡ shown_read x
+    → MatchResult w (λ q. r ≡ Ok q) (λ f. IsErrAnd r (λ y. y ≡ unread_by f)) → told r ≡ shown_read x
+read-shown x (Ok q) r e h = rw (h, ← e)
+read-shown x (Err f) r e h = rw (handed r _ h, ← e)

@@ -9,21 +9,21 @@ use lib.Dec.{leb}
 use lib.ListN.{length, get_or, drop}
 use borrow.Author.Tests.{leb-true}
 use Rattle.paper.specs.Layout.{boxed}
-use Rattle.paper.specs.Check.{at_link, whole, Refusal, refusal_at, passed, refused, check}
+use Rattle.paper.specs.Check.{whole, Refusal, refusal_at, passed, refused, check}
 use Rattle.paper.specs.Line.{Word, words, word}
 use Rattle.paper.specs.Request as paper
 use Rattle.paper.specs.Request.{chn, del, dst, request, unread, read, text_too_long, read_as, with_text, asked}
 use Rattle.paper.specs.Answer.{refusing, acted, granted, requested, entrance}
 use Rattle.paper.specs.Name.{all, in_name, link_name}
 use Rattle.paper.specs.Walk.{last_name}
-use Rattle.laws.proofs.Tests.{and_left, and_right, clash}
+use Rattle.laws.proofs.Tests.{and_left, and_right}
 use Rattle.demands.proofs.Request.Read.{Told, Right, read_right}
-use Rattle.reader.specs.Asked.{first_start, shown_refusal, shown_read}
+use Rattle.reader.specs.Asked.{first_start}
 use Rattle.reader.specs.declared.request.Request.{Request}
-use Rattle.reader.specs.declared.request.Refusal as given
-use Rattle.reader.specs.declared.request.Read.TheVariants as answers
+use Rattle.std.specs.Prelude.{Ok}
 use Rattle.reader.proofs.Ties.{rest-word}
 use Rattle.elephant.specs.Meant.{request_meant, removal_asked}
+use Rattle.reader.specs.Asked.{shown_read}
 use Rattle.elephant.specs.declared.removal.Removal.{Removal}
 use Rattle.elephant.specs.declared.removal.Removal.TheVariants.{Delete, Destroy}
 use Rattle.elephant.proofs.Verdicts.{first_holds, first_passes, none_left}
@@ -41,19 +41,11 @@ module _ (t line text reply : List ℕ) (u k : ℕ) where
     acts x q = rw (e, q)
 
     -- 4 to 9
-    pub requested-unread : (f : given.Refusal) → answers.Refused f ≡ shown_read (read line)
-        → requested boxed t line text reply u k ≡ refusing t reply (refusal_at f.number (at_link f.place f.link))
+    pub requested-unread : (g : Refusal) → read line ≡ unread g → requested boxed t line text reply u k ≡ refusing t reply g
     unfolding asked
-    requested-unread f q = go (read line) refl q
-      where
-        go : (x : paper.Read) → read line ≡ x → answers.Refused f ≡ shown_read x
-            → requested boxed t line text reply u k ≡ refusing t reply (refusal_at f.number (at_link f.place f.link))
-        go (request r) p z = clash (cc)
-        go (unread g) p z =
-            let y : f ≡ shown_refusal g = cc in
-            acts (unread g) (rw p) ∙ ap (λ (x : given.Refusal). refusing t reply (refusal_at x.number (at_link x.place x.link))) (sym y)
+    requested-unread g q = acts (unread g) (rw q)
 
-    module _ (r : Request) (q : answers.Granted r ≡ shown_read (read line)) where
+    module _ (r : Request) (q : Ok r ≡ shown_read (read line)) where
       -- 10
       pub requested-long : text_too_long (request_meant line r) text ≡ true
           → requested boxed t line text reply u k ≡ refusing t reply (refusal_at 10 (whole 0))
@@ -75,11 +67,11 @@ module _ (t line text reply : List ℕ) (u k : ℕ) where
       requested-granted b = acts (request (request_meant line r)) (asked-granted b)
 
 -- the names of a DEL or of a DST
-pub names-read : (a : Removal) (line : List ℕ) (first count : ℕ) → answers.Granted (removal_asked a first count) ≡ shown_read (read line)
+pub names-read : (a : Removal) (line : List ℕ) (first count : ℕ) → Ok (removal_asked a first count) ≡ shown_read (read line)
     → (first ≡ first_start (drop 1 (words line))) × (count ≡ length (drop 1 (words line)))
 names-read a line first count e = go a (e ∙ ap shown_read (read-granted line (removal_asked a first count) e))
   where
-    go : (a : Removal) → answers.Granted (removal_asked a first count) ≡ shown_read (request (request_meant line (removal_asked a first count)))
+    go : (a : Removal) → Ok (removal_asked a first count) ≡ shown_read (request (request_meant line (removal_asked a first count)))
         → (first ≡ first_start (drop 1 (words line))) × (count ≡ length (drop 1 (words line)))
     go Delete z = (cc, cc)
     go Destroy z = (cc, cc)
@@ -100,7 +92,8 @@ link-short line text old link e =
 first_word : (line : List ℕ) (ws : List Word) → ws ≡ drop 1 (words line) → 1 ≤ length ws → first_start ws ≡ (word line 1).start
 first_word line [] e l = let z : ⊥ = omega arith in absurd z
 first_word line (w ∷ ws) e l =
-    sym (ap (λ (x : Word). x.start) (sym (rest-word line 0) ∙ ap (λ (x : List Word). get_or x 0 (record { start = length line; names = [] ∷ [] })) (sym e)))
+    let none : Word = record { start = length line; names = [] ∷ [] } in
+    sym (ap (λ (x : Word). x.start) (sym (rest-word line 0) ∙ ap (λ (x : List Word). get_or x 0 none) (sym e)))
 
 pub names-first : (a : Removal) (line text : List ℕ) (first count : ℕ) → asked line text ≡ request (request_meant line (removal_asked a first count))
     → (first_start (drop 1 (words line)) ≡ (word line 1).start) × (length (drop 1 (words line)) ≤ 8)

@@ -7,6 +7,7 @@ use Prim.Native.Nat.{ℕ, ◌≤◌, ◌<◌}
 use native.Mathlib.Nat.{zero-add}
 use native.Mathlib.Omega.{arith}
 use lib.Dec.{eqb, leb}
+use Rattle.std.specs.Prelude.{Some, None}
 use lib.ListN.{length}
 use lib.Seq.{sets}
 use borrow.Author.Tests.{le-leb, leb-true, leb-false}
@@ -32,7 +33,6 @@ use Rattle.listing.specs.declared.Listed.TheVariants.{Directory, Base}
 use Rattle.listing.proofs.Promised.{sets-front}
 use Rattle.tree.specs.Gathered.{inside}
 use Rattle.tree.specs.Shown.{tree_shown, placed, answered, replied}
-use Rattle.tree.specs.declared.Reach.TheVariants.{At, Past}
 use Rattle.tree.proofs.Promised.{tree-shown}
 use Rattle.elephant.specs.Done.{Fit, Wrote}
 use Rattle.elephant.proofs.Verdicts.{none_left, wrote-short, wrote-out}
@@ -71,20 +71,20 @@ module _ (t : List ℕ) (f : Fit t) where
 
 -- what `list_tree` answered: too long, and the reply as it was; or all of it at the front
 module _ (t s reply after : List ℕ) (most : rooms t ≤ 2048) (e : after ≡ replied t s reply) where
-  tree-short : Past ≡ answered t s reply → (length reply < length s) × (after ≡ reply)
+  tree-short : None ≡ answered t s reply → (length reply < length s) × (after ≡ reply)
   unfolding answered replied placed
   tree-short q = go (leb (length s) (length reply)) refl (rw (le-leb (rooms t) 2048 most, zero-add) at q) (rw (le-leb (rooms t) 2048 most) at e)
     where
-      go : (b : Bool) → leb (length s) (length reply) ≡ b → Past ≡ cond b (At (length s)) Past → after ≡ cond b (sets reply 0 s) reply
+      go : (b : Bool) → leb (length s) (length reply) ≡ b → None ≡ cond b (Some (length s)) None → after ≡ cond b (sets reply 0 s) reply
           → (length reply < length s) × (after ≡ reply)
       go true x y z = clash (cc)
       go false x y z = (leb-false (length s) (length reply) x, z)
 
-  tree-out : (n : ℕ) → At n ≡ answered t s reply → (length s ≤ length reply) × ((n ≡ length s) × (after ≡ sets reply 0 s))
+  tree-out : (n : ℕ) → Some n ≡ answered t s reply → (length s ≤ length reply) × ((n ≡ length s) × (after ≡ sets reply 0 s))
   unfolding answered replied placed
   tree-out n q = go (leb (length s) (length reply)) refl (rw (le-leb (rooms t) 2048 most, zero-add) at q) (rw (le-leb (rooms t) 2048 most) at e)
     where
-      go : (b : Bool) → leb (length s) (length reply) ≡ b → At n ≡ cond b (At (length s)) Past → after ≡ cond b (sets reply 0 s) reply
+      go : (b : Bool) → leb (length s) (length reply) ≡ b → Some n ≡ cond b (Some (length s)) None → after ≡ cond b (sets reply 0 s) reply
           → (length s ≤ length reply) × ((n ≡ length s) × (after ≡ sets reply 0 s))
       go true x y z = (leb-true (length s) (length reply) x, (cc, z))
       go false x y z = clash (cc)
@@ -100,13 +100,13 @@ module _ (t reply after : List ℕ) (f : Fit t) (w : Listed) (depth : ℕ) (e : 
   answers : answered t (tree_shown t depth 0 (is_listed w)) reply ≡ answered t out reply
   answers = ap (λ (s : List ℕ). answered t s reply) (sound-tree t f w depth)
 
-  pub deep-short : Past ≡ answered t (tree_shown t depth 0 (is_listed w)) reply
+  pub deep-short : None ≡ answered t (tree_shown t depth 0 (is_listed w)) reply
       → Wrote t reply (writing [] out reply) (shown (plain 20 (whole 0) 0 0)) after
   deep-short q =
       let h = tree-short t out reply after (sized-most t f.sized) left (q ∙ answers) in
       rw h.1 (wrote-short t reply out [] h.0)
 
-  pub deep_out : (n : ℕ) → At n ≡ answered t (tree_shown t depth 0 (is_listed w)) reply
+  pub deep_out : (n : ℕ) → Some n ≡ answered t (tree_shown t depth 0 (is_listed w)) reply
       → Wrote t reply (writing [] out reply) (shown (granting false n 0)) after
   deep_out n q =
       let h = tree-out t out reply after (sized-most t f.sized) left n (q ∙ answers) in

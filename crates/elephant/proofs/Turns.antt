@@ -10,7 +10,7 @@ use lib.Dec.{leb}
 use lib.ListN.{length, drop, drop_of_length-le}
 use lib.Seq.{drop-cons}
 use borrow.Author.Tests.{leb-true}
-use Rattle.paper.specs.Check.{whole, Verdict, passed, refused, verdict}
+use Rattle.paper.specs.Check.{whole, refusal_at, Verdict, passed, refused, verdict}
 use Rattle.paper.specs.Line.{Word, words, word}
 use Rattle.paper.specs.Effect.{Planned, plan, halted}
 use Rattle.paper.specs.Answer as paper
@@ -22,40 +22,45 @@ use Rattle.laws.proofs.Tests.{clash}
 use Rattle.demands.proofs.Sound.Clauses.{Sound, sound-clauses}
 use Rattle.demands.proofs.Sound.Right.{Right, right-sound}
 use Rattle.demands.proofs.SoundKept.Kept.{Keeps, del-keeps, dst-keeps}
-use Rattle.answers.specs.Shown.{place_meant, place_shown, shown}
-use Rattle.answers.specs.declared.Place.{Place}
+use Rattle.answers.specs.Shown.{shown}
 use Rattle.answers.specs.declared.Answer.{Answer}
 use Rattle.elephant.specs.Done.{did, Fit}
-use Rattle.elephant.specs.Removed.{removal_plan, spent, removed_by, removed_shown, left_by, removed_answer, Came, CameAll}
+use Rattle.elephant.specs.Removed.{removal_plan, Halted, ended_at, ended_meant, left_told, spent, removed_by, removed_shown, ended_answer, Came, CameAll}
 use Rattle.elephant.specs.declared.removal.Removal.{Removal}
 use Rattle.elephant.specs.declared.removal.Removal.TheVariants.{Delete, Destroy}
-use Rattle.elephant.specs.declared.removal.Removed.{Removed}
-use Rattle.elephant.specs.declared.removal.Removed.TheVariants.{Done, Ended}
+use Rattle.elephant.specs.declared.removal.Ended.{Ended}
+use Rattle.std.specs.Prelude.{Result, Ok, Err}
 
 -- ---- the stores of one name, with k left and n needed
 
+abbrev pub left_by : Result ℕ Halted → ℕ
+left_by (Ok left) = left
+left_by (Err e) = e.left
+
+abbrev short : Halted
+short = ended_at 0 (refusal_at 22 (whole 0))
+
 module _ (k n : ℕ) where
   -- all are made, with r left
-  spent-done : (r : ℕ) → spent k n ≡ Done r → (leb n k ≡ true) × (r ≡ k - n)
+  spent-done : (r : ℕ) → spent k n ≡ Ok r → (leb n k ≡ true) × (r ≡ k - n)
   spent-done r e = go (leb n k) refl e
     where
-      go : (b : Bool) → leb n k ≡ b → cond b (Done (k - n)) (Ended 22 (place_shown (whole 0)) 0) ≡ Done r → (leb n k ≡ true) × (r ≡ k - n)
+      go : (b : Bool) → leb n k ≡ b → cond b (Ok (k - n)) (Err short) ≡ Ok r → (leb n k ≡ true) × (r ≡ k - n)
       go true l z = let y : k - n ≡ r = cc in (l, sym y)
       go false l z = clash (cc)
 
   -- or not all
-  spent-ended : (a : ℕ) (b : Place) (r : ℕ) → spent k n ≡ Ended a b r → (leb n k ≡ false) × (22 ≡ a) × (place_shown (whole 0) ≡ b) × (0 ≡ r)
-  spent-ended a b r e = go (leb n k) refl e
+  spent-ended : (a : Halted) → spent k n ≡ Err a → (leb n k ≡ false) × (short ≡ a)
+  spent-ended a e = go (leb n k) refl e
     where
-      go : (c : Bool) → leb n k ≡ c → cond c (Done (k - n)) (Ended 22 (place_shown (whole 0)) 0) ≡ Ended a b r
-          → (leb n k ≡ false) × (22 ≡ a) × (place_shown (whole 0) ≡ b) × (0 ≡ r)
+      go : (c : Bool) → leb n k ≡ c → cond c (Ok (k - n)) (Err short) ≡ Err a → (leb n k ≡ false) × (short ≡ a)
       go true l z = clash (cc)
-      go false l z = let x : 22 ≡ a = cc in let y : place_shown (whole 0) ≡ b = cc in let w : 0 ≡ r = cc in (l, x, y, w)
+      go false l z = let x : short ≡ a = cc in (l, x)
 
   spent-most : left_by (spent k n) ≤ k
   spent-most = go (leb n k)
     where
-      go : (c : Bool) → left_by (cond c (Done (k - n)) (Ended 22 (place_shown (whole 0)) 0)) ≤ k
+      go : (c : Bool) → left_by (cond c (Ok (k - n)) (Err short)) ≤ k
       go true = omega arith
       go false = omega arith
 
@@ -71,36 +76,41 @@ left-most k (plan p) = go (verdict p.checks)
 -- ---- one name
 
 module _ (t : List ℕ) (k n m : ℕ) (more : List ℕ → ℕ → ℕ → ℕ → Outcome) where
-  one_ended : (x : Planned) (a : ℕ) (b : Place) (r : ℕ) → removed_shown k x ≡ Ended a b r
-      → one_name t [] k n m more (ran k x) ≡ record { answer = plain a (place_meant b) n (m + (k - r)); table = (did t k x).table; reply = [] }
-  one_ended (halted f) a b r e =
-      let y : f.number ≡ a = cc in
-      let z : place_shown f.place ≡ b = cc in
-      let w : k ≡ r = cc in
-      let i : m + (k - r) ≡ m = omega arith in
-      rw (i, y, ← z)
-  one_ended (plan p) a b r e = go (verdict p.checks) refl e
-    where
-      go : (v : Verdict) → verdict p.checks ≡ v → removed_by k (length p.stores) v ≡ Ended a b r
-          → one_name t [] k n m more (stores k p v)
-          ≡ record { answer = plain a (place_meant b) n (m + (k - r)); table = (did t k (plan p)).table; reply = [] }
-      go passed q e =
-          let w = spent-ended k (length p.stores) a b r e in
-          let i : m + (k - r) ≡ m + k = omega (arith, w.3) in
-          rw (i, q, w.0, ← w.1, ← w.2)
-      go (refused f) q e =
-          let y : f.number ≡ a = cc in
-          let z : place_shown f.place ≡ b = cc in
-          let w : k ≡ r = cc in
-          let i : m + (k - r) ≡ m = omega arith in
-          rw (i, q, y, ← z)
+  abbrev ending : Halted → Planned → Outcome
+  ending a x =
+      record {
+        answer = plain a.refusal.number a.refusal.place n (m + (k - a.left));
+        table = (did t k x).table;
+        reply = [];
+      }
 
-  one-done : (x : Planned) (r : ℕ) → removed_shown k x ≡ Done r
+  one_ended : (x : Planned) (a : Halted) → removed_shown k x ≡ Err a → one_name t [] k n m more (ran k x) ≡ ending a x
+  one_ended (halted f) a e =
+      let y : ended_at k f ≡ a = cc in
+      let w : k ≡ a.left = ap (λ (x : Halted). x.left) y in
+      let i : m + (k - a.left) ≡ m = omega arith in
+      rw (i, ← y)
+  one_ended (plan p) a e = go (verdict p.checks) refl e
+    where
+      go : (v : Verdict) → verdict p.checks ≡ v → removed_by k (length p.stores) v ≡ Err a
+          → one_name t [] k n m more (stores k p v) ≡ ending a (plan p)
+      go passed q e =
+          let w = spent-ended k (length p.stores) a e in
+          let l : 0 ≡ a.left = ap (λ (x : Halted). x.left) w.1 in
+          let i : m + (k - a.left) ≡ m + k = omega arith in
+          rw (i, q, w.0, ← w.1)
+      go (refused f) q e =
+          let y : ended_at k f ≡ a = cc in
+          let w : k ≡ a.left = ap (λ (x : Halted). x.left) y in
+          let i : m + (k - a.left) ≡ m = omega arith in
+          rw (i, q, ← y)
+
+  one-done : (x : Planned) (r : ℕ) → removed_shown k x ≡ Ok r
       → one_name t [] k n m more (ran k x) ≡ more (did t k x).table r (n + 1) (m + (k - r))
   one-done (halted f) r e = clash (cc)
   one-done (plan p) r e = go (verdict p.checks) refl e
     where
-      go : (v : Verdict) → verdict p.checks ≡ v → removed_by k (length p.stores) v ≡ Done r
+      go : (v : Verdict) → verdict p.checks ≡ v → removed_by k (length p.stores) v ≡ Ok r
           → one_name t [] k n m more (stores k p v) ≡ more (did t k (plan p)).table r (n + 1) (m + (k - r))
       go passed q e =
           let w = spent-done k (length p.stores) r e in
@@ -110,11 +120,11 @@ module _ (t : List ℕ) (k n m : ℕ) (more : List ℕ → ℕ → ℕ → ℕ �
       go (refused f) q e = clash (cc)
 
 -- a name done leaves a fit table
-done-fit : (t : List ℕ) (k r : ℕ) (x : Planned) → Keeps t x → removed_shown k x ≡ Done r → Right (did t k x).table
+done-fit : (t : List ℕ) (k r : ℕ) (x : Planned) → Keeps t x → removed_shown k x ≡ Ok r → Right (did t k x).table
 done-fit t k r (halted f) h e = clash (cc)
 done-fit t k r (plan p) h e = go (verdict p.checks) refl e
   where
-    go : (v : Verdict) → verdict p.checks ≡ v → removed_by k (length p.stores) v ≡ Done r → Right (did t k (plan p)).table
+    go : (v : Verdict) → verdict p.checks ≡ v → removed_by k (length p.stores) v ≡ Ok r → Right (did t k (plan p)).table
     go passed q e = rw (q, (spent-done k (length p.stores) r e).0) (h q)
     go (refused f) q e = clash (cc)
 
@@ -126,14 +136,13 @@ module _ (a : Removal) (t : List ℕ) (u k n m : ℕ) (w : Word) (ws : List Word
   abbrev one : Planned
   one = removal_plan a t u (n + 1) w
 
-  turn-ended : (number : ℕ) (b : Place) (r : ℕ) → removed_shown k one ≡ Ended number b r
+  turn-ended : (a₁ : Halted) → removed_shown k one ≡ Err a₁
       → deleting (removal_plan a) t u [] k n m (w ∷ ws)
-      ≡ record { answer = plain number (place_meant b) n (m + (k - r)); table = (did t k one).table; reply = [] }
+      ≡ record { answer = plain a₁.refusal.number a₁.refusal.place n (m + (k - a₁.left)); table = (did t k one).table; reply = [] }
   unfolding deleting
-  turn-ended number b r e =
-      one_ended t k n m (λ t₁ k₁ n₁ made₁. deleting (removal_plan a) t₁ u [] k₁ n₁ made₁ ws) one number b r e
+  turn-ended a₁ e = one_ended t k n m (λ t₁ k₁ n₁ made₁. deleting (removal_plan a) t₁ u [] k₁ n₁ made₁ ws) one a₁ e
 
-  module _ (r : ℕ) (e : removed_shown k one ≡ Done r) where
+  module _ (r : ℕ) (e : removed_shown k one ≡ Ok r) where
     turn-done : deleting (removal_plan a) t u [] k n m (w ∷ ws) ≡ deleting (removal_plan a) (did t k one).table u [] r (n + 1) (m + (k - r)) ws
     unfolding deleting
     turn-done = one-done t k n m (λ t₁ k₁ n₁ made₁. deleting (removal_plan a) t₁ u [] k₁ n₁ made₁ ws) one r e
@@ -168,14 +177,14 @@ all-came a t₀ line u stop y x v w e =
     record { answer = e ∙ sym (ap (λ (o : Outcome). shown o.answer) w); table = sym (ap (λ (o : Outcome). o.table) w) }
 
 pub deleting-end : (a : Removal) (t₀ line : List ℕ) (u stop : ℕ) (t : List ℕ) (p names left : ℕ) → Deleting a t₀ line u stop t p names left
-    → length (drop 1 (words line)) ≤ names → (x : Answer) → x ≡ shown (plain 0 (whole 0) names (stop - left))
+    → length (drop 1 (words line)) ≤ names → (n : ℕ) → n ≡ names → (x : Answer) → x ≡ shown (plain 0 (whole 0) n (stop - left))
     → CameAll a t₀ u stop (drop 1 (words line)) x t
 unfolding deleting
-deleting-end a t₀ line u stop t p names left w l x e =
-    all-came a t₀ line u stop _ x t (sym w.whole ∙ rw (drop_of_length-le (drop 1 (words line)) {i = names} l)) e
+deleting-end a t₀ line u stop t p names left w l n q x e =
+    all-came a t₀ line u stop _ x t (sym w.whole ∙ rw (drop_of_length-le (drop 1 (words line)) {i = names} l)) (rw q at e)
 
 module _ (a : Removal) (t₀ line : List ℕ) (u stop : ℕ) (t : List ℕ) (p names left : ℕ) (w : Deleting a t₀ line u stop t p names left)
-    (l : names < length (drop 1 (words line))) (r : Removed) (v : List ℕ)
+    (l : names < length (drop 1 (words line))) (r : Result ℕ Ended) (v : List ℕ)
     (z : Came t left (removal_plan a t u (names + 1) (word_at line p)) r v) where
   next : drop names (drop 1 (words line)) ≡ word_at line p ∷ drop (names + 1) (drop 1 (words line))
   next =
@@ -186,22 +195,21 @@ module _ (a : Removal) (t₀ line : List ℕ) (u stop : ℕ) (t : List ℕ) (p n
       ≡ deleting (removal_plan a) t u [] left names (stop - left) (word_at line p ∷ drop (names + 1) (drop 1 (words line)))
   now = sym w.whole ∙ rw next
 
-  pub deleting-left : left_by r ≤ stop
+  pub deleting-left : left_by (left_told r) ≤ stop
   deleting-left = rw z.answer (omega (arith, left-most left (removal_plan a t u (names + 1) (word_at line p)), w.some))
 
-  pub deleting-ended : (number : ℕ) (b : Place) (rest : ℕ) → r ≡ Ended number b rest → (x : Answer) → x ≡ shown (removed_answer r names stop)
+  pub deleting-ended : (e : Ended) → r ≡ Err e → (x : Answer) → x ≡ shown (ended_answer e names stop)
       → CameAll a t₀ u stop (drop 1 (words line)) x v
-  deleting-ended number b rest y x e =
-      let o : rest ≤ left = rw (← z.answer, y) at (left-most left (removal_plan a t u (names + 1) (word_at line p))) in
-      let q : stop - left + (left - rest) ≡ stop - rest = omega (arith, w.some) in
+  deleting-ended e y x q =
+      let o : e.left ≤ left = rw (← z.answer, y) at (left-most left (removal_plan a t u (names + 1) (word_at line p))) in
+      let i : stop - left + (left - e.left) ≡ stop - e.left = omega (arith, w.some) in
       all-came a t₀ line u stop _ x v
-      (now ∙ turn-ended a t u left names (stop - left) (word_at line p) _ number b rest (sym z.answer ∙ y) ∙ rw (z.table, q))
-      (rw y at e)
+      (now ∙ turn-ended a t u left names (stop - left) (word_at line p) _ (ended_meant e) (sym z.answer ∙ ap left_told y) ∙ rw (z.table, i)) q
 
-  pub deleting-on : (rest : ℕ) → r ≡ Done rest → (q : ℕ) → q ≡ next_word line p → length v ≡ length t
+  pub deleting-on : (rest : ℕ) → r ≡ Ok rest → (q : ℕ) → q ≡ next_word line p → length v ≡ length t
       → Deleting a t₀ line u stop v q (names + 1) rest
   deleting-on rest x q y o =
-      let s : removed_shown left (removal_plan a t u (names + 1) (word_at line p)) ≡ Done rest = sym z.answer ∙ x in
+      let s : removed_shown left (removal_plan a t u (names + 1) (word_at line p)) ≡ Ok rest = sym z.answer ∙ ap left_told x in
       let b : rest ≤ left = rw s at (left-most left (removal_plan a t u (names + 1) (word_at line p))) in
       let e : stop - left + (left - rest) ≡ stop - rest = omega (arith, w.some) in
       record {

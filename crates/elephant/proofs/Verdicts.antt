@@ -14,14 +14,23 @@ use Rattle.paper.specs.Store.{run}
 use Rattle.paper.specs.Effect.{Plan, plan, too_short, showing}
 use Rattle.paper.specs.Answer.{Outcome, plain, granting, stores, done, cut, ran, single, refusing}
 use Rattle.effects.specs.Stage.{Made}
-use Rattle.answers.specs.Shown.{place_shown, shown, stored}
+use Rattle.answers.specs.Shown.{verdict_shown, shown, stored}
 use Rattle.answers.specs.declared.Answer.{Answer}
 use Rattle.elephant.specs.Done.{Tried, Did, Wrote}
-use Rattle.elephant.specs.Removed.{removed_by, Spent, Came}
-use Rattle.elephant.specs.declared.removal.Removed.{Removed}
-use Rattle.elephant.specs.declared.removal.Removed.TheVariants.{Ended}
+use Rattle.elephant.specs.Removed.{ended_at, ended_meant, removed_by, Spent, Came}
+use Rattle.elephant.specs.declared.removal.Ended.{Ended}
+use Rattle.std.specs.Prelude.{Result, Ok, Err}
 
 -- ---- checks
+
+-- what a result says of a verdict
+pub passed-by : (v : Verdict) (u : Unit {0}) → Ok u ≡ verdict_shown v → v ≡ passed
+passed-by passed u e = refl
+passed-by (refused f) u e = clash (cc)
+
+pub refused-by : (v : Verdict) (g : Refusal) → Err g ≡ verdict_shown v → v ≡ refused g
+refused-by passed g e = clash (cc)
+refused-by (refused f) g e = let z : g ≡ f = cc in ap refused (sym z)
 
 pub first_holds : (c : Check) (cs : List Check) → c.when ≡ true → verdict (c ∷ cs) ≡ refused c.refusal
 unfolding verdict
@@ -111,15 +120,15 @@ did-stored t u k l p e q w = did-tried t u k (length p.stores) p e q (record { n
 
 -- ---- one name of a DEL or of a DST
 
-pub came_refused : (t : List ℕ) (k : ℕ) (p : Plan) (g : Refusal) → verdict p.checks ≡ refused g
-    → Came t k (plan p) (Ended g.number (place_shown g.place) k) t
-came_refused t k p g e =
+pub came_refused : (t : List ℕ) (k : ℕ) (p : Plan) (g : Refusal) (a : Ended) → ended_meant a ≡ ended_at k g → verdict p.checks ≡ refused g
+    → Came t k (plan p) (Err a) t
+came_refused t k p g a q e =
     record {
-      answer = sym (ap (removed_by k (length p.stores)) e);
+      answer = ap Err q ∙ sym (ap (removed_by k (length p.stores)) e);
       table = sym (ap (λ (o : Outcome). o.table) (single-refused t [] k p g e));
     }
 
-pub came-passed : (t v : List ℕ) (k : ℕ) (p : Plan) (r : Removed) → verdict p.checks ≡ passed → Spent t k p.stores r v
+pub came-passed : (t v : List ℕ) (k : ℕ) (p : Plan) (r : Result ℕ Ended) → verdict p.checks ≡ passed → Spent t k p.stores r v
     → Came t k (plan p) r v
 came-passed t v k p r e w =
     record { answer = w.answer ∙ sym (ap (removed_by k (length p.stores)) e); table = w.table ∙ sym (single-table t [] k p e) }

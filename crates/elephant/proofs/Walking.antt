@@ -9,23 +9,23 @@ use lib.Dec.{leb}
 use lib.ListN.{get_or, length}
 use Rattle.paper.specs.Layout.{boxed}
 use Rattle.paper.specs.Table.{room}
-use Rattle.paper.specs.Check.{Place, Check, Verdict, passed, verdict, refused}
+use Rattle.paper.specs.Check.{Check, Verdict, passed, verdict, refused}
 use Rattle.paper.specs.Store.{Store}
 use Rattle.paper.specs.Code.{no_write}
 use Rattle.paper.specs.Answer.{Outcome, plain, single, stores, done, cut}
 use Rattle.paper.specs.Request.{Begin, own}
 use Rattle.paper.specs.Effect.{Plan, Planned, plan, Making, making, link_taken, borne, displacing, full_up, still_peopled, no_room}
-use Rattle.laws.proofs.Lists.{Every, length-each}
+use Rattle.laws.proofs.Lists.{length-each}
 use Rattle.effects.specs.Listed.{free_rooms}
 use Rattle.effects.proofs.Places.{front-here}
-use Rattle.answers.specs.Shown.{shown}
+use Rattle.answers.specs.Shown.{told, verdict_shown, shown}
 use Rattle.answers.specs.declared.Answer.{Answer}
 use Rattle.elephant.specs.Done.{did, Did}
-use Rattle.placing.specs.Placing.{refusal_shown}
-use Rattle.placing.specs.declared.Refusal.{Refusal}
-use Rattle.elephant.specs.Filing.{late_checks, copy_late, ending}
-use Rattle.elephant.proofs.Verdicts.{first_holds, first_passes, none_left, alike-after, second_holds, did-refused}
-use Rattle.elephant.proofs.Ending.{Telling, late-alike}
+use Rattle.std.specs.Prelude.{Result}
+use Rattle.answers.specs.declared.Refusal.{Refusal}
+use Rattle.elephant.specs.Filing.{late_checks, ending}
+use Rattle.elephant.proofs.Verdicts.{first_holds, first_passes, alike-after, second_holds, did-refused}
+use Rattle.elephant.proofs.Ending.{late-alike}
 
 -- two plans that end alike
 did-same : (t u : List ℕ) (k : ℕ) (p q : Planned) (r : Answer) → did t k p ≡ did t k q → Did t k q r u → Did t k p r u
@@ -51,10 +51,6 @@ module _ (t : List ℕ) (k : ℕ) (ss : List Store) (b : Bool) where
       go (refused f) = refl
       go passed = by (leb (length ss) k)
 
--- no refusal is that of no check
-pub no-late : (f : Refusal) → f ≡ refusal_shown passed → f ≡ refusal_shown (verdict [])
-no-late f e = e ∙ ap refusal_shown (sym none_left)
-
 -- ---- 14
 
 module _ (t : List ℕ) (k : ℕ) (m : Making) where
@@ -68,19 +64,15 @@ module _ (t : List ℕ) (k : ℕ) (m : Making) where
   open-ends to r u e w =
       did-same t u k (making boxed t m [] (link_taken boxed t to m) []) (ending t to m []) r (did-alike t k _ _ _ _ (first_passes _ _ e)) w
 
-  -- the checks after 19, as one refusal
-  pub late-ends : (to : Begin) (late : List Check) (f : Refusal) → Every Telling late → f ≡ refusal_shown (verdict late) → (r : Answer) (u : List ℕ)
+  -- the checks after 19, as what they refuse
+  pub late-ends : (to : Begin) (late : List Check) (f : Result (Unit {0}) Refusal) → told f ≡ verdict_shown (verdict late) → (r : Answer) (u : List ℕ)
       → Did t k (ending t to m (late_checks f)) r u → Did t k (ending t to m late) r u
   unfolding ending
-  late-ends to late f h e r u w =
+  late-ends to late f e r u w =
       let three : List Check = full_up boxed t m ∷ still_peopled m.place (displacing t (borne boxed t m) m.entry) ∷ no_room boxed t m ∷ [] in
       did-same t u k (ending t to m late) (ending t to m (late_checks f)) r
       (did-alike t k _ _ _ _
-      (alike-after (link_taken boxed t to m) _ _ (alike-after three late (late_checks f) (sym (late-alike late f h e))))) w
-
--- 23 and 25 of a copy have their numbers
-pub copy-telling : (place : Place) (source : List ℕ) (lev : ℕ) → Every Telling (copy_late place source lev)
-copy-telling place source lev = ((λ _. omega arith), ((λ _. omega arith), tt))
+      (alike-after (link_taken boxed t to m) _ _ (alike-after three late (late_checks f) (sym (late-alike late f e))))) w
 
 -- 13, 14 and 15 of CPY, in that order, with others after all
 module _ (t : List ℕ) (k : ℕ) (m : Making) (c e : Check) (last : List Check) where
@@ -98,7 +90,8 @@ module _ (t : List ℕ) (k : ℕ) (m : Making) (c e : Check) (last : List Check)
   unfolding making
   copy-third x y z = did-refused t k _ _ (first_passes _ _ x ∙ first_passes _ _ y ∙ first_holds _ _ z)
 
-  pub copy-ends : (r : Answer) (u : List ℕ) → c.when ≡ false → no_write m.directory.code ≡ false → e.when ≡ false → Did t k (ending t own m last) r u
+  pub copy-ends : (r : Answer) (u : List ℕ) → c.when ≡ false → no_write m.directory.code ≡ false → e.when ≡ false
+      → Did t k (ending t own m last) r u
       → Did t k (making boxed t m (c ∷ []) (e ∷ []) last) r u
   unfolding making ending
   copy-ends r u x y z w =

@@ -1,7 +1,6 @@
--- The number of a verdict, 0 where it passes.
-use Rattle.std.specs.Prelude.{ℕ}
-use Rattle.paper.specs.Check.{Verdict, passed, refused}
+-- What the reader refuses, as the answer has it: "4 to 9".
+use Rattle.answers.specs.declared.Refusal.{Refusal}
+use Rattle.reader.specs.declared.request.Refusal as given
 
-abbrev pub entrance_number : Verdict → ℕ
-entrance_number passed = 0
-entrance_number (refused f) = f.number
+abbrev pub unread_by : given.Refusal → Refusal
+unread_by f = record { number = f.number; place = record { argument = f.place; link = f.link } }

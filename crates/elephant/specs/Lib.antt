@@ -1,4 +1,5 @@
 pub mod Done
+pub mod Walks
 pub mod Reading
 pub mod Filing
 pub mod Removed

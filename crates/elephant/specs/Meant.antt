@@ -4,8 +4,8 @@ use Rattle.paper.specs.Line.{words}
 use Rattle.paper.specs.Request as asked
 use Rattle.paper.specs.Request.{crd, wrs, rds, cpy, dup, chn, del, dst, dpr, lst, lst_base, lst_tree, lst_base_tree, rewrite}
 use Rattle.words.specs.Place.{word_at}
-use Rattle.words.specs.Shown.{begin_meant, meant_part}
-use Rattle.declarations.specs.Given.{lifetime_part, level_part, digit_part}
+use Rattle.words.specs.Shown.{begin_meant}
+use Rattle.records.specs.Part.{meant_part}
 use Rattle.elephant.specs.declared.removal.Removal.{Removal}
 use Rattle.elephant.specs.declared.removal.Removal.TheVariants.{Delete, Destroy}
 use Rattle.reader.specs.declared.request.Request.{Request}
@@ -17,13 +17,13 @@ removal_asked Delete first count = Del first count
 removal_asked Destroy first count = Dst first count
 
 abbrev pub request_meant : List ℕ → Request → asked.Request
-request_meant line (Crd name level digit) = crd (word_at line name) (level_part level) (digit_part digit)
-request_meant line (Wrs lifetime level digit name) = wrs lifetime (level_part level) (digit_part digit) (word_at line name)
+request_meant line (Crd name level digit) = crd (word_at line name) (meant_part level) (meant_part digit)
+request_meant line (Wrs lifetime level digit name) = wrs lifetime (meant_part level) (meant_part digit) (word_at line name)
 request_meant line (Rds from name first count) = rds (begin_meant from) (word_at line name) (meant_part first) (meant_part count)
 request_meant line (Cpy from old new lifetime level digit) =
-    cpy (begin_meant from) (word_at line old) (word_at line new) (lifetime_part lifetime) (level_part level) (digit_part digit)
+    cpy (begin_meant from) (word_at line old) (word_at line new) (meant_part lifetime) (meant_part level) (meant_part digit)
 request_meant line (Dup from old to new digit) =
-    dup (begin_meant from) (word_at line old) (begin_meant to) (word_at line new) (digit_part digit)
+    dup (begin_meant from) (word_at line old) (begin_meant to) (word_at line new) (meant_part digit)
 request_meant line (Chn old link) = chn (word_at line old) (word_at line link)
 request_meant line (Del first count) = del (drop 1 (words line))
 request_meant line (Dst first count) = dst (drop 1 (words line))

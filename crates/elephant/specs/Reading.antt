@@ -10,7 +10,7 @@ use Rattle.paper.specs.Check.{Place, whole, Check, check}
 use Rattle.paper.specs.Listing.{directory_lines, directory_tree}
 use Rattle.paper.specs.Walk.{State, file}
 use Rattle.paper.specs.Effect.{Planned, read_inhibited, end_of, to_end, showing, part, beyond_end}
-use Rattle.words.specs.Shown.{meant_part}
+use Rattle.records.specs.Part.{meant_part}
 use Rattle.elephant.specs.declared.reply.Sheet.{Sheet}
 use Rattle.elephant.specs.declared.reply.Sheet.TheVariants.{Text, Lines, Deep}
 

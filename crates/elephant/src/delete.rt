@@ -12,8 +12,9 @@ ghost use Rattle.walk.specs.Shown.{meant};
 ghost use Rattle.elephant.specs.Done.{Fit, Filed};
 ghost use Rattle.elephant.specs.Removed.{Spent, Came};
 
-use crate::removal::Removed;
-use answers::Place;
+use crate::removal::{Ended, spent};
+use answers::number::Number;
+use answers::{Place, Refusal};
 use effects::counts::{Moves, count_moves, recount};
 use effects::rooms::text_rooms;
 use effects::stage::{clear_file, put};
@@ -23,19 +24,17 @@ use records::bytes::Room;
 use records::entry::{heading_named, holder_of};
 use records::heading::text_length;
 use records::text::Text;
-use walk::state::State;
+use walk::end::Ends;
 
 // The counts that move where an entry of a heading is cleared: the file's and, if it has one, its directory's.
 fn gone(table: &[u8], entry: Room, heading: Room) -> Moves
     ensures { result ≡ gone (holder_of (rec table.now entry.0)) heading.0 }
 {
-    let none = Room(Moves::NONE);
-    let less = holder_of(table, entry);
     Moves {
-        named: none,
-        lost: heading,
-        more: none,
-        less: less,
+        named: None,
+        lost: Some(heading),
+        more: None,
+        less: Some(holder_of(table, entry)),
     }
 }
 
@@ -49,7 +48,7 @@ fn take_out(table: &mut [u8], entry: Room, moves: Moves, left: usize) -> usize
 }
 
 // An entry of a heading cleared, as many of the stores as are left.
-fn clear_entry(table: &mut [u8], entry: Room, heading: Room, left: usize) -> Removed
+fn clear_entry(table: &mut [u8], entry: Room, heading: Room, left: usize) -> Result<usize, Ended>
     ensures { Spent table.old left
         (clear entry.0 ∷ count_stores (lay table.old entry.0 blank)
         (gone (holder_of (rec table.old entry.0)) heading.0)) result table.new }
@@ -57,11 +56,11 @@ fn clear_entry(table: &mut [u8], entry: Room, heading: Room, left: usize) -> Rem
     let moves = gone(table, entry, heading);
     let counts = count_moves(table, moves);
     take_out(table, entry, moves, left);
-    Removed::spent(left, counts + 1)
+    spent(left, counts + 1)
 }
 
 // The same, and its file cleared.
-fn clear_both(table: &mut [u8], entry: Room, heading: Room, left: usize) -> Removed
+fn clear_both(table: &mut [u8], entry: Room, heading: Room, left: usize) -> Result<usize, Ended>
     requires { Fit table.old × (heading.0 < rooms table.old) × (byte (rec table.old heading.0) 0 ≡ 1) }
     ensures { Spent table.old left
         (clear entry.0 ∷ count_stores (lay table.old entry.0 blank)
@@ -74,33 +73,42 @@ fn clear_both(table: &mut [u8], entry: Room, heading: Room, left: usize) -> Remo
     let counts = count_moves(table, moves);
     let rest = take_out(table, entry, moves, left);
     clear_file(table, heading, &rooms, Room(count), rest);
-    Removed::spent(left, counts + (count + 2))
+    spent(left, counts + (count + 2))
 }
 
-// The entry of f in d and, if no other entry names it, the file: 14 and 18, and as many of the stores as are left.
-pub(crate) fn delete_at(table: &mut [u8], d: State, f: State, place: Place, left: usize) -> Removed
-    requires { Filed table.old (meant f) }
-    ensures { Came table.old left (del_at table.old (place_meant place) (meant d) (meant f)) result table.new }
+// The entry of the file in its directory and, if no other entry names it, the file: 14 and 18, and as many of the stores as are left.
+pub(crate) fn delete_at(
+    table: &mut [u8],
+    ends: Ends,
+    place: Place,
+    left: usize,
+) -> Result<usize, Ended>
+    requires { Filed table.old (meant ends.file) }
+    ensures { Came table.old left (del_at table.old (place_meant place) (meant ends.directory) (meant ends.file)) result table.new }
 {
-    let applied = d.code;
-    if applied.inhibits_write() {
-        return Removed::Ended {
-            number: 14,
-            place,
+    let Ends { directory, file } = ends;
+    if directory.code.inhibits_write() {
+        return Err(Ended {
+            refusal: Refusal {
+                number: Number::WriteInhibited,
+                place,
+            },
             left,
-        };
+        });
     }
-    let entry = f.entry;
+    let entry = file.entry;
     let heading = heading_named(table, entry);
     if !is_last(table, heading) {
         return clear_entry(table, entry, heading, left);
     }
     if is_directory_peopled(table, heading) {
-        return Removed::Ended {
-            number: 18,
-            place,
+        return Err(Ended {
+            refusal: Refusal {
+                number: Number::Peopled,
+                place,
+            },
             left,
-        };
+        });
     }
     clear_both(table, entry, heading, left)
 }

@@ -8,8 +8,9 @@ ghost use Rattle.walk.specs.Shown.{meant};
 ghost use Rattle.elephant.specs.Done.{Fit, Filed};
 ghost use Rattle.elephant.specs.Removed.{Spent, Came};
 
-use crate::removal::Removed;
-use answers::Place;
+use crate::removal::{Ended, spent};
+use answers::number::Number;
+use answers::{Place, Refusal};
 use effects::naming::clear_naming;
 use effects::recount::recount_all;
 use effects::rooms::text_rooms;
@@ -24,7 +25,7 @@ use walk::state::State;
 
 // "heading cleared, text by position, then every entry naming it, by record number, then the holders' counts": as many as are left. A heading
 // says how many entries name it.
-fn clear_paths(table: &mut [u8], heading: Room, left: usize) -> Removed
+fn clear_paths(table: &mut [u8], heading: Room, left: usize) -> Result<usize, Ended>
     requires { Fit table.old × (heading.0 < rooms table.old) × (byte (rec table.old heading.0) 0 ≡ 1) }
     ensures { Spent table.old left
         (with_counts table.old (destroying table.old heading.0)) result table.new }
@@ -36,29 +37,37 @@ fn clear_paths(table: &mut [u8], heading: Room, left: usize) -> Removed
     let after_file = clear_file(table, heading, &rooms, Room(count), left);
     let after_entries = clear_naming(table, heading, after_file);
     let counts = recount_all(table, after_entries);
-    Removed::spent(left, counts + (entries + (count + 1)))
+    spent(left, counts + (entries + (count + 1)))
 }
 
 // Every path to the file f, and the file: 14 and 18, and as many of the stores as are left.
-pub(crate) fn destroy_at(table: &mut [u8], f: State, place: Place, left: usize) -> Removed
+pub(crate) fn destroy_at(
+    table: &mut [u8],
+    f: State,
+    place: Place,
+    left: usize,
+) -> Result<usize, Ended>
     requires { Filed table.old (meant f) }
     ensures { Came table.old left (dst_at table.old (place_meant place) (meant f)) result table.new }
 {
-    let applied = f.code;
-    if applied.inhibits_write() {
-        return Removed::Ended {
-            number: 14,
-            place,
+    if f.code.inhibits_write() {
+        return Err(Ended {
+            refusal: Refusal {
+                number: Number::WriteInhibited,
+                place,
+            },
             left,
-        };
+        });
     }
     let heading = heading_named(table, f.entry);
     if is_directory_peopled(table, heading) {
-        return Removed::Ended {
-            number: 18,
-            place,
+        return Err(Ended {
+            refusal: Refusal {
+                number: Number::Peopled,
+                place,
+            },
             left,
-        };
+        });
     }
     clear_paths(table, heading, left)
 }

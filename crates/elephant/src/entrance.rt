@@ -3,49 +3,41 @@ ghost use Rattle.std.specs.Prelude.{◌&&◌, List, ◌≡◌, ℕ, ltb, length}
 ghost use Rattle.paper.specs.Layout.{boxed};
 ghost use Rattle.paper.specs.Answer.{entrance, requested};
 ghost use Rattle.paper.specs.Request.{text_too_long};
-ghost use Rattle.elephant.specs.Entrance.{entrance_number};
 ghost use Rattle.elephant.specs.Meant.{request_meant};
 ghost use Rattle.elephant.specs.Admitted.{Admitted};
 ghost use Rattle.answers.specs.Promised.{Promised};
+ghost use Rattle.answers.specs.Shown.{told, verdict_shown, answer_of};
 
 use crate::change::{chn, dpr};
 use crate::copying::cpy;
-use crate::making::{crd, dup, wrs};
+use crate::making::{Declared, crd, dup, wrs};
+use crate::place::Chain;
 use crate::removal::{Removal, remove};
 use crate::reply::{Sheet, lst_base, lst_base_tree, read};
 use crate::rewriting::rewrite;
-use answers::Answer;
+use answers::number::Number;
+use answers::{Answer, Refusal};
 use reader::request::Request;
 use records::entry::Holder;
 
-// Number 1, 2 or 3, or 0: "table length no multiple of 32, or above 65,536", "table not sound", "user above 999,999".
-pub(crate) fn entrance_number(table: &[u8], user: u32) -> u8
-    ensures { result ≡ entrance_number (entrance boxed table.now user) }
+// 1, 2 and 3: "table length no multiple of 32, or above 65,536", "table not sound", "user above 999,999".
+pub(crate) fn check_entrance(table: &[u8], user: u32) -> Result<(), Refusal>
+    ensures { told result ≡ verdict_shown (entrance boxed table.now user) }
 {
-    let judged = judge::judge(table);
-    if judged != 0 {
-        return judged;
+    if let Ok(number) = Number::try_from(judge::judge(table)) {
+        return Err(Refusal::whole(number, 0));
     }
     if Holder::LAST_USER < user {
-        return 3;
+        return Err(Refusal::whole(Number::UserTooHigh, 0));
     }
-    0
+    Ok(())
 }
 
 // Whether the text is looked at: "WRS text above 24,000 bytes", and that of WRS*.
 pub(crate) fn bears_text(asked: Request) -> bool
     ensures { (line text : List ℕ) → text_too_long (request_meant line asked) text ≡ (result && ltb 24000 (length text)) }
 {
-    match asked {
-        Request::Wrs {
-            lifetime: _,
-            level: _,
-            digit: _,
-            name: _,
-        } => true,
-        Request::Rewrite { name: _ } => true,
-        _ => false,
-    }
+    matches!(asked, Request::Wrs { .. } | Request::Rewrite { .. })
 }
 
 // What was read, done by its function.
@@ -57,69 +49,86 @@ pub(crate) fn grant(
     user: u32,
     stop: u32,
     asked: Request,
-) -> Answer
+) -> Result<Answer, Refusal>
     requires { Admitted table.old line.now text.now user asked }
     ensures { Promised (requested boxed table.old line.now text.now reply.old user stop)
-        result table.new reply.new }
+        (answer_of result) table.new reply.new }
 {
     match asked {
-        Request::Crd { name, level, digit } => crd(table, line, name, level, digit, user, stop),
+        Request::Crd { name, level, digit } => {
+            crd(table, line, name, Declared { level, digit }, user, stop)
+        }
         Request::Wrs {
             lifetime,
             level,
             digit,
             name,
-        } => wrs(table, line, text, lifetime, level, digit, name, user, stop),
+        } => {
+            let declared = Declared { level, digit };
+            wrs(table, line, text, lifetime, declared, name, user, stop)
+        }
         Request::Rds {
-            from,
-            name,
-            first: a,
-            count: n,
-        } => read(table, line, reply, Sheet::Text(a, n), from, name, user),
+            from: begin,
+            name: at,
+            first,
+            count,
+        } => {
+            let sheet = Sheet::Text(first, count);
+            read(table, line, reply, sheet, Chain { at, begin }, user)
+        }
         Request::Cpy {
-            from,
-            old,
+            from: begin,
+            old: at,
             new,
-            lifetime: life,
+            lifetime,
             level,
             digit,
-        } => cpy(table, line, from, old, new, life, level, digit, user, stop),
+        } => {
+            let old = Chain { at, begin };
+            let declared = Declared { level, digit };
+            cpy(table, line, old, new, lifetime, declared, user, stop)
+        }
         Request::Dup {
             from,
             old,
             to,
             new,
             digit,
-        } => dup(table, line, from, old, to, new, digit, user, stop),
+        } => {
+            let old = Chain {
+                at: old,
+                begin: from,
+            };
+            let new = Chain { at: new, begin: to };
+            dup(table, line, old, new, digit, user, stop)
+        }
         Request::Chn { old, link } => chn(table, line, old, link, user, stop),
         Request::Del { first, count } => {
-            remove(
-                table,
-                line,
-                Removal::Delete,
-                first,
-                count as u32,
-                user,
-                stop,
-            )
+            let names = count as u32;
+            Ok(remove(table, line, Removal::Delete, first, names, user, stop))
         }
         Request::Dst { first, count } => {
-            remove(
-                table,
-                line,
-                Removal::Destroy,
-                first,
-                count as u32,
-                user,
-                stop,
-            )
+            let names = count as u32;
+            Ok(remove(table, line, Removal::Destroy, first, names, user, stop))
         }
         Request::Dpr { name, code } => dpr(table, line, name, code, user, stop),
-        Request::Lst { from, name } => read(table, line, reply, Sheet::Lines, from, name, user),
+        Request::Lst {
+            from: begin,
+            name: at,
+        } => read(table, line, reply, Sheet::Lines, Chain { at, begin }, user),
         Request::LstBase => lst_base(table, reply, user),
-        Request::LstTree { from, name, depth } => {
-            read(table, line, reply, Sheet::Deep(depth), from, name, user)
-        }
+        Request::LstTree {
+            from: begin,
+            name: at,
+            depth,
+        } => read(
+            table,
+            line,
+            reply,
+            Sheet::Deep(depth),
+            Chain { at, begin },
+            user,
+        ),
         Request::LstBaseTree { depth } => lst_base_tree(table, reply, user, depth),
         Request::Rewrite { name } => rewrite(table, line, text, name, user, stop),
     }
@@ -135,21 +144,23 @@ pub(crate) fn admit(
     user: u32,
     stop: u32,
     asked: Request,
-) -> Answer
+) -> Result<Answer, Refusal>
     requires { Admitted table.old line.now text.now user asked }
     ensures { Promised (requested boxed table.old line.now text.now reply.old user stop)
-        result table.new reply.new }
+        (answer_of result) table.new reply.new }
 {
     let Request::Cpy {
-        from,
-        old,
+        from: begin,
+        old: at,
         new,
-        lifetime: life,
+        lifetime,
         level,
         digit,
     } = asked
     else {
         return grant(table, line, text, reply, user, stop, asked);
     };
-    cpy(table, line, from, old, new, life, level, digit, user, stop)
+    let old = Chain { at, begin };
+    let declared = Declared { level, digit };
+    cpy(table, line, old, new, lifetime, declared, user, stop)
 }

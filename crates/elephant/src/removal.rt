@@ -5,15 +5,14 @@ ghost use Rattle.answers.specs.Shown.{place_meant, shown};
 ghost use Rattle.words.specs.Place.{word_at};
 ghost use Rattle.walk.specs.Shown.{meant};
 ghost use Rattle.elephant.specs.Done.{Fit, Filed};
-ghost use Rattle.elephant.specs.Removed.{spent, removal_at, removal_plan, left_by, removed_answer, Came, CameAll};
+ghost use Rattle.elephant.specs.Removed.{left_told, spent, removal_at, removal_plan, ended_answer, Came, CameAll};
 
 use crate::delete::delete_at;
 use crate::destroy::destroy_at;
-use crate::place::{at_link, end_of};
-use answers::{Answer, Place};
-use walk::end::{End, to_end};
-use walk::state::State;
-use words::begin::Begin;
+use crate::place::Chain;
+use answers::number::Number;
+use answers::{Answer, Place, Refusal};
+use walk::end::Ends;
 use words::line::next_word;
 
 // What is done to each name: DEL takes an entry out, DST every path to its file.
@@ -23,67 +22,52 @@ pub(crate) enum Removal {
     Destroy,
 }
 
-// What one name came to: done, or ended by a number at its place; and how many stores are left after it.
+// What ends the names at one of them: a number at its place; and how many stores are left.
 #[derive(Clone, Copy)]
-pub(crate) enum Removed {
-    Done(usize),
-    Ended {
-        number: u8,
-        place: Place,
-        left: usize,
-    },
+pub(crate) struct Ended {
+    pub refusal: Refusal,
+    pub left: usize,
 }
 
-impl Removed {
-    // "If more were needed, the answer is 22": so many stores are left, and so many needed.
-    pub(crate) fn spent(left: usize, needed: usize) -> Removed
-        ensures { result ≡ spent left needed }
-    {
-        if left < needed {
-            return Removed::Ended {
-                number: 22,
-                place: Place {
-                    argument: 0,
-                    link: 0,
-                },
-                left: 0,
-            };
-        }
-        Removed::Done(left - needed)
-    }
-
-    // The answer, where no name after it is tried and so many are done.
+impl Ended {
+    // The answer, where so many names are done.
     fn answer(self, names: u32, stop: u32) -> Answer
-        requires { left_by self ≤ stop }
-        ensures { result ≡ shown (removed_answer self names stop) }
+        requires { self.left ≤ stop }
+        ensures { result ≡ shown (ended_answer self names stop) }
     {
-        match self {
-            Removed::Done(left) => Answer::placeless(0, names, stop - left as u32),
-            Removed::Ended {
-                number,
-                place,
-                left,
-            } => Answer::plain(number as u32, place, names, stop - left as u32),
-        }
+        let Refusal { number, place } = self.refusal;
+        Answer::plain(u32::from(number), place, names, stop - self.left as u32)
     }
 }
 
-// One name at its end, the file f in d.
+// "If more were needed, the answer is 22": how many of the stores left are left after so many.
+pub(crate) fn spent(left: usize, needed: usize) -> Result<usize, Ended>
+    ensures { left_told result ≡ spent left needed }
+{
+    if left < needed {
+        return Err(Ended {
+            refusal: Refusal::whole(Number::Stopped, 0),
+            left: 0,
+        });
+    }
+    Ok(left - needed)
+}
+
+// One name at its end.
 fn remove_at(
     table: &mut [u8],
     removal: Removal,
-    d: State,
-    f: State,
+    ends: Ends,
     place: Place,
     left: usize,
-) -> Removed
-    requires { Filed table.old (meant f) }
+) -> Result<usize, Ended>
+    requires { Filed table.old (meant ends.file) }
     ensures { Came table.old left
-        (removal_at removal table.old (place_meant place) (meant d) (meant f)) result table.new }
+        (removal_at removal table.old (place_meant place) (meant ends.directory) (meant ends.file)) result table.new }
 {
     match removal {
-        Removal::Delete => delete_at(table, d, f, place, left),
-        Removal::Destroy => destroy_at(table, f, place, left),
+        Removal::Delete => delete_at(table, ends, place, left),
+        Removal::Destroy => destroy_at(table, ends.file, place, left),
     }
 }
 
@@ -92,26 +76,19 @@ fn remove_one(
     table: &mut [u8],
     line: &[u8],
     removal: Removal,
-    p: usize,
+    name: usize,
     user: u32,
     argument: u32,
     left: usize,
-) -> Removed
+) -> Result<usize, Ended>
     requires { Fit table.old × (length line.now ≤ 256) }
     ensures { Came table.old left
-        (removal_plan removal table.old user argument (word_at line.now p)) result table.new }
+        (removal_plan removal table.old user argument (word_at line.now name)) result table.new }
 {
-    let end = to_end(table, line, p, Begin::Own, user);
-    match end {
-        End::Off { number, link } => Removed::Ended {
-            number,
-            place: at_link(argument, link),
-            left,
-        },
-        End::At(d, f) => {
-            let place = end_of(line, p, Begin::Own, argument);
-            remove_at(table, removal, d, f, place, left)
-        }
+    let chain = Chain::own(name);
+    match chain.to_end(table, line, argument, user) {
+        Ok(ends) => remove_at(table, removal, ends, chain.end(line, argument), left),
+        Err(refusal) => Err(Ended { refusal, left }),
     }
 }
 
@@ -129,17 +106,14 @@ pub(crate) fn remove(
         × (length line.now ≤ 256) }
     ensures { CameAll removal table.old user stop (drop 1 (words line.now)) result table.new }
 {
-    let mut p = first;
-    let mut names: u32 = 0;
+    let mut name = first;
     let mut left = stop as usize;
-    while names < count {
-        let removed = remove_one(table, line, removal, p, user, names + 1, left);
-        let Removed::Done(rest) = removed else {
-            return removed.answer(names, stop);
-        };
-        left = rest;
-        names += 1;
-        p = next_word(line, p);
+    for names in 0..count {
+        match remove_one(table, line, removal, name, user, names + 1, left) {
+            Ok(rest) => left = rest,
+            Err(ended) => return ended.answer(names, stop),
+        }
+        name = next_word(line, name);
     }
-    Answer::placeless(0, names, stop - left as u32)
+    Answer::placeless(0, count, stop - left as u32)
 }

@@ -6,11 +6,12 @@ ghost use Rattle.paper.specs.Layout.{boxed};
 ghost use Rattle.paper.specs.Table.{rooms, rec};
 ghost use Rattle.words.specs.Place.{word_at};
 ghost use Rattle.walk.specs.Shown.{meant};
-ghost use Rattle.answers.specs.Shown.{place_meant};
+ghost use Rattle.answers.specs.Shown.{place_meant, answer_of};
 ghost use Rattle.elephant.specs.Done.{Fit, Filed, Tried, Did};
 
-use crate::place::{end_of, refused_at};
-use answers::{Answer, Place};
+use crate::place::Chain;
+use answers::number::Number;
+use answers::{Answer, Place, Refusal};
 use effects::rooms::{free_rooms, text_rooms};
 use effects::stage::{clear_texts, put, put_texts};
 use records::block::blocks;
@@ -19,9 +20,7 @@ use records::entry::{Entry, heading_named};
 use records::heading::{Heading, is_simple, lifetime_of, rewritten, text_length};
 use records::text::Text;
 use scans::count_free;
-use walk::end::{End, to_end};
 use walk::state::State;
-use words::begin::Begin;
 
 // "Room is free records plus the old text's": whether they are fewer than the new text's.
 fn is_no_room(table: &[u8], heading: Room, text: &[u8]) -> bool
@@ -53,27 +52,41 @@ fn rewrite_text(table: &mut [u8], heading: Room, text: &[u8], left: usize) -> us
 }
 
 // The text of the file f, whose name is at this place: 14, 15, 19 and 24, and the stores.
-fn rewrite_at(table: &mut [u8], text: &[u8], place: Place, f: State, stop: u32) -> Answer
+fn rewrite_at(
+    table: &mut [u8],
+    text: &[u8],
+    place: Place,
+    f: State,
+    stop: u32,
+) -> Result<Answer, Refusal>
     requires { Filed table.old (meant f) × (length text.now ≤ 24000) }
     ensures { Did table.old stop
-        (rewrite_at table.old text.now (place_meant place) (meant f)) result table.new }
+        (rewrite_at table.old text.now (place_meant place) (meant f)) (answer_of result) table.new }
 {
-    let applied = f.code;
-    if applied.inhibits_write() {
-        return Answer::refused(14, place);
+    if f.code.inhibits_write() {
+        return Err(Refusal {
+            number: Number::WriteInhibited,
+            place,
+        });
     }
     let heading = heading_named(table, f.entry);
     if !is_simple(table, heading) {
-        return Answer::refused(15, place);
+        return Err(Refusal {
+            number: Number::WrongType,
+            place,
+        });
     }
     if is_no_room(table, heading, text) {
-        return Answer::refused_whole(19, 0);
+        return Err(Refusal::whole(Number::NoRoom, 0));
     }
     if lifetime_of(table, heading) == Heading::LONG {
-        return Answer::refused(24, place);
+        return Err(Refusal {
+            number: Number::Long,
+            place,
+        });
     }
     let stores = rewrite_text(table, heading, text, stop as usize);
-    Answer::stored(stores as u32, stop, false)
+    Ok(Answer::stored(stores as u32, stop, false))
 }
 
 // "`WRS*` decl name, with a text, rewrites an existing simple file of lifetime M"
@@ -84,14 +97,12 @@ pub(crate) fn rewrite(
     name: usize,
     user: u32,
     stop: u32,
-) -> Answer
+) -> Result<Answer, Refusal>
     requires { Fit table.old × (length line.now ≤ 256) × (length text.now ≤ 24000) }
     ensures { Did table.old stop
-        (rewrite_plan boxed table.old user text.now (word_at line.now name)) result table.new }
+        (rewrite_plan boxed table.old user text.now (word_at line.now name)) (answer_of result) table.new }
 {
-    let end = to_end(table, line, name, Begin::Own, user);
-    match end {
-        End::Off { number, link } => refused_at(number, 2, link),
-        End::At(_, f) => rewrite_at(table, text, end_of(line, name, Begin::Own, 2), f, stop),
-    }
+    let chain = Chain::own(name);
+    let ends = chain.to_end(table, line, 2, user)?;
+    rewrite_at(table, text, chain.end(line, 2), ends.file, stop)
 }

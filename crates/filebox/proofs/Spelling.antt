@@ -37,7 +37,8 @@ laid l d at h =
     let n : length (take at l ++ d) ≡ at + length d = length-append (take at l) d ∙ ap (λ (k : ℕ). k + length d) (length-take-le at l (omega arith)) in
     rw (sets-eq d l at h, ← n) (take-append_seam (take at l ++ d) (drop (length (take at l ++ d)) l))
 
-pub spelled : (l d l₁ l₂ : List ℕ) (at n b k : ℕ) → at + 21 ≤ length l → k ≤ 20 → k ≡ length d → IsDigitCount 10 1 n k → d ≡ last_digits 10 k n → l₁ ≡ sets l at d
+pub spelled : (l d l₁ l₂ : List ℕ) (at n b k : ℕ) → at + 21 ≤ length l → k ≤ 20 → k ≡ length d → IsDigitCount 10 1 n k
+    → d ≡ last_digits 10 k n → l₁ ≡ sets l at d
     → l₂ ≡ set l₁ (at + k) b → Spelled l at n b (at + k + 1) l₂
 spelled l d l₁ l₂ at n b k room few e f g p q =
     record {

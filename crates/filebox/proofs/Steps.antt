@@ -17,7 +17,7 @@ use Rattle.answers.specs.Promised.{Keeps}
 use Rattle.answers.specs.declared.Answer.{Answer}
 use Rattle.filebox.specs.FirstWord.{after, stages, takes}
 use Rattle.filebox.specs.Box.{Box, between, kept, outcome, answered, grown, takes_text, ended, stepped, fed, finished}
-use Rattle.filebox.specs.Shows.{Shows, Follows, Grows, Came, Over, Further, fresh}
+use Rattle.filebox.specs.Shows.{Shows, Follows, Came, Over, fresh}
 use Rattle.filebox.specs.Spelled.{Line, Asks}
 use Rattle.filebox.specs.declared.held.Held.{Held}
 use Rattle.filebox.specs.declared.output.Answered.{Answered}
@@ -74,7 +74,7 @@ module _ (t d l m r : List ℕ) (h : Held) where
       }
 
   -- a byte of a text
-  text-follows : (b : ℕ) → h.asked ≡ true → (h' : Held) → h'.line ≡ h.line → h'.stage ≡ h.stage → h'.asked ≡ true
+  pub text-follows : (b : ℕ) → h.asked ≡ true → (h' : Held) → h'.line ≡ h.line → h'.stage ≡ h.stage → h'.asked ≡ true
       → h'.text ≡ cond (ltb h.text (length m)) (h.text + 1) h.text → Follows (λ x. grown x b) t d l m r h t d l (set m h.text b) r h'
   unfolding grown
   text-follows b e h' p q g n =
@@ -93,7 +93,7 @@ module _ (t d l m r : List ℕ) (h : Held) where
       }
 
   -- a byte of a line
-  line-follows : (b : ℕ) → h.asked ≡ false → (h' : Held) → h'.line ≡ cond (ltb h.line (length l)) (h.line + 1) h.line
+  pub line-follows : (b : ℕ) → h.asked ≡ false → (h' : Held) → h'.line ≡ cond (ltb h.line (length l)) (h.line + 1) h.line
       → h'.stage ≡ after h.stage b → h'.asked ≡ false → h'.text ≡ h.text → Follows (λ x. grown x b) t d l m r h t d (set l h.line b) m r h'
   unfolding grown
   line-follows b e h' p q g n =
@@ -112,10 +112,10 @@ module _ (t d l m r : List ℕ) (h : Held) where
       }
 
   -- a text ends, or a line that takes none
-  pub answer-ends : (t' d' r' : List ℕ) (h' : Held) → (h.asked ≡ true) ⊎ (takes h.stage ≡ false)
-      → Follows answered t d l m r h t' d' l m r' h' → Follows ended t d l m r h t' d' l m r' h'
+  pub answer-ends : (t' d' l' m' r' : List ℕ) (h' : Held) → (h.asked ≡ true) ⊎ (takes h.stage ≡ false)
+      → Follows answered t d l m r h t' d' l' m' r' h' → Follows ended t d l m r h t' d' l' m' r' h'
   unfolding ended
-  answer-ends t' d' r' h' e f = record { shows = λ x s. rw (test x s e) (f.shows x s) }
+  answer-ends t' d' l' m' r' h' e f = record { shows = λ x s. rw (test x s e) (f.shows x s) }
     where
       test : (x : Box) → Shows x t d l m r h → (h.asked ≡ true) ⊎ (takes h.stage ≡ false) → (not x.asked && takes_text x.line) ≡ false
       test x s (inl a) = rw (sym s.asked ∙ a)
@@ -144,24 +144,24 @@ module _ (t d l m r : List ℕ) (h : Held) where
       test x s = rw (sym s.asked ∙ a, ← first_word x.line, ← s.stage) w
 
   -- a byte of the input
-  pub end-steps : (b : ℕ) (t' d' r' : List ℕ) (h' : Held) → eqb b 10 ≡ true → Follows ended t d l m r h t' d' l m r' h'
-      → Follows (λ x. stepped x b) t d l m r h t' d' l m r' h'
+  pub end-steps : (b : ℕ) (t' d' l' m' r' : List ℕ) (h' : Held) → eqb b 10 ≡ true → Follows ended t d l m r h t' d' l' m' r' h'
+      → Follows (λ x. stepped x b) t d l m r h t' d' l' m' r' h'
   unfolding stepped
-  end-steps b t' d' r' h' e f = record { shows = λ x s. rw e (f.shows x s) }
+  end-steps b t' d' l' m' r' h' e f = record { shows = λ x s. rw e (f.shows x s) }
 
-  pub grow-steps : (b : ℕ) (l' m' : List ℕ) (h' : Held) → eqb b 10 ≡ false → Grows b l m h l' m' h'
-      → Follows (λ x. stepped x b) t d l m r h t d l' m' r h'
+  pub grow-steps : (b : ℕ) (t' d' l' m' r' : List ℕ) (h' : Held) → eqb b 10 ≡ false → Follows (λ x. grown x b) t d l m r h t' d' l' m' r' h'
+      → Follows (λ x. stepped x b) t d l m r h t' d' l' m' r' h'
   unfolding stepped
-  grow-steps b l' m' h' e f = record { shows = λ x s. rw e ((f.shows t d r).shows x s) }
+  grow-steps b t' d' l' m' r' h' e f = record { shows = λ x s. rw e (f.shows x s) }
 
   -- the end of the input
   begun : (x : Box) → Shows x t d l m r h → 0 < h.line → 0 < length x.line
   begun x s p = omega (arith, s.line.count ∙ length-take 257 x.line)
 
-  pub answer-finishes : (t' d' r' : List ℕ) (h' : Held) → (h.asked ≡ true) ⊎ (0 < h.line) → Follows answered t d l m r h t' d' l m r' h'
-      → Follows finished t d l m r h t' d' l m r' h'
+  pub answer-finishes : (t' d' l' m' r' : List ℕ) (h' : Held) → (h.asked ≡ true) ⊎ (0 < h.line) → Follows answered t d l m r h t' d' l' m' r' h'
+      → Follows finished t d l m r h t' d' l' m' r' h'
   unfolding finished
-  answer-finishes t' d' r' h' e f = record { shows = λ x s. rw (test x s e) (f.shows x s) }
+  answer-finishes t' d' l' m' r' h' e f = record { shows = λ x s. rw (test x s e) (f.shows x s) }
     where
       test : (x : Box) → Shows x t d l m r h → (h.asked ≡ true) ⊎ (0 < h.line) → (x.asked || ltb 0 (length x.line)) ≡ true
       test x s (inl a) = rw (sym s.asked ∙ a)
@@ -173,16 +173,6 @@ module _ (t d l m r : List ℕ) (h : Held) where
     where
       test : (x : Box) → Shows x t d l m r h → (x.asked || ltb 0 (length x.line)) ≡ false
       test x s = rw (sym s.asked ∙ a) (le-ltb 0 (length x.line) (omega (arith, s.line.count ∙ length-take 257 x.line)))
-
--- a byte, whatever the table, its index and the reply are
-module _ (l m : List ℕ) (h : Held) (b : ℕ) {h' : Held} where
-  pub text-grows : {m' : List ℕ} → h.asked ≡ true → h'.line ≡ h.line → h'.stage ≡ h.stage → h'.asked ≡ true
-      → h'.text ≡ cond (ltb h.text (length m)) (h.text + 1) h.text → m' ≡ set m h.text b → Grows b l m h l m' h'
-  text-grows e p q g n k = rw k (record { shows = λ t d r. text-follows t d l m r h b e h' p q g n })
-
-  pub line-grows : {l' : List ℕ} → h.asked ≡ false → h'.line ≡ cond (ltb h.line (length l)) (h.line + 1) h.line
-      → h'.stage ≡ after h.stage b → h'.asked ≡ false → h'.text ≡ h.text → l' ≡ set l h.line b → Grows b l m h l' m h'
-  line-grows e p q g n k = rw k (record { shows = λ t d r. line-follows t d l m r h b e h' p q g n })
 
 -- one byte of the input more
 fed-more : (x : Box) (s : List ℕ) (b : ℕ) → fed x (s ++ b ∷ []) ≡ stepped (fed x s) b
@@ -219,20 +209,16 @@ came-none t d l m r h heard p q e =
       shows = record { table = refl; index = refl; reply = refl; line = holds-none 257 l p; stage = refl; asked = refl; text = holds-none 24001 m q };
     })
 
-pub came-further : (input : List ℕ) (t d l m r : List ℕ) (h : Held) (t' d' l' m' r' : List ℕ) (h' : Held)
-    → Follows (λ y. fed y input) t d l m r h t' d' l' m' r' h' → Further t d l m r h t' d' l' m' r' h'
-came-further input t d l m r h t' d' l' m' r' h' f =
+pub came-more : (input t₀ d₀ r₀ t d l m r : List ℕ) (h : Held) (t' d' l' m' r' : List ℕ) (h' : Held)
+    → Follows (λ y. fed y input) t d l m r h t' d' l' m' r' h' → Came t₀ d₀ r₀ t d l m r h → Came t₀ d₀ r₀ t' d' l' m' r' h'
+came-more input t₀ d₀ r₀ t d l m r h t' d' l' m' r' h' f c =
     record {
-      came =
-          λ t₀ d₀ r₀ c.
-          record {
-            input = c.input ++ input;
-            shows = rw (fed-append (between t₀ d₀ r₀) c.input input) (f.shows (fed (between t₀ d₀ r₀) c.input) c.shows);
-          };
+      input = c.input ++ input;
+      shows = rw (fed-append (between t₀ d₀ r₀) c.input input) (f.shows (fed (between t₀ d₀ r₀) c.input) c.shows);
     }
 
-pub came-over : (t₀ d₀ r₀ t d l m r : List ℕ) (h : Held) (t' d' r' : List ℕ) (h' : Held) → Came t₀ d₀ r₀ t d l m r h
-    → Follows finished t d l m r h t' d' l m r' h' → Over t₀ d₀ r₀ t' d' r'
-came-over t₀ d₀ r₀ t d l m r h t' d' r' h' c f =
+pub came-over : (t₀ d₀ r₀ t d l m r : List ℕ) (h : Held) (t' d' l' m' r' : List ℕ) (h' : Held) → Came t₀ d₀ r₀ t d l m r h
+    → Follows finished t d l m r h t' d' l' m' r' h' → Over t₀ d₀ r₀ t' d' r'
+came-over t₀ d₀ r₀ t d l m r h t' d' l' m' r' h' c f =
     let s = f.shows (fed (between t₀ d₀ r₀) c.input) c.shows in
     record { input = c.input; table = s.table; index = s.index; reply = s.reply }

@@ -2,7 +2,7 @@
 -- are, and a text longer than 24,001 bytes likewise: `requested-cut` of `demands`.
 use Rattle.std.specs.Prelude.{Bool, false, List, ◌≡◌, ℕ, length, take}
 use Rattle.filebox.specs.FirstWord.{stages}
-use Rattle.filebox.specs.Box.{Box, between, grown, fed, finished}
+use Rattle.filebox.specs.Box.{Box, between, fed, finished}
 use Rattle.filebox.specs.declared.held.Held.{Held}
 use Rattle.filebox.specs.declared.first_word.Stage.TheVariants.{Blanks}
 
@@ -26,10 +26,6 @@ pub record Shows (x : Box) (t d l m r : List ℕ) (h : Held) : Type 0 where
 pub record Follows (f : Box → Box) (t d l m r : List ℕ) (h : Held) (t' d' l' m' r' : List ℕ) (h' : Held) : Type 0 where
   pub shows : (x : Box) → Shows x t d l m r h → Shows (f x) t' d' l' m' r' h'
 
--- a byte more is shown, whatever the table, its index and the reply are
-pub record Grows (b : ℕ) (l m : List ℕ) (h : Held) (l' m' : List ℕ) (h' : Held) : Type 0 where
-  pub shows : (t d r : List ℕ) → Follows (λ x. grown x b) t d l m r h t d l' m' r h'
-
 -- some input, which no contract can name, has led from a table, its index and a reply to what is shown
 pub record Came (t₀ d₀ r₀ t d l m r : List ℕ) (h : Held) : Type 0 where
   pub input : List ℕ
@@ -41,10 +37,6 @@ pub record Over (t₀ d₀ r₀ t d r : List ℕ) : Type 0 where
   pub table : t ≡ (finished (fed (between t₀ d₀ r₀) input)).table
   pub index : d ≡ (finished (fed (between t₀ d₀ r₀) input)).index
   pub reply : r ≡ (finished (fed (between t₀ d₀ r₀) input)).reply
-
--- one read further
-pub record Further (t d l m r : List ℕ) (h : Held) (t' d' l' m' r' : List ℕ) (h' : Held) : Type 0 where
-  pub came : (t₀ d₀ r₀ : List ℕ) → Came t₀ d₀ r₀ t d l m r h → Came t₀ d₀ r₀ t' d' l' m' r' h'
 
 -- nothing is held of a line
 abbrev pub fresh : Bool → Held

@@ -60,15 +60,6 @@ impl Stage {
     pub(crate) fn takes_text(self) -> bool
         ensures { result ≡ takes self }
     {
-        match self {
-            Stage::Blanks => false,
-            Stage::W => false,
-            Stage::Wr => false,
-            Stage::Wrs => true,
-            Stage::Star => true,
-            Stage::Gap => true,
-            Stage::Is => true,
-            Stage::IsNot => false,
-        }
+        matches!(self, Stage::Wrs | Stage::Star | Stage::Gap | Stage::Is)
     }
 }

@@ -1,8 +1,20 @@
-// What is held of the line that is being read, and of its text: their first bytes, in two lent buffers.
+// The memory that the program runs in, and what it holds of the line that is being read and of its text: their first bytes.
 ghost use Rattle.std.specs.Prelude.{cond, ◌≡◌, ◌+◌, ltb, length, take, set};
 ghost use Rattle.filebox.specs.Shows.{fresh};
 
 use crate::first_word::Stage;
+use std::io::Stdout;
+
+// "a table of at most 1,024 records, .. and a reply buffer of 24,000 bytes"; the table's index, a line and a text; and where the answers go.
+#[derive(Drop)]
+pub(crate) struct Memory {
+    pub table: [u8; 32768],
+    pub index: [u16; 1024],
+    pub line: [u8; 257],
+    pub text: [u8; 24001],
+    pub reply: [u8; 24000],
+    pub out: Stdout,
+}
 
 #[derive(Clone, Copy)]
 pub(crate) struct Held {
@@ -26,7 +38,7 @@ impl Held {
             stage: Stage::Blanks,
             asked: false,
             text: 0,
-            heard: heard,
+            heard,
         }
     }
 }
@@ -35,10 +47,7 @@ impl Held {
 pub(crate) fn first(s: &[u8], n: usize) -> &[u8]
     ensures { result.now ≡ take n s.now }
 {
-    if n <= s.len() {
-        return &s[..n];
-    }
-    s
+    &s[..n.min(s.len())]
 }
 
 // One byte more after the first n, where there is room.
@@ -47,7 +56,8 @@ pub(crate) fn keep(s: &mut [u8], n: usize, b: u8) -> usize
 {
     if n < s.len() {
         s[n] = b;
-        return n + 1;
+        n + 1
+    } else {
+        n
     }
-    n
 }

@@ -7,92 +7,41 @@ mod held;
 mod output;
 mod service;
 
-ghost use Rattle.std.specs.Prelude.{true, ◌≡◌, ◌<◌, length};
+ghost use Rattle.std.specs.Prelude.{true, ◌≡◌};
 ghost use Rattle.filebox.specs.Box.{begins_true};
-ghost use Rattle.filebox.specs.Shows.{Over, Further};
+ghost use Rattle.filebox.specs.Shows.{Over};
 
-use crate::held::Held;
+use crate::held::{Held, Memory};
 use crate::service::{feed, finish};
 use std::io::{Read, Stdin};
 
-// What is held after a read, and how many reads are left.
-#[derive(Clone, Copy)]
-struct Turn {
-    held: Held,
-    reads: u64,
-}
-
-// Reads once. None is left at the end of the input, or where it cannot be read or an answer could not be written.
-fn read_some(
-    mut input: Stdin,
-    table: &mut [u8],
-    index: &mut [u16],
-    line: &mut [u8],
-    text: &mut [u8],
-    reply: &mut [u8],
-    held: Held,
-    reads: u64,
-) -> Turn
-    requires { 0 < reads }
-    ensures { Further table.old index.old line.old text.old reply.old
-        held table.new index.new line.new text.new reply.new result.held × (result.reads < reads) }
+// Reads up to the end of the input, or until it cannot be read or an answer could not be written. A proved loop has to end, and nothing says
+// that the input does: so the reads are counted, up to a number that no run uses up.
+fn serve(mut input: Stdin, memory: &mut Memory)
+    requires { begins_true memory.old.table memory.old.index ≡ true }
+    ensures { Over memory.old.table memory.old.index memory.old.reply memory.new.table memory.new.index memory.new.reply }
 {
     let mut chunk = io::buffer();
-    let n = input.read(&mut chunk).unwrap_or(0);
-    if n == 0 {
-        return Turn {
-            held: held,
-            reads: 0,
-        };
-    }
-    let next = feed(table, index, line, text, reply, held, &chunk[..n]);
-    if next.heard {
-        return Turn {
-            held: next,
-            reads: reads - 1,
-        };
-    }
-    Turn {
-        held: next,
-        reads: 0,
-    }
-}
-
-// A proved loop has to end, and nothing says that the input does: so the reads are counted down, from a number that no run uses up.
-fn serve(
-    input: Stdin,
-    table: &mut [u8],
-    index: &mut [u16],
-    line: &mut [u8],
-    text: &mut [u8],
-    reply: &mut [u8],
-)
-    requires { (length line.old ≡ 257) × (length text.old ≡ 24001) × (begins_true table.old index.old ≡ true) }
-    ensures { Over table.old index.old reply.old table.new index.new reply.new }
-{
     let mut held = Held::new(true);
-    let mut reads = u64::MAX;
-    while 0 < reads {
-        let next = read_some(input, table, index, line, text, reply, held, reads);
-        held = next.held;
-        reads = next.reads;
+    for _ in 0..u64::MAX {
+        let n = input.read(&mut chunk).unwrap_or(0);
+        held = feed(memory, held, &chunk[..n]);
+        if n == 0 || !held.heard {
+            break;
+        }
     }
-    finish(table, index, line, text, reply, held);
+    finish(memory, held);
 }
 
-// "a table of at most 1,024 records, all free at the start, .. and a reply buffer of 24,000 bytes"; its index, no entry in it
+// "all free at the start": no entry in the index
 fn main(rt: HostRuntime) {
-    let mut table = [0u8; 32768];
-    let mut index = [65535u16; 1024];
-    let mut line = [0u8; 257];
-    let mut text = [0u8; 24001];
-    let mut reply = [0u8; 24000];
-    serve(
-        rt.stdin(),
-        &mut table,
-        &mut index,
-        &mut line,
-        &mut text,
-        &mut reply,
-    );
+    let mut memory = Memory {
+        table: [0; 32768],
+        index: [65535; 1024],
+        line: [0; 257],
+        text: [0; 24001],
+        reply: [0; 24000],
+        out: rt.stdout(),
+    };
+    serve(rt.stdin(), &mut memory);
 }

@@ -4,8 +4,7 @@ ghost use Rattle.filebox.specs.Spelled.{Spelled, Line};
 
 use answers::Answer;
 use records::store::copy_in;
-
-const STDOUT: i32 = 1;
+use std::io::{Stdout, Write};
 
 // A number in decimal from a place on, and a byte after it; answers the place past them.
 fn spell_wide(out: &mut [u8], at: usize, n: u64, after: u8) -> usize
@@ -25,7 +24,7 @@ fn spell(out: &mut [u8], at: usize, n: u32, after: u8) -> usize
     requires { at + 21 ≤ length out.old }
     ensures { Spelled out.old at n after result out.new }
 {
-    spell_wide(out, at, n as u64, after)
+    spell_wide(out, at, u64::from(n), after)
 }
 
 // "each answer's .. numbers in decimal on a line, a blank between, displaced as 0 or 1": the place is two of the seven
@@ -50,9 +49,6 @@ pub(crate) struct Answered {
 }
 
 // .. "then the reply bytes". Answers whether all of it was written.
-pub(crate) fn put(line: &[u8], reply: &[u8]) -> bool {
-    if !io::write_all(STDOUT, line) {
-        return false;
-    }
-    io::write_all(STDOUT, reply)
+pub(crate) fn put(out: &mut Stdout, line: &[u8], reply: &[u8]) -> bool {
+    out.write_all(line).is_ok() && out.write_all(reply).is_ok()
 }

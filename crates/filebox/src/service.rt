@@ -1,10 +1,10 @@
 // The input, byte by byte: a line grows, ends and is answered.
 ghost use Rattle.std.specs.Prelude.{◌≡◌, length};
-ghost use Rattle.filebox.specs.Box.{answered, ended, stepped, fed, finished};
-ghost use Rattle.filebox.specs.Shows.{Follows, Grows};
+ghost use Rattle.filebox.specs.Box.{answered, grown, ended, stepped, fed, finished};
+ghost use Rattle.filebox.specs.Shows.{Follows};
 ghost use Rattle.filebox.specs.Spelled.{Asks};
 
-use crate::held::{Held, first, keep};
+use crate::held::{Held, Memory, first, keep};
 use crate::output::{Answered, put, spell_answer};
 
 // "acts for user 1 with k 65,535"
@@ -13,169 +13,105 @@ const USER: u32 = 1;
 const STOP: u32 = 65535;
 
 // The request that is held is made, and its answer put into words.
-fn ask(
-    table: &mut [u8],
-    index: &mut [u16],
-    line: &[u8],
-    text: &[u8],
-    reply: &mut [u8],
-    held: Held,
-    out: &mut [u8],
-) -> Answered
-    requires { length out.old ≡ 147 }
-    ensures { Asks table.old index.old line.now text.now reply.old
-        held table.new index.new reply.new out.new result }
+fn ask(memory: &mut Memory, held: Held, words: &mut [u8]) -> Answered
+    requires { length words.old ≡ 147 }
+    ensures { Asks memory.old.table memory.old.index memory.old.line memory.old.text memory.old.reply
+        held memory.new.table memory.new.index memory.new.reply words.new result
+        × (memory.new.line ≡ memory.old.line) × (memory.new.text ≡ memory.old.text) }
 {
-    let n = held.line;
-    let m = held.text;
     let answer = indexed::request(
-        table,
-        index,
-        first(line, n),
-        first(text, m),
-        reply,
+        &mut memory.table,
+        &mut memory.index,
+        first(&memory.line, held.line),
+        first(&memory.text, held.text),
+        &mut memory.reply,
         USER,
         STOP,
     );
     Answered {
-        line: spell_answer(answer, out),
+        line: spell_answer(answer, words),
         reply: answer.bytes,
     }
 }
 
 // .. and written, unless an earlier one could not be.
-fn answer(
-    table: &mut [u8],
-    index: &mut [u16],
-    line: &[u8],
-    text: &[u8],
-    reply: &mut [u8],
-    held: Held,
-) -> Held
-    ensures { Follows answered table.old index.old line.now text.now reply.old
-        held table.new index.new line.now text.now reply.new result }
+fn answer(memory: &mut Memory, held: Held) -> Held
+    ensures { Follows answered memory.old.table memory.old.index memory.old.line memory.old.text memory.old.reply
+        held memory.new.table memory.new.index memory.new.line memory.new.text memory.new.reply result }
 {
-    let mut out = [0u8; 147];
-    let told = ask(table, index, line, text, reply, held, &mut out);
-    let n = told.line;
-    let m = told.reply;
-    if held.heard {
-        return Held::new(put(first(&out, n), first(reply, m)));
-    }
-    Held::new(false)
+    let mut words = [0u8; 147];
+    let told = ask(memory, held, &mut words);
+    let line = first(&words, told.line);
+    let heard = held.heard && put(&mut memory.out, line, first(&memory.reply, told.reply));
+    Held::new(heard)
 }
 
 // A byte of a line or of a text.
-fn grow(line: &mut [u8], text: &mut [u8], held: Held, b: u8) -> Held
-    ensures { Grows b line.old text.old held line.new text.new result }
+fn grow(memory: &mut Memory, held: Held, b: u8) -> Held
+    ensures { Follows (λ x. grown x b) memory.old.table memory.old.index memory.old.line memory.old.text memory.old.reply
+        held memory.new.table memory.new.index memory.new.line memory.new.text memory.new.reply result }
 {
-    let n = held.line;
-    let stage = held.stage;
-    let m = held.text;
     if held.asked {
-        return Held {
-            line: n,
-            stage: stage,
-            asked: true,
-            text: keep(text, m, b),
-            heard: held.heard,
-        };
-    }
-    Held {
-        line: keep(line, n, b),
-        stage: stage.after(b),
-        asked: false,
-        text: m,
-        heard: held.heard,
+        Held {
+            text: keep(&mut memory.text, held.text, b),
+            ..held
+        }
+    } else {
+        Held {
+            line: keep(&mut memory.line, held.line, b),
+            stage: held.stage.after(b),
+            ..held
+        }
     }
 }
 
 // "takes the line after a WRS, refused or not, as its text", and that after a WRS*
-fn end(
-    table: &mut [u8],
-    index: &mut [u16],
-    line: &[u8],
-    text: &[u8],
-    reply: &mut [u8],
-    held: Held,
-) -> Held
-    ensures { Follows ended table.old index.old line.now text.now reply.old
-        held table.new index.new line.now text.now reply.new result }
+fn end(memory: &mut Memory, held: Held) -> Held
+    ensures { Follows ended memory.old.table memory.old.index memory.old.line memory.old.text memory.old.reply
+        held memory.new.table memory.new.index memory.new.line memory.new.text memory.new.reply result }
 {
-    let stage = held.stage;
-    if held.asked {
-        return answer(table, index, line, text, reply, held);
-    }
-    if stage.takes_text() {
-        return Held {
-            line: held.line,
-            stage: stage,
+    if !held.asked && held.stage.takes_text() {
+        Held {
             asked: true,
-            text: held.text,
-            heard: held.heard,
-        };
+            ..held
+        }
+    } else {
+        answer(memory, held)
     }
-    answer(table, index, line, text, reply, held)
 }
 
 // A byte of the input: byte 10 ends a line or a text.
-fn step(
-    table: &mut [u8],
-    index: &mut [u16],
-    line: &mut [u8],
-    text: &mut [u8],
-    reply: &mut [u8],
-    held: Held,
-    b: u8,
-) -> Held
-    ensures { Follows (λ x. stepped x b) table.old index.old line.old text.old reply.old
-        held table.new index.new line.new text.new reply.new result }
+fn step(memory: &mut Memory, held: Held, b: u8) -> Held
+    ensures { Follows (λ x. stepped x b) memory.old.table memory.old.index memory.old.line memory.old.text memory.old.reply
+        held memory.new.table memory.new.index memory.new.line memory.new.text memory.new.reply result }
 {
     if b == b'\n' {
-        return end(table, index, line, text, reply, held);
+        end(memory, held)
+    } else {
+        grow(memory, held, b)
     }
-    grow(line, text, held, b)
 }
 
 // What was read.
-pub(crate) fn feed(
-    table: &mut [u8],
-    index: &mut [u16],
-    line: &mut [u8],
-    text: &mut [u8],
-    reply: &mut [u8],
-    held: Held,
-    input: &[u8],
-) -> Held
-    ensures { Follows (λ x. fed x input.now) table.old index.old line.old text.old reply.old
-        held table.new index.new line.new text.new reply.new result }
+pub(crate) fn feed(memory: &mut Memory, held: Held, input: &[u8]) -> Held
+    ensures { Follows (λ x. fed x input.now) memory.old.table memory.old.index memory.old.line memory.old.text memory.old.reply
+        held memory.new.table memory.new.index memory.new.line memory.new.text memory.new.reply result }
 {
     let mut now = held;
-    let mut i = 0;
-    while i < input.len() {
-        now = step(table, index, line, text, reply, now, input[i]);
-        i += 1;
+    for &b in input {
+        now = step(memory, now, b);
     }
     now
 }
 
 // At the end of the input: a line with no byte 10, or a WRS or a WRS* with no text line.
-pub(crate) fn finish(
-    table: &mut [u8],
-    index: &mut [u16],
-    line: &[u8],
-    text: &[u8],
-    reply: &mut [u8],
-    held: Held,
-) -> Held
-    ensures { Follows finished table.old index.old line.now text.now reply.old
-        held table.new index.new line.now text.now reply.new result }
+pub(crate) fn finish(memory: &mut Memory, held: Held) -> Held
+    ensures { Follows finished memory.old.table memory.old.index memory.old.line memory.old.text memory.old.reply
+        held memory.new.table memory.new.index memory.new.line memory.new.text memory.new.reply result }
 {
-    if held.asked {
-        return answer(table, index, line, text, reply, held);
+    if held.asked || 0 < held.line {
+        answer(memory, held)
+    } else {
+        held
     }
-    if 0 < held.line {
-        return answer(table, index, line, text, reply, held);
-    }
-    held
 }

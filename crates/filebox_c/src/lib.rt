@@ -82,18 +82,12 @@ pub extern "C" fn filebox_lamp(
     lamp::run_job(table, index, sheets, texts, back, chain, user, stop)
 }
 
-fn wide(number: u8) -> u32
-    ensures { result ≡ number }
-{
-    number as u32
-}
-
 // A table with a byte for each character of its names, converted to six-bit names.
 #[unsafe(no_mangle)]
 pub extern "C" fn filebox_to_six(table: &mut [u8]) -> u32
     ensures { (result ≡ (converting old six table.old).number) × (table.new ≡ (converting old six table.old).table) }
 {
-    wide(convert::to_six(table))
+    u32::from(convert::to_six(table))
 }
 
 // .. and back.
@@ -101,7 +95,7 @@ pub extern "C" fn filebox_to_six(table: &mut [u8]) -> u32
 pub extern "C" fn filebox_from_six(table: &mut [u8]) -> u32
     ensures { (result ≡ (converting six old table.old).number) × (table.new ≡ (converting six old table.old).table) }
 {
-    wide(convert::from_six(table))
+    u32::from(convert::from_six(table))
 }
 
 // The phase in which a record is written to a disk, by the tables before and after a request.
@@ -109,5 +103,5 @@ pub extern "C" fn filebox_from_six(table: &mut [u8]) -> u32
 pub extern "C" fn filebox_disk_phase(before: &[u8], after: &[u8], place: usize) -> u8
     ensures { result ≡ phase before.now after.now place }
 {
-    phases::phase(before, after, Room(place))
+    phases::phase(before, after, Room(place)).number()
 }

@@ -1,4 +1,5 @@
-// Bytes and numbers of a record, read where the caller knows that the record is there.
+// Bytes and numbers of a record, read where the caller knows that the record is there: without the test of each byte of `records::bytes`, since they
+// are the search's speed.
 ghost use Rattle.std.specs.Prelude.{◌≡◌, ◌<◌};
 ghost use Rattle.paper.specs.Number.{number_at};
 ghost use Rattle.paper.specs.Record.{byte, two, three};
@@ -6,24 +7,12 @@ ghost use Rattle.paper.specs.Table.{rooms, rec};
 
 use records::bytes::Room;
 
-fn wide(x: u8) -> u64
-    ensures { (result ≡ x) × (result < 256) }
-{
-    x as u64
-}
-
-pub(crate) fn wide16(x: u16) -> usize
-    ensures { (result ≡ x) × (result < 65536) }
-{
-    x as usize
-}
-
 // The byte at place j of record i.
 pub(crate) fn byte_of(t: &[u8], i: usize, j: usize) -> u64
     requires { (i < rooms t.now) × (j < 32) }
     ensures { (result ≡ byte (rec t.now i) j) × (result < 256) }
 {
-    wide(t[i * Room::SIZE + j])
+    u64::from(t[i * Room::SIZE + j])
 }
 
 // The two-byte number at place j of record i, low byte first.

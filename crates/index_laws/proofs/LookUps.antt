@@ -15,7 +15,7 @@ use Rattle.paper.specs.Scan.{any_below, at, nowhere, first_below}
 use Rattle.paper.specs.Table.{rooms}
 use Rattle.paper.specs.Name.{link_name}
 use Rattle.paper.specs.Entry.{Holder}
-use Rattle.paper.specs.Index.{Met, rank, is_entry, entries, true_index, is_true, sought, used, met_at, rank_in, looked_up}
+use Rattle.paper.specs.Index.{Met, Sought, rank, is_entry, entries, true_index, is_true, sought, used, met_at, rank_in, looked_up}
 use Rattle.laws.proofs.Entries.{same_true}
 use Rattle.laws.proofs.Scans.{any-true, first-here, first-none}
 use Rattle.laws.proofs.Tests.{truth, and_left, and_right, and_both, false-by}
@@ -81,8 +81,9 @@ module _ (t x : List ℕ) (y : ℕ) where
   unfolding scanned
   go up w (inl f) =
       let m = (sought-met (rank t) (entries t) y).1 f in
-      let r = scan-met t y up (get_or (entries t) (sought (rank t) (entries t) y).place 0) (place_in (entries t) (sought (rank t) (entries t) y).place m.0) m.1 in
-      rw (f, r, place_at w (sought (rank t) (entries t) y).place m.0)
+      let j = (sought (rank t) (entries t) y).place in
+      let r = scan-met t y up (get_or (entries t) j 0) (place_in (entries t) j m.0) m.1 in
+      rw (f, r, place_at w j m.0)
   go up w (inr f) =
       let m = sought-split (rank t) (entries t) y (up-places (rank t) 0 (entries t) up) f in
       let r = scan-none t y up (λ p l (z : rank t (get_or (entries t) p 0) ≡ y). by_cases (dec_lt p (sought (rank t) (entries t) y).place)
@@ -122,29 +123,22 @@ module _ (t x : List ℕ) (d : Holder) (n : List ℕ) where
   pub looked-at : length x ≤ 2048 → (looked_up t x d n).count ≤ 12
   looked-at h = looked-most 12 (omega arith)
 
--- ---- the code's steps: m places are used, and the search over them for rank y tells f, j and n
+-- ---- the code's steps: m places are used, and s is what the search over them for rank y ended with
 
-module _ (t x : List ℕ) (y m : ℕ) (f : Bool) (j n : ℕ) (u : m ≡ used x) (a : f ≡ (sought (rank t) (take m x) y).found)
-    (b : j ≡ (sought (rank t) (take m x) y).place) (c : n ≡ (sought (rank t) (take m x) y).count) where
-  pub place-below : f ≡ true → j < length x
-  place-below q =
-      let r = (sought-met (rank t) (take m x) y).1 (sym a ∙ q) in
-      let z : length (take m x) ≤ length x = rw u (omega (arith, used-length x, used-most x)) in
-      omega (arith, r.0, b)
+module _ (t x : List ℕ) (y m : ℕ) (u : m ≡ used x) (s : Sought) (g : s ≡ sought (rank t) (take m x) y) where
+  places : length (take m x) ≤ length x
+  places = rw u (omega (arith, used-length x, used-most x))
 
-  pub count_small : length x < 2 ^ 64 → n ≤ 64
-  count_small h =
-      let z : length (take m x) ≤ length x = rw u (omega (arith, used-length x, used-most x)) in
-      omega (arith, sought-most (rank t) (take m x) y 64 (omega arith), c)
+  pub place-below : s.found ≡ true → s.place < length x
+  place-below q = let r = (sought-met (rank t) (take m x) y).1 (rw g at q) in rw g (omega (arith, r.0, places))
+
+  pub count_small : length x < 2 ^ 64 → s.count ≤ 64
+  count_small h = rw g (sought-most (rank t) (take m x) y 64 (omega (arith, places)))
 
   module _ (d : Holder) (name : List ℕ) (l : link_name name ≡ true) (e : y ≡ rank_in d name) where
-    pub answer-met : f ≡ true → ◌≡◌ {A = Met} (record { found = true; entry = get_or x j 0; count = n }) (looked_up t x d name)
+    pub answer-is : met_at x s ≡ looked_up t x d name
     unfolding looked_up
-    answer-met q = rw (l, ← e, ← u, ← a, ← b, ← c, q)
-
-    pub answer-none : f ≡ false → ◌≡◌ {A = Met} (record { found = false; entry = 65535; count = n }) (looked_up t x d name)
-    unfolding looked_up
-    answer-none q = rw (l, ← e, ← u, ← a, ← c, q)
+    answer-is = rw (l, ← e, ← u, ← g)
 
 pub answer-unnamed : (t x : List ℕ) (d : Holder) (name : List ℕ) → link_name name ≡ false
     → ◌≡◌ {A = Met} (record { found = false; entry = 65535; count = 0 }) (looked_up t x d name)

@@ -45,15 +45,14 @@ count-on p n c r q e = rw (count-more p n, q, ← e) (plus (p n))
 -- ---- padding
 
 module _ (x : List ℕ) (i : ℕ) where
-  -- o: nothing but 65,535 so far; r: so it is with place i
-  pub pad-on : (o r : Bool) → i < length x → r ≡ (eqb (get_or x i 0) 65535 && o) → (r && padding (drop (i + 1) x)) ≡ (o && padding (drop i x))
+  -- o: nothing but 65,535 so far
+  pub pad-on : (o : Bool) → i < length x → ((o && eqb (get_or x i 0) 65535) && padding (drop (i + 1) x)) ≡ (o && padding (drop i x))
   unfolding padding
-  pad-on o r h q = rw (add-one i, drop-cons x i 0 h, q) (swap (eqb (get_or x i 0) 65535) o (padding (drop (suc i) x)))
+  pad-on o h = rw (add-one i, drop-cons x i 0 h) (and_assoc o (eqb (get_or x i 0) 65535) (padding (drop (suc i) x)))
     where
-      swap : (a b c : Bool) → ((a && b) && c) ≡ (b && (a && c))
-      swap true b c = refl
-      swap false true c = refl
-      swap false false c = refl
+      and_assoc : (a b c : Bool) → ((a && b) && c) ≡ (a && (b && c))
+      and_assoc true b c = refl
+      and_assoc false b c = refl
 
   pub pad-end : (o : Bool) → length x ≤ i → o ≡ (o && padding (drop i x))
   unfolding padding

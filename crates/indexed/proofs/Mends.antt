@@ -4,7 +4,7 @@ use mathlib.Core.Bool.{Bool, true, false}
 use mathlib.Core.List.{List, []}
 use mathlib.Core.Logic.{◌⊎◌, inl, inr, ◌≢◌}
 use mathlib.Core.Path.{◌≡◌, refl, sym, ap, ◌∙◌}
-use Prim.Native.Nat.{ℕ, ◌/◌}
+use Prim.Native.Nat.{ℕ, zero, suc, ◌/◌, ◌<◌}
 use native.Mathlib.Omega.{arith}
 use lib.Dec.{eqb, leb}
 use lib.ListN.{length}
@@ -25,6 +25,12 @@ use Rattle.index_laws.proofs.Good.{Good, true-index}
 use Rattle.index_demands.proofs.Mends.{length-alone, mend-any, mend-as-lent}
 use Rattle.indexed.proofs.Unstored.{run_none, take_none}
 use Rattle.indexed.proofs.Requests.{Ready, ready}
+
+pub one_or_two : (n : ℕ) → 0 < n → n < 3 → (n ≡ 1) ⊎ (n ≡ 2)
+one_or_two zero a b = let z : ⊥ = omega arith in absurd z
+one_or_two (suc zero) a b = inl refl
+one_or_two (suc (suc zero)) a b = inr refl
+one_or_two (suc (suc (suc n))) a b = let z : ⊥ = omega arith in absurd z
 
 module _ (t x : List ℕ) (k : ℕ) where
   abbrev healed : Kept

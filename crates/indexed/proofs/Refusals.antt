@@ -2,20 +2,23 @@
 -- The judge answers 1, 2 or 0 by the same two tests.
 use mathlib.Core.Bool.{Bool, true, false, cond}
 use mathlib.Core.List.{List}
-use mathlib.Core.Path.{◌≡◌, refl, sym, ap, ◌∙◌}
+use mathlib.Core.Path.{◌≡◌, refl, sym, ◌∙◌}
 use Prim.Native.Nat.{ℕ}
 use native.Mathlib.Omega.{arith}
 use Rattle.paper.specs.Layout.{boxed}
-use Rattle.paper.specs.Check.{whole}
 use Rattle.paper.specs.Table.{sized}
 use Rattle.paper.specs.Sound.{sound}
-use Rattle.paper.specs.Answer.{plain}
-use Rattle.answers.specs.Shown.{shown}
-use Rattle.answers.specs.declared.Answer.{Answer}
+use Rattle.std.specs.Prelude.{Result, Ok, Err}
+use Rattle.std.specs.Result.{result_unwrap_or}
+use Rattle.answers.specs.Number.{number_of, Decodes}
+use Rattle.answers.specs.declared.number.Number.{Number}
+use Rattle.answers.specs.declared.number.Number.TheVariants.{IndexUntrue}
+use Rattle.answers.specs.declared.number.NoRefusal.{NoRefusal}
 use Rattle.judge.specs.Judged.{judged}
+use Rattle.judge.proofs.Numbers.{judged-none}
 use Rattle.indexed.specs.Refused.{refused_with}
 
-number-before : (t : List ℕ) (n : ℕ) → n ≡ judged t → (n ≡ 0 → ⊥) → n ≡ refused_with t
+pub number-before : (t : List ℕ) (n : ℕ) → n ≡ judged t → (n ≡ 0 → ⊥) → n ≡ refused_with t
 unfolding judged refused_with
 number-before t n e h = go (sized t) (sound boxed t) e
   where
@@ -24,7 +27,7 @@ number-before t n e h = go (sized t) (sound boxed t) e
     go true false q = q
     go false b q = q
 
-number-26 : (t : List ℕ) (n : ℕ) → n ≡ judged t → n ≡ 0 → refused_with t ≡ 26
+pub number-26 : (t : List ℕ) (n : ℕ) → n ≡ judged t → n ≡ 0 → refused_with t ≡ 26
 unfolding judged refused_with
 number-26 t n e h = go (sized t) (sound boxed t) e
   where
@@ -33,10 +36,8 @@ number-26 t n e h = go (sized t) (sound boxed t) e
     go true false q = let z : ⊥ = omega (arith, q, h) in absurd z
     go false b q = let z : ⊥ = omega (arith, q, h) in absurd z
 
-pub refused-before : (t : List ℕ) (n : ℕ) → n ≡ judged t → (n ≡ 0 → ⊥) → {r : Answer} → r ≡ shown (plain n (whole 0) 0 0)
-    → r ≡ shown (plain (refused_with t) (whole 0) 0 0)
-refused-before t n e h q = q ∙ ap (λ i. shown (plain i (whole 0) 0 0)) (number-before t n e h)
-
-pub refused-26 : (t : List ℕ) (n : ℕ) → n ≡ judged t → n ≡ 0 → {r : Answer} → r ≡ shown (plain 26 (whole 0) 0 0)
-    → r ≡ shown (plain (refused_with t) (whole 0) 0 0)
-refused-26 t n e h q = q ∙ ap (λ i. shown (plain i (whole 0) 0 0)) (sym (number-26 t n e h))
+-- as a number of the list: the judge's is one, unless it is 0
+pub number-refused : (t : List ℕ) (n : ℕ) (r : Result Number NoRefusal) → n ≡ judged t → Decodes n r
+    → number_of (result_unwrap_or r IndexUntrue) ≡ refused_with t
+number-refused t n (Ok k) e d = d.0 ∙ number-before t n e (λ z. omega (arith, d.1))
+number-refused t n (Err x) e d = sym (number-26 t n e (judged-none t n e d))

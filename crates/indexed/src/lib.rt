@@ -9,18 +9,24 @@ ghost use Rattle.answers.specs.Shown.{shown};
 ghost use Rattle.answers.specs.Promised.{Keeps};
 ghost use Rattle.indexed.specs.Refused.{refused_with};
 
-use answers::Answer;
+use answers::number::Number;
+use answers::{Answer, Refusal};
 use records::bytes::rooms;
+
+// An answer's numbers that this layer tells apart. 1: "table length no multiple of 32, or above 65,536"; 2: the table is not sound.
+const UNSIZED: u32 = Number::Unsized as u32;
+
+const UNSOUND: u32 = Number::Unsound as u32;
+
+// "stop number reached; the stores made stand"
+const STOPPED: u32 = Number::Stopped as u32;
 
 // 1 or 2, and 26 where the table is sound.
 fn refuse(table: &[u8]) -> Answer
     ensures { result ≡ shown (plain (refused_with table.now) (whole 0) 0 0) }
 {
-    let number = judge::judge(table);
-    if number != 0 {
-        return Answer::refused_whole(number, 0);
-    }
-    Answer::refused_whole(26, 0)
+    let number = Number::try_from(judge::judge(table)).unwrap_or(Number::IndexUntrue);
+    Answer::from(Refusal::whole(number, 0))
 }
 
 // A request on a table and its index, by its line, its text, its user and the stop number: the answer, with table, index and reply written.
@@ -40,10 +46,7 @@ pub fn request(
         return refuse(table);
     }
     let answer = elephant::request(table, line, text, reply, user, stop);
-    if answer.number == 22 {
-        return answer;
-    }
-    if answer.stores != 0 {
+    if answer.number != STOPPED && answer.stores != 0 {
         index::repair(table, index);
     }
     answer
@@ -55,13 +58,10 @@ pub fn mend(table: &mut [u8], index: &mut [u16], stop: u32) -> Answer
 {
     if index.len() != rooms(table).0 {
         let tried = elephant::mend(table, 0);
-        if tried.number == 1 {
-            return tried;
-        }
-        if tried.number == 2 {
-            return tried;
-        }
-        return Answer::refused_whole(26, 0);
+        return match tried.number {
+            UNSIZED | UNSOUND => tried,
+            _ => Answer::from(Refusal::whole(Number::IndexUntrue, 0)),
+        };
     }
     let answer = elephant::mend(table, stop);
     if answer.number == 0 {

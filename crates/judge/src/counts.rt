@@ -6,7 +6,15 @@ ghost use Rattle.paper.specs.Table.{rooms, rec};
 ghost use Rattle.records.specs.Counts.{tells};
 
 use crate::read::{byte_of, raw_of};
+use records::bytes::Room;
 use records::heading::Heading;
+
+// How many entries name each record, and how many each holds.
+#[derive(Drop)]
+pub(crate) struct Counts {
+    pub named: [u16; Room::MOST],
+    pub held: [u8; Room::MOST],
+}
 
 // Whether the two bytes of record i from place j on are the number n.
 fn is_said(t: &[u8], i: usize, j: usize, n: usize) -> bool
@@ -21,11 +29,6 @@ pub(crate) fn is_told(t: &[u8], i: usize, named: usize, held: usize) -> bool
     requires { (i < rooms t.now) × (is_kind 1 (rec t.now i) ≡ true) × (named < 65536) × (held < 65536) }
     ensures { result ≡ tells named held (rec t.now i) }
 {
-    if !is_said(t, i, Heading::NAMED, named) {
-        return false;
-    }
-    if raw_of(t, i, Heading::TYPE) != Heading::DIRECTORY {
-        return true;
-    }
-    is_said(t, i, Heading::HELD, held)
+    is_said(t, i, Heading::NAMED, named)
+        && (raw_of(t, i, Heading::TYPE) != Heading::DIRECTORY || is_said(t, i, Heading::HELD, held))
 }

@@ -10,17 +10,19 @@ ghost use Rattle.judge_laws.specs.Mask.{without};
 ghost use Rattle.judge_laws.specs.Crowds.{place_of, beside_to, rank_of, roomy, Ranked};
 
 use crate::entry::is_entry;
-use crate::read::{three_of, two_of, wide, wide16};
+use crate::read::{three_of, two_of};
+use crate::twins::Buckets;
 use records::bytes::Room;
 use records::entry::{Entry, Holder};
 
 // The bucket of entry i, by its place.
+#[tactic(auto, unfolding(judge_laws::specs::Crowds::place_of))]
 fn place_of(t: &[u8], i: usize) -> usize
     requires { i < rooms t.now }
     ensures { (result ≡ place_of (rec t.now i)) × (result < 2048) }
 {
     let a = two_of(t, i, Entry::HOLDER) * 237074338683 + three_of(t, i, Entry::USER) * 159217510859;
-    a / 16777216 % Room::MOST
+    a / Buckets::LOW % Room::MOST
 }
 
 // Whether entry k stands where entry i does.
@@ -28,13 +30,11 @@ fn are_beside(t: &[u8], i: usize, k: usize) -> bool
     requires { (i < rooms t.now) × (k < rooms t.now) × (is_kind 2 (rec t.now k) ≡ true) }
     ensures { result ≡ beside_to t.now i k }
 {
-    if two_of(t, i, Entry::HOLDER) != two_of(t, k, Entry::HOLDER) {
-        return false;
-    }
-    three_of(t, k, Entry::USER) == three_of(t, i, Entry::USER)
+    two_of(t, i, Entry::HOLDER) == two_of(t, k, Entry::HOLDER)
+        && three_of(t, k, Entry::USER) == three_of(t, i, Entry::USER)
 }
 
-// One more than the last entry before entry i in its place, or 0: a walk through its bucket.
+// One more than the last entry before entry i in its place, or 0: a walk through its bucket, a `while` as that for twins.
 fn last_beside(
     t: &[u8],
     gone: &[u8; Room::MOST],
@@ -52,7 +52,7 @@ fn last_beside(
         if are_beside(t, i, c - 1) {
             return c;
         }
-        c = wide16(next[c - 1]);
+        c = usize::from(next[c - 1]);
     }
     0
 }
@@ -70,9 +70,10 @@ fn rank_of(
     ensures { result ≡ rank_of (without gone.now t.now) i }
 {
     if last == 0 {
-        return 1;
+        1
+    } else {
+        usize::from(rank[last - 1]) + 1
     }
-    wide(rank[last - 1]) + 1
 }
 
 // How many entries may stand in the place of entry i.
@@ -81,39 +82,39 @@ fn limit_of(t: &[u8], i: usize) -> usize
     ensures { (result ≡ limit (holder (rec t.now i))) × (result ≤ 112) }
 {
     if two_of(t, i, Entry::HOLDER) == Holder::BASE {
-        return Entry::MOST_BASE_FILES;
+        Entry::MOST_BASE_FILES
+    } else {
+        Entry::MOST_IN_DIRECTORY
     }
-    Entry::MOST_IN_DIRECTORY
 }
 
 // Whether record i, if it is an entry that stays, is not past the limit of its place; if so it is put into its chain with its number.
 fn crowd_turn(
     t: &[u8],
     gone: &[u8; Room::MOST],
-    head: &mut [u16; Room::MOST],
-    next: &mut [u16; Room::MOST],
+    buckets: &mut Buckets,
     rank: &mut [u8; Room::MOST],
     i: usize,
 ) -> bool
-    requires { (i < rooms t.now) × (length t.now ≤ 65536) × Chains place_of (without gone.now t.now) head.old next.old i
+    requires { (i < rooms t.now) × (length t.now ≤ 65536) × Chains place_of (without gone.now t.now) buckets.old.head buckets.old.next i
         × Ranked (without gone.now t.now) rank.old i }
     ensures { (result ≡ roomy (without gone.now t.now) i)
-        × (result ≡ true → Chains place_of (without gone.now t.now) head.new next.new (i + 1)
+        × (result ≡ true → Chains place_of (without gone.now t.now) buckets.new.head buckets.new.next (i + 1)
         × Ranked (without gone.now t.now) rank.new (i + 1)) }
 {
     if !is_entry(t, gone, i) {
         return true;
     }
     let h = place_of(t, i);
-    let first = head[h];
-    let last = last_beside(t, gone, next, i, wide16(first));
+    let first = buckets.head[h];
+    let last = last_beside(t, gone, &buckets.next, i, usize::from(first));
     let m = rank_of(t, gone, rank, i, last);
     if limit_of(t, i) < m {
         return false;
     }
     rank[i] = m as u8;
-    next[i] = first;
-    head[h] = (i + 1) as u16;
+    buckets.next[i] = first;
+    buckets.head[h] = (i + 1) as u16;
     true
 }
 
@@ -121,21 +122,17 @@ fn crowd_turn(
 pub(crate) fn crowd_all(
     t: &[u8],
     gone: &[u8; Room::MOST],
-    head: &mut [u16; Room::MOST],
-    next: &mut [u16; Room::MOST],
+    buckets: &mut Buckets,
     rank: &mut [u8; Room::MOST],
 ) -> bool
-    requires { (length t.now ≤ 65536) × Chains place_of (without gone.now t.now) head.old next.old 0
+    requires { (length t.now ≤ 65536) × Chains place_of (without gone.now t.now) buckets.old.head buckets.old.next 0
         × Ranked (without gone.now t.now) rank.old 0 }
     ensures { result ≡ none_crowded (without gone.now t.now) }
 {
-    let n = t.len() / Room::SIZE;
-    let mut i: usize = 0;
-    while i < n {
-        if !crowd_turn(t, gone, head, next, rank, i) {
+    for i in 0..t.len() / Room::SIZE {
+        if !crowd_turn(t, gone, buckets, rank, i) {
             return false;
         }
-        i += 1;
     }
     true
 }

@@ -1,4 +1,6 @@
 // Is this table sound? One pass over its records, and what they leave to be compared at its end.
+// The marks of what goes stand beside the table in every call. One struct of both was tried: with a model it hides them, and what is known on the
+// way (`Passed`, `Found`) names each; without one the clauses are longer.
 #![tactic(auto)]
 
 mod counts;
@@ -19,11 +21,13 @@ ghost use Rattle.judge_laws.specs.Mask.{without};
 ghost use Rattle.judge_laws.specs.Counts.{sound_but};
 ghost use Rattle.judge.specs.Judged.{judged, judged_shape, judged_but};
 
+use crate::counts::Counts;
 use crate::crowds::crowd_all;
 use crate::name::classes;
 use crate::order::none_are_twins;
 use crate::pass::{are_named, pass_all};
 use crate::text::lay_out;
+use crate::twins::Buckets;
 use records::bytes::{Room, is_sized};
 use records::entry::Entry;
 
@@ -40,30 +44,36 @@ fn is_sound(table: &[u8], gone: &[u8; Room::MOST], counted: bool) -> bool
     }
     let class = classes();
     let mut mark = [0u8; Room::MOST];
-    let mut named = [0u16; Room::MOST];
-    let mut held = [0u8; Room::MOST];
-    let mut head = [0u16; Room::MOST];
-    let mut next = [0u16; Room::MOST];
-    let s = pass_all(
-        table, gone, &class, &start, &mut mark, &mut named, &mut held, &mut head, &mut next,
-    );
-    if !s.right {
+    let mut counts = Counts {
+        named: [0; Room::MOST],
+        held: [0; Room::MOST],
+    };
+    let mut buckets = Buckets {
+        head: [0; Room::MOST],
+        next: [0; Room::MOST],
+    };
+    let Some(s) = pass_all(
+        table,
+        gone,
+        &class,
+        &start,
+        &mut mark,
+        &mut counts,
+        &mut buckets,
+    ) else {
+        return false;
+    };
+    if s.texts != slots
+        || !are_named(table, gone, &counts, counted)
+        || !none_are_twins(table, gone, s.left, &mut buckets.next)
+    {
         return false;
     }
-    if s.texts != slots {
-        return false;
-    }
-    if !are_named(table, gone, &named, &held, counted) {
-        return false;
-    }
-    if !none_are_twins(table, gone, s.left, &mut next) {
-        return false;
-    }
-    if s.bases <= Entry::MOST_BASE_FILES {
-        return true;
-    }
-    head = [0u16; Room::MOST];
-    crowd_all(table, gone, &mut head, &mut next, &mut mark)
+    s.bases <= Entry::MOST_BASE_FILES
+        || {
+            buckets.head = [0; Room::MOST];
+            crowd_all(table, gone, &mut buckets, &mut mark)
+        }
 }
 
 // The number for the table as it would be without the records that go, its counts judged or not.
@@ -71,12 +81,12 @@ fn number_of(table: &[u8], gone: &[u8; Room::MOST], counted: bool) -> u8
     ensures { result ≡ judged_but counted (without gone.now table.now) }
 {
     if !is_sized(table) {
-        return 1;
+        1
+    } else if !is_sound(table, gone, counted) {
+        2
+    } else {
+        0
     }
-    if !is_sound(table, gone, counted) {
-        return 2;
-    }
-    0
 }
 
 // The number for the table as it would be without the records that go, those that `gone` marks, whatever their kind; its counts are not judged.

@@ -1,5 +1,5 @@
 // One pass over the table: each record is judged by its kind, and what the whole table must show is counted on the way.
-ghost use Rattle.std.specs.Prelude.{◌≡◌, true, false, cond, ◌+◌, ◌<◌, ◌≤◌, ◌%◌, length};
+ghost use Rattle.std.specs.Prelude.{◌≡◌, false, cond, MatchOption, ◌+◌, ◌<◌, ◌≤◌, ◌%◌, length};
 ghost use Rattle.paper.specs.Layout.{boxed};
 ghost use Rattle.paper.specs.Sound.{is_base, shaped};
 ghost use Rattle.paper.specs.Table.{rooms, rec};
@@ -10,24 +10,29 @@ ghost use Rattle.judge_laws.specs.Pass.{Passed};
 ghost use Rattle.records.specs.Numbered.{naming, holding, Numbered};
 ghost use Rattle.judge_laws.specs.Codes.{Classed};
 
-use crate::counts::is_told;
+use crate::counts::{Counts, is_told};
 use crate::entry::entry_turn;
 use crate::heading::heading_turn;
-use crate::read::{raw_of, two_of, wide, wide16};
+use crate::read::{raw_of, two_of};
 use crate::text::text_turn;
+use crate::twins::Buckets;
 use crate::zeros::is_free;
 use records::bytes::Room;
 use records::entry::{Entry, Holder};
 use records::heading::Heading;
 use records::text::Text;
 
-// What was passed: whether all of it is right, how many text records, how many entries of base files, and the steps left for the chains.
+// What was passed, all of it right: how many text records, how many entries of base files, and the steps left for the chains.
 #[derive(Clone, Copy)]
 pub(crate) struct Tally {
-    pub right: bool,
     pub texts: usize,
     pub bases: usize,
     pub left: usize,
+}
+
+impl Tally {
+    // As many steps as all walks through the chains may take together.
+    const MOST_STEPS: usize = 8192;
 }
 
 // 1 if entry i is a base file's.
@@ -35,10 +40,7 @@ fn base_of(t: &[u8], i: usize) -> usize
     requires { i < rooms t.now }
     ensures { (result ≡ cond (is_base (rec t.now i)) 1 0) × (result ≤ 1) }
 {
-    if two_of(t, i, Entry::HOLDER) == Holder::BASE {
-        return 1;
-    }
-    0
+    usize::from(two_of(t, i, Entry::HOLDER) == Holder::BASE)
 }
 
 // Record i is judged by its kind; one that goes will be free.
@@ -48,70 +50,32 @@ fn turn(
     class: &[u8; 64],
     start: &[u16; Room::MOST],
     mark: &mut [u8; Room::MOST],
-    named: &mut [u16; Room::MOST],
-    held: &mut [u8; Room::MOST],
-    head: &mut [u16; Room::MOST],
-    next: &mut [u16; Room::MOST],
+    counts: &mut Counts,
+    buckets: &mut Buckets,
     i: usize,
     s: Tally,
-) -> Tally
+) -> Option<Tally>
     requires { (i < rooms t.now) × (length t.now % 32 ≡ 0) × (length t.now ≤ 65536) × Classed class.now
         × Laid (without gone.now t.now) start.now
-        × Passed gone.now t.now mark.old named.old held.old head.old next.old s.texts s.bases s.left i }
-    ensures { (result.right ≡ false → shaped boxed (without gone.now t.now) ≡ false)
-        × (result.right ≡ true → Passed gone.now t.now mark.new named.new held.new head.new
-        next.new result.texts result.bases result.left (i + 1)) }
+        × Passed gone.now t.now mark.old counts.old.named counts.old.held buckets.old.head buckets.old.next s.texts s.bases s.left i }
+    ensures { MatchOption result (shaped boxed (without gone.now t.now) ≡ false)
+        (λ r. Passed gone.now t.now mark.new counts.new.named counts.new.held buckets.new.head buckets.new.next r.texts r.bases r.left (i + 1)) }
 {
-    let texts = s.texts;
-    let bases = s.bases;
-    let left = s.left;
     if gone[i] != 0 {
-        let right = true;
-        return Tally {
-            right,
-            texts,
-            bases,
-            left,
-        };
+        return Some(s);
     }
-    let kind = raw_of(t, i, Room::KIND);
-    if kind == Entry::KIND {
-        let w = entry_turn(t, gone, class, named, held, head, next, i, left);
-        let right = w.right;
-        let left = w.left;
-        let bases = bases + base_of(t, i);
-        return Tally {
-            right,
-            texts,
-            bases,
-            left,
-        };
-    }
-    if kind == Text::KIND {
-        let right = text_turn(t, gone, start, mark, i);
-        let texts = texts + 1;
-        return Tally {
-            right,
-            texts,
-            bases,
-            left,
-        };
-    }
-    if kind == Heading::KIND {
-        let right = heading_turn(t, i);
-        return Tally {
-            right,
-            texts,
-            bases,
-            left,
-        };
-    }
-    let right = is_free(t, i);
-    Tally {
-        right,
-        texts,
-        bases,
-        left,
+    match raw_of(t, i, Room::KIND) {
+        Entry::KIND => {
+            let left = entry_turn(t, gone, class, counts, buckets, i, s.left)?;
+            let bases = s.bases + base_of(t, i);
+            Some(Tally { bases, left, ..s })
+        }
+        Text::KIND => {
+            let texts = s.texts + 1;
+            text_turn(t, gone, start, mark, i).then_some(Tally { texts, ..s })
+        }
+        Heading::KIND => heading_turn(t, i).then_some(s),
+        _ => is_free(t, i).then_some(s),
     }
 }
 
@@ -122,85 +86,45 @@ pub(crate) fn pass_all(
     class: &[u8; 64],
     start: &[u16; Room::MOST],
     mark: &mut [u8; Room::MOST],
-    named: &mut [u16; Room::MOST],
-    held: &mut [u8; Room::MOST],
-    head: &mut [u16; Room::MOST],
-    next: &mut [u16; Room::MOST],
-) -> Tally
+    counts: &mut Counts,
+    buckets: &mut Buckets,
+) -> Option<Tally>
     requires { (length t.now % 32 ≡ 0) × (length t.now ≤ 65536) × Classed class.now × Laid (without gone.now t.now) start.now
-        × Passed gone.now t.now mark.old named.old held.old head.old next.old 0 0 8192 0 }
-    ensures { (result.right ≡ false → shaped boxed (without gone.now t.now) ≡ false)
-        × (result.right ≡ true → Passed gone.now t.now mark.new named.new held.new head.new
-        next.new result.texts result.bases result.left (rooms t.now)) }
+        × Passed gone.now t.now mark.old counts.old.named counts.old.held buckets.old.head buckets.old.next 0 0 8192 0 }
+    ensures { MatchOption result (shaped boxed (without gone.now t.now) ≡ false)
+        (λ r. Passed gone.now t.now mark.new counts.new.named counts.new.held buckets.new.head buckets.new.next r.texts r.bases r.left (rooms t.now)) }
 {
-    let n = t.len() / Room::SIZE;
     let mut s = Tally {
-        right: true,
         texts: 0,
         bases: 0,
-        left: 8192,
+        left: Tally::MOST_STEPS,
     };
-    let mut i: usize = 0;
-    while i < n {
-        s = turn(t, gone, class, start, mark, named, held, head, next, i, s);
-        if !s.right {
-            return s;
-        }
-        i += 1;
+    for i in 0..t.len() / Room::SIZE {
+        s = turn(t, gone, class, start, mark, counts, buckets, i, s)?;
     }
-    s
+    Some(s)
 }
 
 // Whether record i, if it is a heading that stays, is named and, where counts are judged, says them.
-fn is_named(
-    t: &[u8],
-    gone: &[u8; Room::MOST],
-    named: &[u16; Room::MOST],
-    held: &[u8; Room::MOST],
-    counted: bool,
-    i: usize,
-) -> bool
+fn is_named(t: &[u8], gone: &[u8; Room::MOST], counts: &Counts, counted: bool, i: usize) -> bool
     requires { (i < rooms t.now) × (length t.now % 32 ≡ 0) × (length t.now ≤ 65536)
-        × Numbered (naming (without gone.now t.now) (rooms t.now)) named.now
-        × Numbered (holding (without gone.now t.now) (rooms t.now)) held.now }
+        × Numbered (naming (without gone.now t.now) (rooms t.now)) counts.now.named
+        × Numbered (holding (without gone.now t.now) (rooms t.now)) counts.now.held }
     ensures { result ≡ headed counted (without gone.now t.now) i }
 {
-    if raw_of(t, i, Room::KIND) != Heading::KIND {
+    if raw_of(t, i, Room::KIND) != Heading::KIND || gone[i] != 0 {
         return true;
     }
-    if gone[i] != 0 {
-        return true;
-    }
-    let n = named[i];
-    if n == 0 {
-        return false;
-    }
-    if !counted {
-        return true;
-    }
-    is_told(t, i, wide16(n), wide(held[i]))
+    let n = counts.named[i];
+    n != 0 && (!counted || is_told(t, i, usize::from(n), usize::from(counts.held[i])))
 }
 
 // Whether every heading that stays is named and, where counts are judged, says them.
-pub(crate) fn are_named(
-    t: &[u8],
-    gone: &[u8; Room::MOST],
-    named: &[u16; Room::MOST],
-    held: &[u8; Room::MOST],
-    counted: bool,
-) -> bool
+pub(crate) fn are_named(t: &[u8], gone: &[u8; Room::MOST], counts: &Counts, counted: bool) -> bool
     requires { (length t.now % 32 ≡ 0) × (length t.now ≤ 65536)
-        × Numbered (naming (without gone.now t.now) (rooms t.now)) named.now
-        × Numbered (holding (without gone.now t.now) (rooms t.now)) held.now }
+        × Numbered (naming (without gone.now t.now) (rooms t.now)) counts.now.named
+        × Numbered (holding (without gone.now t.now) (rooms t.now)) counts.now.held }
     ensures { result ≡ all_headed counted (without gone.now t.now) }
 {
-    let n = t.len() / Room::SIZE;
-    let mut i: usize = 0;
-    while i < n {
-        if !is_named(t, gone, named, held, counted, i) {
-            return false;
-        }
-        i += 1;
-    }
-    true
+    (0..t.len() / Room::SIZE).all(|i| is_named(t, gone, counts, counted, i))
 }

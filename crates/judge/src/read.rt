@@ -1,4 +1,5 @@
-// Bytes and numbers of a record, read where the caller knows that the record is there.
+// Bytes and numbers of a record, read where the caller knows that the record is there. `from_le_bytes` takes an array, which would be built of
+// these bytes one by one: the sums are as plain, and the compiler makes one read of each.
 ghost use Rattle.std.specs.Prelude.{◌≡◌, ◌<◌};
 ghost use Rattle.paper.specs.Layout.{packed_name};
 ghost use Rattle.paper.specs.Number.{number_at};
@@ -7,18 +8,6 @@ ghost use Rattle.paper.specs.Table.{rooms, rec};
 
 use records::bytes::Room;
 use records::entry::Entry;
-
-pub(crate) fn wide(x: u8) -> usize
-    ensures { (result ≡ x) × (result < 256) }
-{
-    x as usize
-}
-
-pub(crate) fn wide16(x: u16) -> usize
-    ensures { (result ≡ x) × (result < 65536) }
-{
-    x as usize
-}
 
 // The byte at place j of record i.
 pub(crate) fn raw_of(t: &[u8], i: usize, j: usize) -> u8
@@ -32,7 +21,7 @@ pub(crate) fn byte_of(t: &[u8], i: usize, j: usize) -> usize
     requires { (i < rooms t.now) × (j < 32) }
     ensures { (result ≡ byte (rec t.now i) j) × (result < 256) }
 {
-    wide(raw_of(t, i, j))
+    usize::from(raw_of(t, i, j))
 }
 
 // The two-byte number at place j of record i, low byte first.

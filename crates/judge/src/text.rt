@@ -9,7 +9,7 @@ ghost use Rattle.judge_laws.specs.Places.{starts, Laid, Marked};
 ghost use Rattle.judge_laws.specs.Shapes.{right_at};
 
 use crate::heading::{is_heading, is_simple, weight_of};
-use crate::read::{byte_of, two_of, wide16};
+use crate::read::{byte_of, two_of};
 use crate::zeros::are_zeros;
 use records::bytes::Room;
 use records::heading::Heading;
@@ -24,14 +24,10 @@ pub(crate) fn lay_out(t: &[u8], gone: &[u8; Room::MOST], start: &mut [u16; Room:
 {
     let n = t.len() / Room::SIZE;
     let mut slots: usize = 0;
-    let mut i: usize = 0;
-    while i < n {
-        let h = i;
-        i += 1;
+    for h in 0..n {
         if is_heading(t, gone, h) {
-            let more = weight_of(t, gone, h);
             start[h] = slots as u16;
-            slots += more;
+            slots += weight_of(t, gone, h);
             if n < slots {
                 return slots;
             }
@@ -50,19 +46,13 @@ fn is_block_right(t: &[u8], h: usize, p: usize, i: usize) -> bool
     let held = byte_of(t, i, Text::HELD);
     let length = two_of(t, h, Heading::LENGTH);
     let end = p * Text::MOST_HELD + held;
-    if held == Text::MOST_HELD {
-        return end <= length;
+    match held {
+        Text::MOST_HELD => end <= length,
+        1..=Text::MOST_HELD => {
+            end == length && are_zeros(t, i, Text::BYTES + held, Text::MOST_HELD - held)
+        }
+        _ => false,
     }
-    if held < 1 {
-        return false;
-    }
-    if Text::MOST_HELD < held {
-        return false;
-    }
-    if end != length {
-        return false;
-    }
-    are_zeros(t, i, Text::BYTES + held, Text::MOST_HELD - held)
 }
 
 // Whether text record i, at position p, is right and in place in the file of heading h.
@@ -71,16 +61,10 @@ fn is_text_right(t: &[u8], gone: &[u8; Room::MOST], h: usize, p: usize, i: usize
     ensures { result ≡ (text_as_above 0 (rec t.now i)
         && in_place (rec (without gone.now t.now) h) (rec t.now i)) }
 {
-    if !are_zeros(t, i, Text::GAP, Text::GAP_SIZE) {
-        return false;
-    }
-    if t.len() / Room::SIZE <= h {
-        return false;
-    }
-    if !is_simple(t, gone, h) {
-        return false;
-    }
-    is_block_right(t, h, p, i)
+    are_zeros(t, i, Text::GAP, Text::GAP_SIZE)
+        && h < t.len() / Room::SIZE
+        && is_simple(t, gone, h)
+        && is_block_right(t, h, p, i)
 }
 
 // Text record i takes its slot: whether it is right, in place, and the slot was free.
@@ -102,7 +86,7 @@ pub(crate) fn text_turn(
     if !is_text_right(t, gone, h, p, i) {
         return false;
     }
-    let s = wide16(start[h]) + p;
+    let s = usize::from(start[h]) + p;
     if mark[s] != 0 {
         return false;
     }

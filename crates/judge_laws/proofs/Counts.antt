@@ -11,11 +11,13 @@ use Rattle.paper.specs.Count.{counts_right}
 use Rattle.paper.specs.Entry.{named}
 use Rattle.paper.specs.Record.{byte, is_kind}
 use Rattle.paper.specs.Layout.{boxed}
+use Rattle.paper.specs.Scan.{all_below}
 use Rattle.paper.specs.Sound.{implies, all_named, is_named, counts_true, shaped, sound}
 use Rattle.paper.specs.Table.{rooms, rec}
 use Rattle.laws.proofs.Lay.{Whole}
 use Rattle.laws.proofs.Sound.{every_true, every_here, tested}
-use Rattle.laws.proofs.Tests.{and_left, and_right, and_both, and-no-left, false-by, implies-use, implies-by, not-both}
+use Rattle.laws.proofs.Scans.{all_true, all_here}
+use Rattle.laws.proofs.Tests.{and_left, and_right, and_both, and-no-left, false-by, true-by, same_truth, implies-use, implies-by, not-both}
 use Rattle.judge_laws.proofs.Mask.{rec-stays, heading-without}
 
 -- ---- headings of a table without the records that go
@@ -53,6 +55,13 @@ module _ (counted : Bool) (t : List ℕ) where
           and_both (named t i) _ (every_true 1 (is_named t) t (and_left (all_named t) _ e) i l (eqb-true _ _ k))
           (implies-by counted _ (λ c.
           every_true 1 (counts_right t) t (implies-use counted _ (and_right (all_named t) _ e) c) i l (eqb-true _ _ k))))
+
+  -- all of them, as one test of each record
+  pub headed-below : all_below (headed counted t) (rooms t) ≡ all_headed counted t
+  headed-below =
+      same_truth (all_below (headed counted t) (rooms t)) (all_headed counted t)
+      (λ e. all-headed (λ i l. all_true (headed counted t) (rooms t) i l e))
+      (λ e. all_here (headed counted t) (rooms t) (λ i l. true-by (headed counted t i) (λ f. not-both e (one-bare i l f))))
 
   -- soundness from the shape and the headings
   pub sound-not-shaped : shaped boxed t ≡ false → sound_but counted t ≡ false

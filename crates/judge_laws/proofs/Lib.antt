@@ -1,5 +1,6 @@
 -- the records one by one: names, each kind's test, the clauses that they show
 pub mod Tests
+pub mod Ranges
 pub mod Names
 pub mod Shapes
 pub mod Clauses

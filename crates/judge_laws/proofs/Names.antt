@@ -99,7 +99,7 @@ pub named_by : (r : List ℕ) (x : ℕ) → x ≡ packed_name r → unpacked x �
 unfolding six_name
 named_by r x e = ap unpacked e
 
-class-most : (c : ℕ) → class_of c ≤ 2
+pub class-most : (c : ℕ) → class_of c ≤ 2
 class-most c = go (in_name (c + 32)) (eqb c 0)
   where
     go : (x y : Bool) → cond x 1 (cond y 0 2) ≤ 2

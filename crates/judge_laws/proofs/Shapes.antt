@@ -208,6 +208,9 @@ heading-left r a b d e f m g o h =
 pub text-not : (r : List ℕ) → (Texted r → ⊥) → text_as_above 0 r ≡ false
 text-not r n = false-by (text_as_above 0 r) (λ e. n (text-view r e))
 
+pub text-gap : (r : List ℕ) → zeros 6 2 r ≡ false → text_as_above 0 r ≡ false
+text-gap r e = text-not r (λ h. true≢false (sym h.gap ∙ e))
+
 pub text-left : (r : List ℕ) → 1 ≤ bytes_held r → bytes_held r ≤ 24 → zeros 6 2 r ≡ true → text_as_above 0 r ≡ zeros (8 + bytes_held r) (24 - bytes_held r) r
 text-left r a b d = rw (le-leb 1 (bytes_held r) a, le-leb (bytes_held r) 24 b, d)
 

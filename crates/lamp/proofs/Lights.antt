@@ -3,53 +3,73 @@
 use mathlib.Core.List.{List}
 use mathlib.Core.Path.{◌≡◌, refl, ◌∙◌}
 use Prim.Native.Nat.{ℕ}
+use Rattle.std.specs.Prelude.{Ok, Err}
+use Rattle.job.specs.Sheet.{job}
 use Rattle.job.specs.Told.{Indexed, beside}
 use Rattle.job.specs.Refusal.{admission}
 use Rattle.job.specs.Filing as F
+use Rattle.job.specs.Filing.{kept_filing}
 use Rattle.job.specs.Reading as R
-use Rattle.job.specs.Lamp.{green, red, refusal, read_ends, filed_ends, leaving_kept, kept_ran, lit_kept}
-use Rattle.lamp.specs.Shown.{shown, Lighted}
+use Rattle.job.specs.Reading.{kept_reading}
+use Rattle.job.specs.Lamp.{green, read_ends, filed_ends, leaving_kept, lit_kept}
+use Rattle.lamp.specs.Shown.{shown, failure_shown, Lighted}
 use Rattle.lamp.specs.Refused.{admission_shown}
-use Rattle.lamp.specs.Runs.{filing_meant, reading_meant}
-use Rattle.lamp.specs.declared.Light.{Light}
-use Rattle.lamp.specs.declared.filing.Filing.{Filing}
-use Rattle.lamp.specs.declared.filing.Filing.TheVariants as filing
-use Rattle.lamp.specs.declared.reading.Reading.{Reading}
-use Rattle.lamp.specs.declared.reading.Reading.TheVariants as reading
-use Rattle.lamp.specs.declared.refusal.Admission.TheVariants.{Passed, Refused}
-use Rattle.lamp.proofs.Refusals.{lit_refused, lit-passed}
+use Rattle.lamp.specs.Runs.{Filed, WasRead}
+use Rattle.lamp.specs.declared.failure.Failure.{Failure}
+use Rattle.lamp.specs.declared.failure.Failure.TheVariants.{Unfiled, Unread}
+use Rattle.lamp.proofs.Refusals.{lit-passed}
 
-module _ (stores : ℕ) (o : R.ReadingOf Indexed) (v x w : List ℕ) (r : Reading) (a : Light) (e : o ≡ reading_meant r (beside v x) w) where
-  pub unread : (sheet number : ℕ) → r ≡ reading.Failed sheet number → a ≡ shown (red 2 sheet number stores)
-      → Lighted (read_ends leaving_kept stores o) a v x w
-  unread sheet number q p =
-      let z : o ≡ R.failed sheet number (beside v x) w = e ∙ rw q in
-      rw z (record { answer = p; table = refl; index = refl; back = refl })
+module _ (back : List ℕ) (onward : Indexed → R.ReadingOf Indexed) where
+  red-filed : (o : F.FilingOf Indexed) (f : Failure) (v x : List ℕ) → Filed o (Err f) v x
+      → Lighted (filed_ends leaving_kept back onward o) (failure_shown f) v x back
+  red-filed (F.whole s n) f v x p = cc p.result
+  red-filed (F.failed i n s k) f v x p =
+      let q : f ≡ Unfiled i n k = cc p.result in
+      let z : s ≡ beside v x = cc p.state in
+      rw (q, z) (record { answer = refl; table = refl; index = refl; back = refl })
 
-  pub read : r ≡ reading.Whole → a ≡ shown (green stores) → Lighted (read_ends leaving_kept stores o) a v x w
-  read q p =
-      let z : o ≡ R.whole (beside v x) w = e ∙ rw q in
-      rw z (record { answer = p; table = refl; index = refl; back = refl })
+  onwards : (o : F.FilingOf Indexed) (n : ℕ) (v x : List ℕ) → Filed o (Ok n) v x
+      → filed_ends leaving_kept back onward o ≡ read_ends leaving_kept n (onward (beside v x))
+  onwards (F.whole s m) n v x p =
+      let q : m ≡ n = cc p.result in
+      let z : s ≡ beside v x = cc p.state in
+      rw (q, z)
+  onwards (F.failed i m s k) n v x p = cc p.result
 
-module _ (back : List ℕ) (onward : Indexed → R.ReadingOf Indexed) (o : F.FilingOf Indexed) (v x : List ℕ) (r : Filing) (a : Light)
-    (e : o ≡ filing_meant r (beside v x)) where
-  pub unfiled : (sheet number stores : ℕ) → r ≡ filing.Failed sheet number stores → a ≡ shown (red 1 sheet number stores)
-      → Lighted (filed_ends leaving_kept back onward o) a v x back
-  unfiled sheet number stores q p =
-      let z : o ≡ F.failed sheet number (beside v x) stores = e ∙ rw q in
-      rw z (record { answer = p; table = refl; index = refl; back = refl })
+red-read : (o : R.ReadingOf Indexed) (stores : ℕ) (f : Failure) (v x w : List ℕ) → WasRead o stores (Err f) v x w
+    → Lighted (read_ends leaving_kept stores o) (failure_shown f) v x w
+red-read (R.whole s b) stores f v x w p = cc p.result
+red-read (R.failed i n s b) stores f v x w p =
+    let q : f ≡ Unread i n stores = cc p.result in
+    let z : s ≡ beside v x = cc p.state in
+    let y : b ≡ w = cc p.back in
+    rw (q, z, y) (record { answer = refl; table = refl; index = refl; back = refl })
 
-  pub filed : (stores : ℕ) (t y b : List ℕ) → r ≡ filing.Whole stores → Lighted (read_ends leaving_kept stores (onward (beside v x))) a t y b
-      → Lighted (filed_ends leaving_kept back onward o) a t y b
-  filed stores t y b q p =
-      let z : o ≡ F.whole (beside v x) stores = e ∙ rw q in
-      rw z p
+green-read : (o : R.ReadingOf Indexed) (stores : ℕ) (v x w : List ℕ) → WasRead o stores (Ok tt) v x w
+    → Lighted (read_ends leaving_kept stores o) (shown (green stores)) v x w
+green-read (R.whole s b) stores v x w p =
+    let z : s ≡ beside v x = cc p.state in
+    let y : b ≡ w = cc p.back in
+    rw (z, y) (record { answer = refl; table = refl; index = refl; back = refl })
+green-read (R.failed i n s b) stores v x w p = cc p.result
 
-module _ (t x sheets texts back chain : List ℕ) (u k : ℕ) (a : Light) where
-  pub refused : (number sheet : ℕ) → Refused number sheet ≡ admission_shown (admission sheets texts back) → a ≡ shown (refusal sheet number)
-      → Lighted (lit_kept t x sheets texts back chain u k) a t x back
-  refused number sheet e p = rw (lit_refused t x sheets texts back chain u k number sheet e) (record { answer = p; table = refl; index = refl; back = refl })
+-- a job that is not refused
+module _ (t x sheets texts back chain : List ℕ) (u k : ℕ) (e : Ok tt ≡ admission_shown (admission sheets texts back)) (v y : List ℕ) where
+  abbrev filing : F.FilingOf Indexed
+  filing = kept_filing (beside t x) chain u k 1 0 (job sheets texts)
 
-  pub passed : (v y w : List ℕ) → Passed ≡ admission_shown (admission sheets texts back)
-      → Lighted (kept_ran (beside t x) sheets texts back chain u k) a v y w → Lighted (lit_kept t x sheets texts back chain u k) a v y w
-  passed v y w e p = rw (lit-passed t x sheets texts back chain u k e) p
+  abbrev onward : Indexed → R.ReadingOf Indexed
+  onward s = kept_reading s chain back u 1 (job sheets texts)
+
+  pub unfiled : (f : Failure) → Filed filing (Err f) v y → Lighted (lit_kept t x sheets texts back chain u k) (failure_shown f) v y back
+  unfiled f p = rw (lit-passed t x sheets texts back chain u k e) (red-filed back onward filing f v y p)
+
+  module _ (n : ℕ) (p : Filed filing (Ok n) v y) (a b w : List ℕ) where
+    through : lit_kept t x sheets texts back chain u k ≡ read_ends leaving_kept n (onward (beside v y))
+    through = lit-passed t x sheets texts back chain u k e ∙ onwards back onward filing n v y p
+
+    pub unread : (f : Failure) → WasRead (onward (beside v y)) n (Err f) a b w → Lighted (lit_kept t x sheets texts back chain u k) (failure_shown f) a b w
+    unread f q = rw through (red-read (onward (beside v y)) n f a b w q)
+
+    pub read : WasRead (onward (beside v y)) n (Ok tt) a b w → Lighted (lit_kept t x sheets texts back chain u k) (shown (green n)) a b w
+    read q = rw through (green-read (onward (beside v y)) n a b w q)

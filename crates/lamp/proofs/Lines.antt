@@ -2,14 +2,17 @@
 -- So the array has as much of the whole line as it holds, whatever the parts are.
 use mathlib.Core.List.{List, [], ◌∷◌, ◌++◌, append_assoc}
 use mathlib.Core.Path.{◌≡◌, refl, sym, ap, ◌∙◌}
-use Prim.Native.Nat.{ℕ, zero, suc, ◌+◌, ◌-◌, ◌≤◌, ◌<◌}
+use Prim.Native.Nat.{ℕ, zero, suc, ◌+◌, ◌-◌, ◌≤◌, ◌<◌, min}
+use mathlib.Core.Logic.{by_cases}
+use native.Mathlib.Decide.{dec_lt}
 use native.Mathlib.Omega.{arith}
-use lib.ListN.{length, take, drop, length-append}
-use lib.Seq.{sets, sets-eq, length-sets, take_all, take_at, take-nil, length-take-le}
-use Rattle.records.proofs.Copies.{sets-fit}
+use lib.ListN.{length, take, length-append, length-take, length-drop}
+use lib.Seq.{take_all, take-nil, length-take-le}
+use borrow.Rule.Slice.PartMut.{put_mid}
+use Rattle.std.proofs.lemmas.Slice.{take-put_mid}
 use Rattle.laws.proofs.Lists.{take_past}
 use Rattle.job.specs.Filing.{below}
-use Rattle.lamp.specs.Runs.{Grown, Holds}
+use Rattle.lamp.specs.Runs.{Grown}
 
 -- what is put after a line that was cut at n
 take-over : (n : ℕ) (a b : List ℕ) → take n (take n a ++ b) ≡ take n (a ++ b)
@@ -17,48 +20,33 @@ take-over zero a b = refl
 take-over (suc n) [] b = refl
 take-over (suc n) (x ∷ a) b = ap (λ (s : List ℕ). x ∷ s) (take-over n a b)
 
-module _ (l : List ℕ) (at : ℕ) (h : at ≤ length l) where
-  front : length (take at l) ≡ at
-  front = length-take-le at l h
+take-min : (s : List ℕ) (m k : ℕ) → k ≡ min (length s) m → take k s ≡ take m s
+take-min s m k e =
+    by_cases (dec_lt m (length s)) (λ (h : m < length s). let z : k ≡ m = omega arith in rw z)
+    (λ h. let z : length s ≤ m = omega arith in take_all k s (omega arith) ∙ sym (take_all m s z))
 
-  -- it fits
-  pub grown-whole : (s : List ℕ) → at + length s ≤ length l → Grown l at s (sets l at s) (at + length s)
-  grown-whole s f =
-      let n : length (take at l ++ s) ≡ at + length s = rw (length-append, front) in
-      let m : length (take at l ++ s) ≤ length l = omega arith in
-      record {
-        bytes =
-            rw (sets-eq s l at f)
-            (take_at (take at l ++ s) (drop (at + length s) l) (at + length s) n ∙ sym (take_all (length l) (take at l ++ s) m));
-        size = length-sets l at s;
-        most = f;
-      }
+-- so many bytes of s as there is room for after the first n of a line l, put there
+pub grown : (l s y : List ℕ) (n r k : ℕ) → n ≤ length l → r ≡ min (length s) (length l - n) → k ≡ r → y ≡ take k s → Grown l n s (put_mid n k l y) (n + r)
+grown l s y n r k h e z q =
+    let front : length (take n l) ≡ n = length-take-le n l h in
+    let c : length (take k s) ≡ k = length-take-le k s (omega arith) in
+    let d : length y ≡ k = ap length q ∙ c in
+    let fit : take k s ≡ take (length l - n) s = take-min s (length l - n) k (z ∙ e) in
+    let whole : take (length l) (take n l ++ s) ≡ take n l ++ take (length l - n) s = take_past (length l) (take n l) s (omega arith) ∙ rw front in
+    record {
+      bytes = take-put_mid n k l y (n + r) (omega arith) h ∙ rw (q, fit) (sym whole);
+      size = rw (length-append, length-append, length-take, length-drop, length-drop) (omega arith);
+      most = omega arith;
+    }
 
-  -- what does not fit is cut
-  cut : (s : List ℕ) → length (take at l) ≤ length l → length (take (length l - at) s) ≡ length l - at
-      → take (length l) (take at l ++ take (length l - at) s) ≡ take (length l) (take at l ++ s)
-  cut s a n =
-      rw (
-        take_past (length l) (take at l) (take (length l - at) s) a,
-        take_past (length l) (take at l) s a,
-        front,
-        take_all (length l - at) (take (length l - at) s) (omega arith),
-      )
+-- ---- a line put together in an array of n bytes: its first r bytes are as much of s as the array holds
 
-  -- it does not, and the line is full
-  pub grown-full : (s : List ℕ) → length l < at + length s → Grown l at s (sets l at s) (length l)
-  grown-full s f =
-      let n : length (take (length l - at) s) ≡ length l - at = length-take-le (length l - at) s (omega arith) in
-      let q : at + length (take (length l - at) s) ≡ length l = omega arith in
-      let g = grown-whole (take (length l - at) s) (omega arith) in
-      let a : length (take at l) ≤ length l = omega (arith, front) in
-      record {
-        bytes = rw (← sets-fit s l at (length l - at) (omega arith)) (rw q at g.bytes) ∙ cut s a n;
-        size = length-sets l at s;
-        most = omega arith;
-      }
+record Holds (n : ℕ) (s l : List ℕ) (r : ℕ) : Type 0 where
+  bytes : take r l ≡ take n s
+  size : length l ≡ n
+  most : r ≤ n
 
-pub holds_more : (n : ℕ) (s p l m : List ℕ) (a r : ℕ) → Holds n s l a → Grown l a p m r → Holds n (s ++ p) m r
+holds_more : (n : ℕ) (s p l m : List ℕ) (a r : ℕ) → Holds n s l a → Grown l a p m r → Holds n (s ++ p) m r
 holds_more n s p l m a r h g =
     let e : length l ≡ n = h.size in
     record {
@@ -70,9 +58,18 @@ holds_more n s p l m a r h g =
 holds-none : (n : ℕ) (l : List ℕ) → length l ≡ n → Holds n [] l 0
 holds-none n l e = record { bytes = sym (take-nil n); size = e; most = omega arith }
 
-pub holds-first : (w l m : List ℕ) (r : ℕ) → Grown l 0 w m r → Holds (length l) w m r
+holds-first : (w l m : List ℕ) (r : ℕ) → Grown l 0 w m r → Holds (length l) w m r
 holds-first w l m r g = holds_more (length l) [] w l m 0 r (holds-none (length l) l refl) g
 
 -- the four parts of a request's line
-pub holds-line : (n : ℕ) (w c k l : List ℕ) (r : ℕ) → Holds n (((w ++ c) ++ 58 ∷ []) ++ k) l r → Holds n (w ++ below c k) l r
+holds-line : (n : ℕ) (w c k l : List ℕ) (r : ℕ) → Holds n (((w ++ c) ++ 58 ∷ []) ++ k) l r → Holds n (w ++ below c k) l r
 holds-line n w c k l r h = record { bytes = h.bytes ∙ simp append_assoc; size = h.size; most = h.most }
+
+-- .. each put after the ones before it
+pub line-is : (w c k l m₁ m₂ m₃ m₄ : List ℕ) (a b d r : ℕ) → Grown l 0 w m₁ a → Grown m₁ a c m₂ b → Grown m₂ b (58 ∷ []) m₃ d → Grown m₃ d k m₄ r
+    → take r m₄ ≡ take (length l) (w ++ below c k)
+line-is w c k l m₁ m₂ m₃ m₄ a b d r g₁ g₂ g₃ g₄ =
+    let n = length l in
+    let h₂ = holds_more n w c m₁ m₂ a b (holds-first w l m₁ a g₁) g₂ in
+    let h₃ = holds_more n (w ++ c) (58 ∷ []) m₂ m₃ b d h₂ g₃ in
+    (holds-line n w c k m₄ r (holds_more n ((w ++ c) ++ 58 ∷ []) k m₃ m₄ d r h₃ g₄)).bytes

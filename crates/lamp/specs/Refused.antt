@@ -1,30 +1,36 @@
--- The refusals by the code's faults, and the first sheet that has one.
-use Rattle.std.specs.Prelude.{Bool, List, ℕ, suc, ltb}
+-- The refusals: the first sheet that is wrong, and a verdict, as the code says them.
+use Rattle.std.specs.Prelude.{Bool, ◌≡◌, ℕ, ◌<◌, suc, Option, Some, None, Result, Ok, Err}
 use Rattle.paper.specs.Check.{Verdict, passed, refused}
 use Rattle.paper.specs.Scan.{Found, at, nowhere, first_below}
-use Rattle.paper.specs.Table.{rec}
-use Rattle.job.specs.Sheet.{length_of}
-use Rattle.job.specs.Refusal.{malformed, twice}
-use Rattle.lamp.specs.declared.refusal.Fault.{Fault}
-use Rattle.lamp.specs.declared.refusal.Fault.TheVariants as fault
-use Rattle.lamp.specs.declared.refusal.Admission.{Admission}
-use Rattle.lamp.specs.declared.refusal.Admission.TheVariants as admission
+use Rattle.lamp.specs.declared.failure.Failure.{Failure}
+use Rattle.lamp.specs.declared.failure.Failure.TheVariants as failure
+use Rattle.lamp.specs.declared.refusal.Refusal.{Refusal}
+use Rattle.lamp.specs.declared.refusal.Refusal.TheVariants as refusal
 
--- sheet i has the fault: 1, 2, or 4 with a buffer of this length
-abbrev pub wrong : Fault → List ℕ → ℕ → Bool
-wrong fault.Malformed sheets i = malformed sheets i
-wrong fault.Twice sheets i = twice sheets i
-wrong (fault.TooLong most) sheets i = ltb most (length_of (rec sheets i))
+-- the number of a sheet that was found, from 1
+abbrev pub numbered : Found → Option ℕ
+numbered (at i) = Some (suc i)
+numbered nowhere = None
 
--- the number of a sheet that was found, from 1, or 0
-abbrev pub numbered : Found → ℕ
-numbered (at i) = suc i
-numbered nowhere = 0
-
-unfoldable pub first_sheet : (ℕ → Bool) → ℕ → ℕ
+unfoldable pub first_sheet : (ℕ → Bool) → ℕ → Option ℕ
 first_sheet p n = numbered (first_below p n)
 
+-- each answer to a number below n is what p gives
+abbrev pub Tells : (ℕ → Bool → Type 0) → (ℕ → Bool) → ℕ → Type 0
+Tells answers p n = (i : ℕ) (b : Bool) → i < n → answers i b → b ≡ p i
+
+abbrev pub number_of : Refusal → ℕ
+number_of refusal.Malformed = 1
+number_of refusal.NameTwice = 2
+number_of refusal.TextsShort = 3
+number_of refusal.BackShort = 4
+
+-- refused with this number where there is such a sheet
+abbrev pub refused_at : ℕ → Option ℕ → Result (Unit {0}) Failure
+refused_at number (Some sheet) = Err (failure.Refused sheet number)
+refused_at number None = Ok tt
+
 -- a verdict's number and sheet
-abbrev pub admission_shown : Verdict → Admission
-admission_shown passed = admission.Passed
-admission_shown (refused f) = admission.Refused f.number f.place.argument
+abbrev pub admission_shown : Verdict → Result (Unit {0}) Failure
+admission_shown passed = Ok tt
+admission_shown (refused f) = Err (failure.Refused f.place.argument f.number)

@@ -2,22 +2,22 @@
 // lamp is green. What a caller relies on is here: one equation.
 #![tactic(auto)]
 
+mod failure;
 mod filing;
 mod line;
 mod reading;
 mod refusal;
 mod sheet;
 
-ghost use Rattle.std.specs.Prelude.{◌≡◌, ◌≤◌, length};
-ghost use Rattle.job.specs.Sheet.{count, start, job};
-ghost use Rattle.job.specs.Told.{beside};
-ghost use Rattle.job.specs.Reading.{kept_reading};
-ghost use Rattle.job.specs.Lamp.{green, red, refusal, read_ends, leaving_kept, kept_ran, lit_kept};
-ghost use Rattle.lamp.specs.Shown.{sheet_shown, shown, Lighted};
+ghost use Rattle.std.specs.Prelude.{◌≡◌};
+ghost use Rattle.job.specs.Lamp.{green, red, refusal, lit_kept};
+ghost use Rattle.lamp.specs.Shown.{sheet_shown, shown, failure_shown, light_shown, Lighted};
 
-use crate::filing::{Filing, file_all};
-use crate::reading::{Reading, read_all};
-use crate::refusal::{Admission, admit};
+use crate::failure::Failure;
+use crate::filing::file_all;
+use crate::reading::read_all;
+use crate::refusal::admit;
+use crate::sheet::Job;
 
 // The answer: light 0 green, 1 red, 2 refused; the sheet that failed, from 1, or 0; phase 1 filing, 2 reading, or 0; the reply number
 // of that sheet, or the refusal's; all the stores that the job made.
@@ -43,7 +43,7 @@ impl Light {
             sheet: 0,
             phase: 0,
             number: 0,
-            stores: stores,
+            stores,
         }
     }
 
@@ -53,9 +53,9 @@ impl Light {
         Light {
             light: 1,
             sheet: sheet_shown(sheet),
-            phase: phase,
-            number: number,
-            stores: stores,
+            phase,
+            number,
+            stores,
         }
     }
 
@@ -66,8 +66,28 @@ impl Light {
             light: 2,
             sheet: sheet_shown(sheet),
             phase: 0,
-            number: number,
+            number,
             stores: 0,
+        }
+    }
+}
+
+impl From<Failure> for Light {
+    ghost from_gives = { λ f a. a ≡ failure_shown f };
+
+    fn from(failure: Failure) -> Light {
+        match failure {
+            Failure::Refused { sheet, number } => Light::refused(sheet, number),
+            Failure::Unfiled {
+                sheet,
+                number,
+                stores,
+            } => Light::red(1, sheet, number, stores),
+            Failure::Unread {
+                sheet,
+                number,
+                stores,
+            } => Light::red(2, sheet, number, stores),
         }
     }
 }
@@ -76,61 +96,24 @@ impl Light {
 fn sheet_shown(sheet: usize) -> u32
     ensures { result ≡ sheet_shown sheet }
 {
-    if sheet < Light::LAST_SHEET {
-        return sheet as u32;
-    }
-    Light::LAST_SHEET as u32
+    sheet.min(Light::LAST_SHEET) as u32
 }
 
-// The sheets read back: green, or red at the first that fails.
-fn light_of_reading(
+// A job that is not refused is filed and, if no sheet failed, read back: all the stores made.
+fn run(
     table: &mut [u8],
     index: &mut [u16],
-    sheets: &[u8],
-    texts: &[u8],
+    sent: Job,
     back: &mut [u8],
-    chain: &[u8],
-    user: u32,
-    stores: u32,
-) -> Light
-    requires { start sheets.now (count sheets.now) ≤ length texts.now }
-    ensures { Lighted (read_ends leaving_kept stores
-        (kept_reading (beside table.old index.old) chain.now back.old user 1
-        (job sheets.now texts.now))) result table.new index.new back.new }
-{
-    let read = read_all(table, index, sheets, texts, back, chain, user);
-    match read {
-        Reading::Failed { sheet, number } => Light::red(2, sheet, number, stores),
-        Reading::Whole => Light::green(stores),
-    }
-}
-
-// The sheets filed and, if none failed, read back.
-fn light_of_job(
-    table: &mut [u8],
-    index: &mut [u16],
-    sheets: &[u8],
-    texts: &[u8],
-    back: &mut [u8],
-    chain: &[u8],
-    user: u32,
     stop: u32,
-) -> Light
-    requires { start sheets.now (count sheets.now) ≤ length texts.now }
-    ensures { Lighted (kept_ran (beside table.old index.old) sheets.now texts.now
-        back.old chain.now user stop) result table.new index.new back.new }
+) -> Result<u32, Failure>
+    ensures { Lighted (lit_kept table.old index.old sent.entry.sheets.now sent.entry.texts.now
+        back.old sent.entry.chain.now sent.entry.user stop) (light_shown result) table.new index.new back.new }
 {
-    let filed = file_all(table, index, sheets, texts, chain, user, stop);
-    match filed {
-        Filing::Failed {
-            sheet,
-            number,
-            stores,
-        } => Light::red(1, sheet, number, stores),
-        Filing::Whole { stores } => {
-            light_of_reading(table, index, sheets, texts, back, chain, user, stores)
-        }
-    }
+    admit(sent.sheets, sent.texts, back)?;
+    let stores = file_all(table, index, sent, stop)?;
+    read_all(table, index, sent, back, stores)?;
+    Ok(stores)
 }
 
 // A job: its sheets and their texts filed in the directory that a chain names, and read back, for a user, with one stop number; each
@@ -148,9 +131,14 @@ pub fn run_job(
     ensures { Lighted (lit_kept table.old index.old sheets.now texts.now
         back.old chain.now user stop) result table.new index.new back.new }
 {
-    let admission = admit(sheets, texts, back);
-    match admission {
-        Admission::Refused { number, sheet } => Light::refused(sheet, number),
-        Admission::Passed => light_of_job(table, index, sheets, texts, back, chain, user, stop),
+    let sent = Job {
+        sheets,
+        texts,
+        chain,
+        user,
+    };
+    match run(table, index, sent, back, stop) {
+        Ok(stores) => Light::green(stores),
+        Err(failure) => Light::from(failure),
     }
 }

@@ -1,25 +1,20 @@
 // The lamp's own refusals, each tried over all sheets before the next, before anything is asked of the box.
-ghost use Rattle.std.specs.Prelude.{◌≡◌, length};
+ghost use Rattle.std.specs.Prelude.{◌≡◌, Bool, ℕ};
 ghost use Rattle.job.specs.Sheet.{count};
 ghost use Rattle.job.specs.Refusal.{twice, missing, admission};
-ghost use Rattle.lamp.specs.Refused.{wrong, first_sheet, admission_shown};
+ghost use Rattle.lamp.specs.Refused.{Tells, first_sheet, number_of, refused_at, admission_shown};
 
+use crate::failure::Failure;
 use crate::sheet::{count_sheets, is_formed, length_of, link_of};
 use records::name::are_same;
 
-// What a sheet can be refused for by itself or for those before it, and a buffer's length.
+// The refusals, by their numbers.
 #[derive(Clone, Copy)]
-enum Fault {
-    Malformed,
-    Twice,
-    TooLong(usize),
-}
-
-// Passed, or the number of the refusal and the first sheet, from 1, of which it is true.
-#[derive(Clone, Copy)]
-pub enum Admission {
-    Passed,
-    Refused { number: u32, sheet: usize },
+enum Refusal {
+    Malformed = 1,
+    NameTwice = 2,
+    TextsShort = 3,
+    BackShort = 4,
 }
 
 // "2 name twice"
@@ -27,91 +22,66 @@ fn is_twice(sheets: &[u8], i: usize) -> bool
     ensures { result ≡ twice sheets.now i }
 {
     let link = link_of(sheets, i);
-    let mut j: usize = 0;
-    while j < i {
-        if are_same(link, link_of(sheets, j)) {
-            return true;
-        }
-        j += 1;
-    }
-    false
+    (0..i).any(|j| are_same(link, link_of(sheets, j)))
 }
 
-// Whether a sheet has this fault.
-fn is_wrong(fault: Fault, sheets: &[u8], i: usize) -> bool
-    ensures { result ≡ wrong fault sheets.now i }
+// The first sheet, from 1, that is wrong.
+fn first_wrong<F: Fn(usize) -> bool>(sheets: &[u8], is_wrong: F) -> Option<usize>
+    requires { F.IsAlwaysCallable is_wrong }
+    ensures { (p : ℕ → Bool) → Tells (F.post is_wrong) p (count sheets.now)
+        → result ≡ first_sheet p (count sheets.now) }
 {
-    match fault {
-        Fault::Malformed => !is_formed(sheets, i),
-        Fault::Twice => is_twice(sheets, i),
-        Fault::TooLong(most) => most < length_of(sheets, i),
-    }
-}
-
-// The first sheet, from 1, that has a fault, or 0.
-fn first_wrong(fault: Fault, sheets: &[u8]) -> usize
-    ensures { result ≡ first_sheet (wrong fault sheets.now) (count sheets.now) }
-{
-    let n = count_sheets(sheets);
-    let mut i: usize = 0;
-    while i < n {
-        if is_wrong(fault, sheets, i) {
-            return i + 1;
+    for i in 0..count_sheets(sheets) {
+        if is_wrong(i) {
+            return Some(i + 1);
         }
-        i += 1;
     }
-    0
+    None
 }
 
-// "3 texts shorter than the lengths' sum": the first sheet, from 1, whose text is not wholly there, or 0.
-fn first_missing(sheets: &[u8], texts: &[u8]) -> usize
+// "3 texts shorter than the lengths' sum": the first sheet, from 1, whose text is not wholly there.
+fn first_missing(sheets: &[u8], texts: &[u8]) -> Option<usize>
     ensures { result ≡ first_sheet (missing sheets.now texts.now) (count sheets.now) }
 {
-    let n = count_sheets(sheets);
     let mut left = texts.len();
-    let mut i: usize = 0;
-    while i < n {
+    for i in 0..count_sheets(sheets) {
         let length = length_of(sheets, i);
         if left < length {
-            return i + 1;
+            return Some(i + 1);
         }
         left -= length;
-        i += 1;
     }
-    0
+    None
+}
+
+// Refused where there is such a sheet.
+fn refuse(refusal: Refusal, sheet: Option<usize>) -> Result<(), Failure>
+    ensures { result ≡ refused_at (number_of refusal) sheet }
+{
+    match sheet {
+        Some(sheet) => Err(Failure::Refused {
+            sheet,
+            number: refusal as u32,
+        }),
+        None => Ok(()),
+    }
 }
 
 // The four refusals in order.
-pub fn admit(sheets: &[u8], texts: &[u8], back: &[u8]) -> Admission
+pub fn admit(sheets: &[u8], texts: &[u8], back: &[u8]) -> Result<(), Failure>
     ensures { result ≡ admission_shown (admission sheets.now texts.now back.now) }
 {
-    let malformed = first_wrong(Fault::Malformed, sheets);
-    if malformed != 0 {
-        return Admission::Refused {
-            number: 1,
-            sheet: malformed,
-        };
-    }
-    let twice = first_wrong(Fault::Twice, sheets);
-    if twice != 0 {
-        return Admission::Refused {
-            number: 2,
-            sheet: twice,
-        };
-    }
-    let missing = first_missing(sheets, texts);
-    if missing != 0 {
-        return Admission::Refused {
-            number: 3,
-            sheet: missing,
-        };
-    }
-    let too_long = first_wrong(Fault::TooLong(back.len()), sheets);
-    if too_long != 0 {
-        return Admission::Refused {
-            number: 4,
-            sheet: too_long,
-        };
-    }
-    Admission::Passed
+    refuse(
+        Refusal::Malformed,
+        first_wrong(sheets, |i| !is_formed(sheets, i)),
+    )?;
+    refuse(
+        Refusal::NameTwice,
+        first_wrong(sheets, |i| is_twice(sheets, i)),
+    )?;
+    refuse(Refusal::TextsShort, first_missing(sheets, texts))?;
+    refuse(
+        Refusal::BackShort,
+        first_wrong(sheets, |i| back.len() < length_of(sheets, i)),
+    )
 }

@@ -1,4 +1,4 @@
-// A job sheet's records: a link name, a text length, and zeros.
+// A job and its sheets. A sheet's record: a link name, a text length, and zeros.
 ghost use Rattle.std.specs.Prelude.{◌≡◌, ◌<◌};
 ghost use Rattle.paper.specs.Record.{zeros};
 ghost use Rattle.paper.specs.Table.{rec};
@@ -6,6 +6,15 @@ ghost use Rattle.job.specs.Sheet.{count, unpadded, link_of, length_of, formed};
 
 use records::bytes::{Bytes, Room, byte_of, part, record_at, two_of};
 use words::name::is_link_name;
+
+// What is filed and read back: the sheets and their texts, in the directory that a chain names, for a user.
+#[derive(Clone, Copy)]
+pub struct Job<'a> {
+    pub sheets: &'a [u8],
+    pub texts: &'a [u8],
+    pub chain: &'a [u8],
+    pub user: u32,
+}
 
 // A job sheet's layout: its bytes, those of its name, and where its text's length and the rest stand.
 #[derive(Clone, Copy)]
@@ -25,22 +34,17 @@ impl Sheet {
 pub fn count_sheets(sheets: &[u8]) -> usize
     ensures { result ≡ count sheets.now }
 {
-    let n = sheets.len();
-    n / Sheet::SIZE + (n % Sheet::SIZE + (Sheet::SIZE - 1)) / Sheet::SIZE
+    sheets.len().div_ceil(Sheet::SIZE)
 }
 
 // The bytes before the first zero.
 fn unpadded(s: &[u8]) -> &[u8]
     ensures { result.now ≡ unpadded s.now }
 {
-    let mut i: usize = 0;
-    while i < s.len() {
-        if s[i] == 0 {
-            return &s[..i];
-        }
-        i += 1;
+    match s.iter().position(|&b| b == 0) {
+        Some(n) => &s[..n],
+        None => s,
     }
-    s
 }
 
 // The link name of a sheet, as the stretch of the job that it is.
@@ -62,12 +66,10 @@ fn are_zeros(sheets: &[u8], i: usize, place: usize, n: usize) -> bool
     requires { (place < 32) × (n < 33) }
     ensures { result ≡ zeros place n (rec sheets.now i) }
 {
-    let mut m: usize = 0;
-    while m < n {
+    for m in 0..n {
         if byte_of(sheets, Room(i), place + m) != 0 {
             return false;
         }
-        m += 1;
     }
     true
 }
@@ -76,15 +78,9 @@ fn are_zeros(sheets: &[u8], i: usize, place: usize, n: usize) -> bool
 pub fn is_formed(sheets: &[u8], i: usize) -> bool
     ensures { result ≡ formed (rec sheets.now i) }
 {
-    if record_at(sheets, Room(i)).len() != Sheet::SIZE {
-        return false;
-    }
     let link = link_of(sheets, i);
-    if !is_link_name(link) {
-        return false;
-    }
-    if !are_zeros(sheets, i, link.len(), Sheet::MOST_NAME - link.len()) {
-        return false;
-    }
-    are_zeros(sheets, i, Sheet::REST, Sheet::SIZE - Sheet::REST)
+    record_at(sheets, Room(i)).len() == Sheet::SIZE
+        && is_link_name(link)
+        && are_zeros(sheets, i, link.len(), Sheet::MOST_NAME - link.len())
+        && are_zeros(sheets, i, Sheet::REST, Sheet::SIZE - Sheet::REST)
 }

@@ -1,6 +1,8 @@
 -- what a layout owes, and that both of ours do: `old-lawful`, `six-lawful`, `old-exact`, `six-exact`
 pub mod OldNames
 pub mod Lawful
+-- the lengths of names, and of records that are moved: `fits-to`, `fits-from`
+pub mod Lengths
 -- two records that show the same, each by its layout
 pub mod Twin
 -- tables and stores of such records

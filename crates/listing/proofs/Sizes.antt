@@ -68,17 +68,17 @@ size-lines t test (suc n) =
     go true e = rw (length-append, length-line) (omega arith)
     go false e = omega arith
 
-pub size-listed : (t : List ℕ) (test : List ℕ → Bool) → length (lines boxed t (listed boxed t test)) ≡ size_below t test (rooms t)
+pub size_listed : (t : List ℕ) (test : List ℕ → Bool) → length (lines boxed t (listed boxed t test)) ≡ size_below t test (rooms t)
 unfolding listed
-size-listed t test = length-order t _ ∙ size-lines t test (rooms t)
+size_listed t test = length-order t _ ∙ size-lines t test (rooms t)
 
 -- ---- one turn of the sum
 
-pub size-start : (t : List ℕ) (test : List ℕ → Bool) → 0 ≡ size_below t test 0
+pub size_start : (t : List ℕ) (test : List ℕ → Bool) → 0 ≡ size_below t test 0
 unfolding size_below
-size-start t test = refl
+size_start t test = refl
 
-pub size-more : (t : List ℕ) (test : List ℕ → Bool) (n k s : ℕ) → k ≡ size_below t test n → s ≡ size_at t test n
+pub size_more : (t : List ℕ) (test : List ℕ → Bool) (n k s : ℕ) → k ≡ size_below t test n → s ≡ size_at t test n
     → k + s ≡ size_below t test (n + 1)
 unfolding size_below
-size-more t test n k s e f = rw (add-one, e, f)
+size_more t test n k s e f = rw (add-one, e, f)

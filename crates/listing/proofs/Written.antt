@@ -51,15 +51,15 @@ wrote t l m n o e at k f p q a b c =
 
 module _ (t order l : List ℕ) (at m : ℕ) (x : List ℕ) (inv : sets l at (lines_shown t (drop m order)) ≡ x) where
   -- every line is written
-  pub lines-done : length order ≤ m → l ≡ x
+  pub lines_done : length order ≤ m → l ≡ x
   unfolding lines_shown
-  lines-done h = rw (drop_of_length-le order {i = m} h) at inv
+  lines_done h = rw (drop_of_length-le order {i = m} h) at inv
 
   -- one line more
-  pub line-more : (next : List ℕ) (end : ℕ) → m < length order → next ≡ sets l at (line_shown t (get_or order m 0))
+  pub line_more : (next : List ℕ) (end : ℕ) → m < length order → next ≡ sets l at (line_shown t (get_or order m 0))
       → end ≡ at + length (line_shown t (get_or order m 0)) → sets next end (lines_shown t (drop (m + 1) order)) ≡ x
   unfolding lines_shown
-  line-more next end h a b =
+  line_more next end h a b =
       rw (a, b, add-one)
       (sym (sets-append (line_shown t (get_or order m 0)) (lines_shown t (drop (suc m) order)) l at)
       ∙ rw (drop-cons order m 0 h) at inv)

@@ -4,11 +4,11 @@ use mathlib.Core.Bool.{true, cond}
 use mathlib.Core.List.{List, [], ◌∷◌, ◌++◌, append-nil}
 use mathlib.Core.Logic.{◌≢◌, by_cases}
 use mathlib.Core.Path.{◌≡◌, refl, sym, ap, ◌∙◌}
-use Prim.Native.Nat.{ℕ, ◌+◌, ◌<◌, ◌≤◌}
+use Prim.Native.Nat.{ℕ, ◌+◌, ◌-◌, ◌<◌, ◌≤◌, min}
 use native.Mathlib.Omega.{arith}
-use native.Mathlib.Decide.{ℕ_discrete}
-use lib.ListN.{length, get_or, set, length-set}
-use lib.Seq.{get_or-set_same, get_or-set_other}
+use native.Mathlib.Decide.{ℕ_discrete, dec_lt}
+use lib.ListN.{length, take, get_or, set, length-set}
+use lib.Seq.{take_at, take_all, get_or-set_same, get_or-set_other}
 use Rattle.paper.specs.Record.{blank}
 use Rattle.paper.specs.Scan.{count_below, join_below}
 use Rattle.paper.specs.Store.{Store, clear, run}
@@ -17,11 +17,11 @@ use Rattle.judge_laws.specs.Mask.{stays, goes, without}
 use Rattle.judge_laws.proofs.Mask.{length_without, rooms-without, whole-without}
 use Rattle.laws.proofs.Counts.{count-more-at, count_most}
 use Rattle.laws.proofs.Lay.{Whole, length-blank, ext-table, length-lay, lay-same, lay-other}
-use Rattle.laws.proofs.Lists.{join-cong, join_more}
+use Rattle.laws.proofs.Lists.{join-cong, join_more, length-each}
+use Rattle.effects.proofs.Gathers.{join-split}
 use Rattle.laws.proofs.Runs.{run-append}
 use Rattle.demands.proofs.Mending.Wipe.{rec-wiped}
 use Rattle.effects.specs.Counted.{Counted}
-use Rattle.effects.proofs.Counted.{counted_none, counted-both}
 use Rattle.mending.specs.Found.{ordered, Found}
 
 -- one more record
@@ -32,14 +32,35 @@ ordered-none : (order : List ℕ) → ordered order 0 ≡ []
 unfolding join_below
 ordered-none order = refl
 
--- cleared in turn
-pub counted-first : (order t : List ℕ) (k : ℕ) → Counted t t k 0 0 (ordered order 0)
-counted-first order t k = rw (ordered-none order) (counted_none t k 0)
+-- cleared in turn, as many as the stop number allows
+pub ordered-cut : (order t : List ℕ) (k n : ℕ) → Counted t (run t (ordered order (min n k))) k 0 n (ordered order n)
+ordered-cut order t k n = record { table = ap (run t) (sym cut); count = omega (arith, long n) }
+  where
+    long : (m : ℕ) → length (ordered order m) ≡ m
+    long m = length-each (λ i. clear (get_or order i 0)) m
 
-pub counted_next : (order t u v : List ℕ) (k i room : ℕ) → Counted t u k 0 i (ordered order i) → room ≡ get_or order i 0
-    → Counted u v k i (i + 1) (clear room ∷ []) → Counted t v k 0 (i + 1) (ordered order (i + 1))
-counted_next order t u v k i room a e b =
-    rw (ordered-more order i) (counted-both t u v k 0 i (i + 1) (ordered order i) (clear (get_or order i 0) ∷ []) a (rw e at b))
+    some : k < n → take k (ordered order n) ≡ ordered order k
+    some l =
+        let e : n ≡ k + (n - k) = omega arith in
+        ap (λ (m : ℕ). take k (ordered order m)) e
+        ∙ ap (take k) (join-split (λ m. clear (get_or order m 0) ∷ []) k (n - k))
+        ∙ take_at (ordered order k) _ k (long k)
+
+    cut : take (k - 0) (ordered order n) ≡ ordered order (min n k)
+    cut =
+        by_cases (dec_lt k n)
+        (λ (l : k < n). let a : k - 0 ≡ k = omega arith in let b : min n k ≡ k = omega arith in rw (a, b) (some l))
+        (λ (l : ¬ (k < n)).
+        let b : min n k ≡ n = omega arith in rw b (take_all (k - 0) (ordered order n) (omega (arith, long n))))
+
+pub cleared-none : (order t : List ℕ) → t ≡ run t (ordered order 0)
+unfolding run join_below
+cleared-none order t = refl
+
+pub cleared-more : (order t u v : List ℕ) (i : ℕ) → u ≡ run t (ordered order i) → v ≡ lay u (get_or order i 0) blank
+    → v ≡ run t (ordered order (i + 1))
+unfolding run
+cleared-more order t u v i e f = f ∙ rw (e, ordered-more order i) (sym (run-append t (ordered order i) (clear (get_or order i 0) ∷ [])))
 
 ordered-set : (order : List ℕ) (n i : ℕ) → n < length order → ordered (set order n i) (n + 1) ≡ ordered order n ++ (clear i ∷ [])
 ordered-set order n i l = ordered-more (set order n i) n ∙ rw (get_or-set_same order n i 0 l, before)
@@ -48,7 +69,7 @@ ordered-set order n i l = ordered-more (set order n i) n ∙ rw (get_or-set_same
     before = join-cong _ _ n (λ m b. ap (λ (x : ℕ). clear x ∷ []) (get_or-set_other order n m i 0 (omega arith)))
 
 -- a table by its marks
-rec-without : (gone t : List ℕ) (i : ℕ) → i < rooms t → rec (without gone t) i ≡ cond (goes gone i) blank (rec t i)
+pub rec-without : (gone t : List ℕ) (i : ℕ) → i < rooms t → rec (without gone t) i ≡ cond (goes gone i) blank (rec t i)
 unfolding without
 rec-without gone t i l = rec-wiped t (goes gone) i l
 

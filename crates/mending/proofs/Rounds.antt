@@ -16,39 +16,37 @@ use Rattle.judge_laws.proofs.Mask.{rooms-without, without-zeros}
 use Rattle.laws.proofs.Counts.{count_none}
 use Rattle.demands.proofs.Mending.Settled.{still-rounds}
 use Rattle.records.specs.Numbered.{Numbered}
-use Rattle.mending.specs.Found.{ordered, Found, in_step, stepped}
+use Rattle.mending.specs.Found.{ordered, Found, stepped}
+use Rattle.mending.specs.declared.Step.TheVariants.{Entries, Headings, Text}
 use Rattle.effects.proofs.Allowed.{clears-cong}
 use Rattle.mending.proofs.Order.{found_as, found-own, found_after}
 use Rattle.mending.proofs.Steps.{unnamed-is}
 
 -- ---- the three steps of a round
 
-first-is : (named u : List ℕ) (n : ℕ) → n ≡ rooms u → clears (stepped 1 named u) n ≡ mend_first u
-unfolding in_step
+first-is : (named u : List ℕ) (n : ℕ) → n ≡ rooms u → clears (stepped Entries named u) n ≡ mend_first u
 first-is named u n e = rw e
 
-second_is : (named u : List ℕ) (n : ℕ) → n ≡ rooms u → n ≤ 2048 → Numbered (namings u) named → clears (stepped 2 named u) n ≡ mend_second u
-unfolding in_step
+second_is : (named u : List ℕ) (n : ℕ) → n ≡ rooms u → n ≤ 2048 → Numbered (namings u) named → clears (stepped Headings named u) n ≡ mend_second u
 second_is named u n e m c =
-    clears-cong (stepped 2 named u) (orphan u) n (λ i (l : i < n). unnamed-is u named (omega arith) c i (omega arith)) ∙ rw e
+    clears-cong (stepped Headings named u) (orphan u) n (λ i (l : i < n). unnamed-is u named (omega arith) c i (omega arith)) ∙ rw e
 
-third-is : (named u : List ℕ) (n : ℕ) → n ≡ rooms u → clears (stepped 3 named u) n ≡ mend_third u
-unfolding in_step
+third-is : (named u : List ℕ) (n : ℕ) → n ≡ rooms u → clears (stepped Text named u) n ≡ mend_third u
 third-is named u n e = rw e
 
 module _ (t gone gone₁ gone₂ gone₃ order order₁ order₂ order₃ before named : List ℕ) (n n₁ n₂ n₃ : ℕ) (most : rooms t ≤ 2048)
-    (f : Found t gone order n (ordered order n)) (a : Found t gone₁ order₁ n₁ (ordered order n ++ clears (stepped 1 before (without gone t)) (rooms t)))
+    (f : Found t gone order n (ordered order n)) (a : Found t gone₁ order₁ n₁ (ordered order n ++ clears (stepped Entries before (without gone t)) (rooms t)))
     (c : Numbered (namings (without gone₁ t)) named)
-    (b : Found t gone₂ order₂ n₂ (ordered order₁ n₁ ++ clears (stepped 2 named (without gone₁ t)) (rooms t)))
-    (d : Found t gone₃ order₃ n₃ (ordered order₂ n₂ ++ clears (stepped 3 named (without gone₂ t)) (rooms t))) where
-  stage₁ : clears (stepped 1 before (without gone t)) (rooms t) ≡ mend_first (without gone t)
+    (b : Found t gone₂ order₂ n₂ (ordered order₁ n₁ ++ clears (stepped Headings named (without gone₁ t)) (rooms t)))
+    (d : Found t gone₃ order₃ n₃ (ordered order₂ n₂ ++ clears (stepped Text named (without gone₂ t)) (rooms t))) where
+  stage₁ : clears (stepped Entries before (without gone t)) (rooms t) ≡ mend_first (without gone t)
   stage₁ = first-is before (without gone t) (rooms t) (sym (rooms-without gone t))
 
   table₁ : without gone₁ t ≡ after₁ (without gone t)
   unfolding after₁
   table₁ = found_after t gone gone₁ order order₁ n n₁ _ f a ∙ ap (run (without gone t)) stage₁
 
-  stage₂ : clears (stepped 2 named (without gone₁ t)) (rooms t) ≡ mend_second (after₁ (without gone t))
+  stage₂ : clears (stepped Headings named (without gone₁ t)) (rooms t) ≡ mend_second (after₁ (without gone t))
   stage₂ = second_is named (without gone₁ t) (rooms t) (sym (rooms-without gone₁ t)) most c ∙ ap (λ (u : List ℕ). mend_second u) table₁
 
   table₂ : without gone₂ t ≡ after₂ (without gone t)
@@ -57,7 +55,7 @@ module _ (t gone gone₁ gone₂ gone₃ order order₁ order₂ order₃ before
       found_after t gone₁ gone₂ order₁ order₂ n₁ n₂ _ (found-own t gone₁ order₁ n₁ _ a) b ∙ ap (run (without gone₁ t)) stage₂
       ∙ ap (λ (u : List ℕ). run u (mend_second (after₁ (without gone t)))) table₁
 
-  stage₃ : clears (stepped 3 named (without gone₂ t)) (rooms t) ≡ mend_third (after₂ (without gone t))
+  stage₃ : clears (stepped Text named (without gone₂ t)) (rooms t) ≡ mend_third (after₂ (without gone t))
   stage₃ = third-is named (without gone₂ t) (rooms t) (sym (rooms-without gone₂ t)) ∙ ap (λ (u : List ℕ). mend_third u) table₂
 
   pub round-found : Found t gone₃ order₃ n₃ (ordered order n ++ round_stores (without gone t))

@@ -30,8 +30,11 @@ use Rattle.demands.proofs.Mending.Wipe.{Blanks, every-clears}
 use Rattle.demands.proofs.Mending.Squeeze as squeeze
 use Rattle.records.specs.Numbered.{Numbered}
 use Rattle.records.proofs.Numbered.{named-tells}
-use Rattle.mending.specs.Found.{ordered, Found, unnamed, in_step, stepped, unsettled}
+use Rattle.mending.specs.Found.{ordered, Found, unnamed, stepped, unsettled}
+use Rattle.mending.specs.declared.Step.{Step}
+use Rattle.mending.specs.declared.Step.TheVariants.{Entries, Headings, Text}
 use Rattle.mending.proofs.Order.{found_none, found_as, found_after}
+use Rattle.mending.proofs.Left.{no-text}
 
 -- a table with the records below n that pass cleared
 module _ (u : List ℕ) (w : Whole u) (p : ℕ → Bool) (n : ℕ) (m : n ≤ rooms u) where
@@ -65,10 +68,6 @@ here u p i l =
 apart : (k m : ℕ) (r : List ℕ) (b : Bool) → eqb k m ≡ false → (is_kind k r && b) ≡ true → is_kind m r ≡ false
 apart k m r b z e = let q : byte r 0 ≡ k = eqb-true _ _ (and_left (is_kind k r) b e) in rw q z
 
-no_text : (r : List ℕ) → is_kind 1 r ≡ false → keeps_text r ≡ false
-unfolding keeps_text
-no_text r e = rw e
-
 -- each record is asked as if none had been cleared
 module _ (u : List ℕ) (w : Whole u) (named : List ℕ) (i : ℕ) (l : i < rooms u) where
   still₁ : adrift (run u (clears (adrift u) i)) i ≡ adrift u i
@@ -87,14 +86,13 @@ module _ (u : List ℕ) (w : Whole u) (named : List ℕ) (i : ℕ) (l : i < room
       rw (
         here u (stray u) i l,
         same_test u w (stray u) i (omega arith) keeps_text (unfold blank keeps_text in refl)
-            (λ j e. no_text (rec u j) (apart 3 1 (rec u j) _ refl e)) (heading_of (rec u i)),
+            (λ j e. no-text (rec u j) (apart 3 1 (rec u j) _ refl e)) (heading_of (rec u i)),
       )
 
-  pub step-still : (a b : Bool) → in_step a b named (run u (clears (in_step a b named u) i)) i ≡ in_step a b named u i
-  unfolding in_step
-  step-still true b = still₁
-  step-still false true = still₂
-  step-still false false = still₃
+  pub step-still : (step : Step) → stepped step named (run u (clears (stepped step named u) i)) i ≡ stepped step named u i
+  step-still Entries = still₁
+  step-still Headings = still₂
+  step-still Text = still₃
 
 -- none yet
 pub step_start : (t gone order : List ℕ) (n : ℕ) (p : ℕ → Bool) → Found t gone order n (ordered order n)
@@ -102,13 +100,13 @@ pub step_start : (t gone order : List ℕ) (n : ℕ) (p : ℕ → Bool) → Foun
 step_start t gone order n p f = rw (fills-start p (λ _. blank)) (found_none t gone order n (ordered order n) f)
 
 -- one more record of a step
-module _ (t gone gone₀ order order₀ named : List ℕ) (step n n₀ i : ℕ) (w : Whole t) (l : i < rooms t)
+module _ (t gone gone₀ order order₀ named : List ℕ) (step : Step) (n n₀ i : ℕ) (w : Whole t) (l : i < rooms t)
     (f : Found t gone₀ order₀ n₀ (ordered order₀ n₀))
     (g : Found t gone order n (ordered order₀ n₀ ++ clears (stepped step named (without gone₀ t)) i)) where
   asked : stepped step named (without gone t) i ≡ stepped step named (without gone₀ t) i
   asked =
       ap (λ (x : List ℕ). stepped step named x i) (found_after t gone₀ gone order₀ order n₀ n _ f g)
-      ∙ step-still (without gone₀ t) (whole-without gone₀ t w) named i (rw (rooms-without gone₀ t) l) (eqb step 1) (eqb step 2)
+      ∙ step-still (without gone₀ t) (whole-without gone₀ t w) named i (rw (rooms-without gone₀ t) l) step
 
   pub step-more : (gone' order' : List ℕ) (n' : ℕ)
       → Found t gone' order' n' (ordered order n ++ cond (stepped step named (without gone t) i) (clear i ∷ []) [])

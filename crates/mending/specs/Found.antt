@@ -1,5 +1,5 @@
 -- What mending finds before any store: the records that go, as marks, and the order in which they are cleared.
-use Rattle.std.specs.Prelude.{Bool, ◌&&◌, ◌||◌, cond, List, ◌++◌, ◌≡◌, ℕ, eqb, get_or, length}
+use Rattle.std.specs.Prelude.{Bool, ◌&&◌, ◌||◌, List, ◌++◌, ◌≡◌, ℕ, eqb, get_or, length}
 use Rattle.paper.specs.Scan.{count_below, each_below}
 use Rattle.paper.specs.Count.{recounts}
 use Rattle.paper.specs.Mend.{adrift, stray}
@@ -7,6 +7,9 @@ use Rattle.paper.specs.Record.{is_kind}
 use Rattle.paper.specs.Store.{Store, clear, run}
 use Rattle.paper.specs.Table.{rooms, rec}
 use Rattle.judge_laws.specs.Mask.{goes, without}
+use Rattle.mending.specs.declared.Going.{Going}
+use Rattle.mending.specs.declared.Step.{Step}
+use Rattle.mending.specs.declared.Step.TheVariants.{Entries, Headings, Text}
 
 -- the stores that clear the first n records of the order
 abbrev pub ordered : List ℕ → ℕ → List Store
@@ -24,16 +27,22 @@ pub record Found (t gone order : List ℕ) (n : ℕ) (stores : List Store) : Typ
   pub marks : length gone ≡ 2048
   pub places : length order ≡ 2048
 
+-- .. of what goes
+abbrev pub listed : Going → List Store
+listed g = ordered g.order g.count
+
+abbrev pub Goes : List ℕ → Going → List Store → Type 0
+Goes t g = Found t g.gone g.order g.count
+
 -- a heading for which no name is counted
 abbrev pub unnamed : List ℕ → List ℕ → ℕ → Bool
 unnamed named t i = is_kind 1 (rec t i) && eqb (get_or named i 0) 0
 
--- what a step clears: the first, the second, or else the third
-unfoldable pub in_step : Bool → Bool → List ℕ → List ℕ → ℕ → Bool
-in_step first second named t i = cond first (adrift t i) (cond second (unnamed named t i) (stray t i))
-
-abbrev pub stepped : ℕ → List ℕ → List ℕ → ℕ → Bool
-stepped step = in_step (eqb step 1) (eqb step 2)
+-- what a step clears
+abbrev pub stepped : Step → List ℕ → List ℕ → ℕ → Bool
+stepped Entries named t i = adrift t i
+stepped Headings named t i = unnamed named t i
+stepped Text named t i = stray t i
 
 -- what any of the steps would clear
 unfoldable pub unsettled : List ℕ → List ℕ → ℕ → Bool

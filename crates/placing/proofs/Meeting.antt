@@ -10,6 +10,7 @@ use native.Mathlib.Decide.{ℕ_discrete}
 use lib.Dec.{eqb, leb, ltb}
 use lib.ListN.{length}
 use borrow.Author.Tests.{eq-eqb, ne_eqb, lt-ltb}
+use Rattle.std.specs.Prelude.{Some, None, IfSome}
 use Rattle.paper.specs.Scan as F
 use Rattle.paper.specs.Record.{byte, directory, holder_of, heading_named, blank}
 use Rattle.paper.specs.Layout.{entry_record, boxed}
@@ -30,36 +31,19 @@ use Rattle.demands.proofs.SoundKept.Grown.{grown-none}
 use Rattle.demands.proofs.Recounting.Telling.{lost-count, peopled-bytes, full-bytes}
 use Rattle.demands.proofs.Recounting.Before.{clears-enter}
 use Rattle.scans.specs.Shown.{found_shown}
-use Rattle.scans.specs.declared.Found.{Found}
-use Rattle.scans.specs.declared.Found.TheVariants.{At, Nowhere}
 use Rattle.records.specs.Counts.{held_count}
-use Rattle.records.specs.declared.bytes.Room.{Room}
 use Rattle.effects.specs.Listed.{text_rooms}
 use Rattle.effects.specs.Stage.{Made, clear_stores}
 use Rattle.effects.specs.Counts.{count_stores}
 use Rattle.effects.specs.declared.counts.Moves.{Moves}
 use Rattle.effects.proofs.Stages.{made-onto}
 use Rattle.effects.proofs.Papers.{file-freed}
-use Rattle.placing.specs.Placing.{last_by, lost_by, instead, gone, met, Held, full_by, peopled_by, losing_by, lost_texts, entry_stores}
-use Rattle.placing.specs.declared.Meets.{Meets}
+use Rattle.placing.specs.Placing.{last_by, lost_by, instead, gone, met, Held, full_by, peopled_by, losing_by, lost_texts, lost_stores, entry_stores}
+use Rattle.placing.specs.declared.Lost.{Lost}
 use Rattle.placing.proofs.Holding.{Before}
 use Rattle.placing.proofs.Entering.{eqb-turn, names-entry, over-enters, over-counts, free-counts, cleared-counts}
 
 -- ---- what the code finds
-
-pub lost-same : (t : List ℕ) (h k : ℕ) → k ≡ h → false ≡ lost_by t h k
-lost-same t h k q = rw (eq-eqb k h q)
-
-pub lost-other : (t : List ℕ) (h k : ℕ) (b : Bool) → k ≢ h → b ≡ last_by t h → b ≡ lost_by t h k
-lost-other t h k b q e = rw (ne_eqb k h q) e
-
-pub met-nothing : (t : List ℕ) (f : Found) (d : Holder) (k free : ℕ) → f ≡ Nowhere → met t Nowhere d k free ≡ met t f d k free
-met-nothing t f d k free e = rw e
-
-pub met-entry : (t : List ℕ) (f : Found) (d : Holder) (k free : ℕ) (e h : Room) (lost : Bool) (count : Room)
-    → f ≡ At e → h.0 ≡ heading_named (rec t e.0) → lost ≡ lost_by t h.0 k → count.0 ≡ blocks_of t h.0
-    → record { displaced = true; room = e; lost = lost; heading = h; count = count; moves = instead h.0 k } ≡ met t f d k free
-met-entry t f d k free e h lost count q a b n = rw (q, b, ← a, ← n)
 
 -- a base list's entries are counted
 pub crowded-base : (t : List ℕ) (d : Holder) (b : Bool) → d.heading ≡ 65535 → b ≡ full t d → b ≡ full_by t d
@@ -78,6 +62,26 @@ some : (n : ℕ) → not (eqb n 0) ≡ ltb 0 n
 some n =
     by_cases (ℕ_discrete n 0) (λ (e : n ≡ 0). rw e)
     (λ (e : n ≢ 0). rw (ne_eqb n 0 e, lt-ltb 0 n (omega arith)))
+
+-- the file of heading h
+abbrev file : List ℕ → ℕ → Lost
+file t h = record { heading = record { 0 = h }; count = record { 0 = blocks_of t h } }
+
+-- what is asked of a file that is lost where a test holds
+losing-where : (t : List ℕ) (b : Bool) (x : Lost) → losing_by t (cond b (Some x) None) ≡ (b && peopled_by t x.heading.0)
+losing-where t true x = refl
+losing-where t false x = refl
+
+few-where : (b : Bool) (x : Lost) → x.count.0 ≤ 1000 → IfSome (cond b (Some x) None) (λ f. f.count.0 ≤ 1000)
+few-where true x l = l
+few-where false x l = tt
+
+-- .. and what is cleared of it
+stores-where : (t : List ℕ) (b : Bool) (x : Lost) (texts : List ℕ)
+    → lost_stores (cond b (Some x) None) (lost_texts t (cond b (Some x) None) texts)
+    ≡ cond b (clear_stores x.heading.0 (text_rooms t x.heading.0 x.count.0) x.count.0) []
+stores-where t true x texts = refl
+stores-where t false x texts = refl
 
 -- the entry's stores in the paper's order
 in-turn : (a c s : List Store) (p : Store) → ((a ++ p ∷ []) ++ c) ++ s ≡ a ++ p ∷ (c ++ s)
@@ -147,48 +151,40 @@ module _ (t : List ℕ) (fit : sized t ≡ true) (right : sound boxed t ≡ true
         ∙ ap (λ (b : Bool). not b && last_by t h) (names-entry t c code hd k n short small h ∙ eqb-turn h k)
 
     -- 18
-    pub displaced-loses : (f : F.Found) (free : ℕ) → find boxed t hd n ≡ f → displacing t f r ≡ losing_by t (met t (found_shown f) hd k free)
+    pub displaced-loses : (f : F.Found) (free : ℕ) → find boxed t hd n ≡ f → displacing t f r ≡ losing_by t (met t (found_shown f) hd k free).lost
     unfolding losing
     displaced-loses (F.at e) free q =
         ap (λ (b : Bool). b && (directory (rec t (heading_named (rec t e))) && peopled t (heading_named (rec t e)))) (lost-met e q)
         ∙ ap (λ (b : Bool). lost_by t (heading_named (rec t e)) k && b) (peopled-met (heading_named (rec t e)))
+        ∙ sym (losing-where t (lost_by t (heading_named (rec t e)) k) (file t (heading_named (rec t e))))
     displaced-loses F.nowhere free q = refl
 
     -- the stores, with what is met: where nothing is displaced there is a free record left for the entry
     pub placed-settled : (m : Making) → m.entry ≡ r → Before t m.first k → Held t hd → (f : F.Found) → find boxed t hd n ≡ f
         → (f ≡ F.nowhere → length m.first < length (frees t))
-        → placing t m f ≡ (let x = met t (found_shown f) hd k (room t (length m.first)) in
-        m.first ++ entry_stores (run t m.first) x m.entry (text_rooms t x.heading.0 x.count.0))
+        → (texts : List ℕ) → placing t m f ≡ (let x = met t (found_shown f) hd k (room t (length m.first)) in
+        m.first ++ entry_stores (run t m.first) x m.entry (lost_texts t x.lost texts))
     unfolding settled
-    placed-settled m z b h (F.at e) q l =
+    placed-settled m z b h (F.at e) q l texts =
         let first : List Store = m.first in
+        let named : ℕ = heading_named (rec t e) in
+        let counts : List Store = count_stores (lay (run t first) e r) (instead named k) in
         rw (
           z,
           run-entry t first e r,
           over-counts t c code hd k n short small first b e q,
           lost-met e q,
-          file-freed t (heading_named (rec t e)) fit (found-few hd n e q),
+          file-freed t named fit (found-few hd n e q),
         )
-        (in-turn first _ _ (puts e r))
-    placed-settled m z b h F.nowhere q l =
+        (in-turn first counts _ (puts e r)
+        ∙ ap (λ (ss : List Store). first ++ puts e r ∷ (counts ++ ss)) (sym (stores-where t (lost_by t named k) (file t named) texts)))
+    placed-settled m z b h F.nowhere q l texts =
         let first : List Store = m.first in
         let e : ℕ = room t (length first) in
         rw (z, run-entry t first e r, free-counts t c code hd k n short small first b h (l refl), append-nil)
         (append_assoc first (puts e r ∷ []) _)
 
     -- few text records are cleared
-    pub met-few : (f : F.Found) (free : ℕ) → find boxed t hd n ≡ f → (met t (found_shown f) hd k free).count.0 ≤ 1000
-    met-few (F.at e) free q = found-few hd n e q
-    met-few F.nowhere free q = omega arith
-
--- the list of a lost file's text is asked for where one is lost, and of no other
-pub lost-listed : (t u : List ℕ) (m : Meets) (entry r : List ℕ)
-    → entry_stores u m entry (lost_texts t m r) ≡ entry_stores u m entry (text_rooms t m.heading.0 m.count.0)
-lost-listed t u m entry r = ap (λ (ss : List Store). puts m.room.0 entry ∷ (count_stores (lay u m.room.0 entry) m.moves ++ ss)) (go m.lost)
-  where
-    texts : List ℕ
-    texts = text_rooms t m.heading.0 m.count.0
-
-    go : (b : Bool) → cond b (clear_stores m.heading.0 (cond b texts r) m.count.0) [] ≡ cond b (clear_stores m.heading.0 texts m.count.0) []
-    go true = refl
-    go false = refl
+    pub met-few : (f : F.Found) (free : ℕ) → find boxed t hd n ≡ f → IfSome (met t (found_shown f) hd k free).lost (λ x. x.count.0 ≤ 1000)
+    met-few (F.at e) free q = few-where (lost_by t (heading_named (rec t e)) k) (file t (heading_named (rec t e))) (found-few hd n e q)
+    met-few F.nowhere free q = tt

@@ -4,7 +4,7 @@ use mathlib.Core.Bool.{Bool, true, false, ◌&&◌, ◌||◌, not, cond}
 use mathlib.Core.List.{List, [], ◌∷◌, ◌++◌, append-nil, append_assoc}
 use mathlib.Core.Logic.{◌⊎◌, inl, inr, ◌≢◌, by_cases}
 use mathlib.Core.Path.{◌≡◌, refl, sym, ap, ◌∙◌}
-use Prim.Native.Nat.{ℕ, ◌+◌, ◌-◌, ◌≤◌, ◌<◌}
+use Prim.Native.Nat.{ℕ, ◌+◌, ◌-◌, ◌≤◌, ◌<◌, min, max}
 use native.Mathlib.Omega.{arith}
 use native.Mathlib.Decide.{ℕ_discrete, dec_lt}
 use lib.Dec.{eqb, ltb}
@@ -30,7 +30,7 @@ use Rattle.demands.proofs.Recounting.Numbers.{bytes-named, bytes-held}
 use Rattle.demands.proofs.Recounting.After.{Entering, heading-same, changed}
 use Rattle.records.specs.Counts.{counted}
 use Rattle.records.proofs.Builds.{length_whole, whole-there}
-use Rattle.effects.specs.Counts.{lower, higher, one_of, other_of, count_after, turned, moved, recount, count_store, count_stores}
+use Rattle.effects.specs.Counts.{number_of, one_of, other_of, count_after, turned, moved, recount, count_store, count_stores}
 use Rattle.effects.specs.declared.counts.Moves.{Moves}
 
 -- ---- a heading's record
@@ -86,62 +86,53 @@ count-is : (x y : Bool) (a b : ℕ) → b + yes_no y ≡ a + yes_no x → b ≡ 
 count-is x y a b e = omega arith
 
 -- of two numbers of which one is past n, the lower is the other
-lower-first : (a b n i : ℕ) → i ≡ a → i < n → n ≤ b → i ≡ lower a b
-lower-first a b n i e l m = rw (lt-ltb a b (omega arith)) e
+pick_first : (a b n i : ℕ) → i ≡ a → i < n → (n ≤ b) ⊎ (n ≤ a) → i ≡ min a b
+pick_first a b n i e l (inl m) = omega arith
+pick_first a b n i e l (inr m) = omega arith
 
-lower-second : (a b n i : ℕ) → i ≡ b → i < n → n ≤ a → i ≡ lower a b
-lower-second a b n i e l m = rw (le-ltb a b (omega arith)) e
-
-pick_first : (a b n i : ℕ) → i ≡ a → i < n → (n ≤ b) ⊎ (n ≤ a) → i ≡ lower a b
-pick_first a b n i e l (inl m) = lower-first a b n i e l m
-pick_first a b n i e l (inr m) = let z : ⊥ = omega arith in absurd z
-
-pick_second : (a b n i : ℕ) → i ≡ b → i < n → (n ≤ b) ⊎ (n ≤ a) → i ≡ lower a b
-pick_second a b n i e l (inl m) = let z : ⊥ = omega arith in absurd z
-pick_second a b n i e l (inr m) = lower-second a b n i e l m
+pick_second : (a b n i : ℕ) → i ≡ b → i < n → (n ≤ b) ⊎ (n ≤ a) → i ≡ min a b
+pick_second a b n i e l (inl m) = omega arith
+pick_second a b n i e l (inr m) = omega arith
 
 -- both numbers in order
-in_order_lem : (a b : ℕ) → a ≢ b → Up 0 (lower a b ∷ higher a b ∷ [])
-in_order_lem a b d =
-    by_cases (dec_lt a b)
-    (λ (l : a < b). rw (lt-ltb a b l) (omega arith, (omega arith, tt)))
-    (λ (l : ¬ (a < b)). rw (le-ltb a b (omega arith)) (omega arith, (omega arith, tt)))
+in_order_lem : (a b : ℕ) → a ≢ b → Up 0 (min a b ∷ max a b ∷ [])
+in_order_lem a b d = (omega arith, (omega arith, tt))
 
-one-of : (a b i : ℕ) → (i ≡ a) ⊎ (i ≡ b) → In i (lower a b ∷ higher a b ∷ [])
-one-of a b i q = by_cases (dec_lt a b) (λ (l : a < b). rw (lt-ltb a b l) (up q)) (λ (l : ¬ (a < b)). rw (le-ltb a b (omega arith)) (down q))
+one-of : (a b i : ℕ) → (i ≡ a) ⊎ (i ≡ b) → In i (min a b ∷ max a b ∷ [])
+one-of a b i q = by_cases (dec_lt a b) (λ (l : a < b). up l q) (λ (l : ¬ (a < b)). down l q)
   where
-    up : (i ≡ a) ⊎ (i ≡ b) → (i ≡ a) ⊎ ((i ≡ b) ⊎ ⊥)
-    up (inl x) = inl x
-    up (inr x) = inr (inl x)
+    up : a < b → (i ≡ a) ⊎ (i ≡ b) → (i ≡ min a b) ⊎ ((i ≡ max a b) ⊎ ⊥)
+    up l (inl x) = inl (omega arith)
+    up l (inr x) = inr (inl (omega arith))
 
-    down : (i ≡ a) ⊎ (i ≡ b) → (i ≡ b) ⊎ ((i ≡ a) ⊎ ⊥)
-    down (inl x) = inr (inl x)
-    down (inr x) = inl x
+    down : ¬ (a < b) → (i ≡ a) ⊎ (i ≡ b) → (i ≡ min a b) ⊎ ((i ≡ max a b) ⊎ ⊥)
+    down l (inl x) = inr (inl (omega arith))
+    down l (inr x) = inl (omega arith)
 
-lower-same : (a b i : ℕ) → a ≡ b → (i ≡ a) ⊎ (i ≡ b) → i ≡ lower a b
-lower-same a b i e (inl x) = rw (le-ltb a b (omega arith)) (x ∙ e)
-lower-same a b i e (inr x) = rw (le-ltb a b (omega arith)) x
+one-alone : (a b i : ℕ) → a ≡ b → (i ≡ a) ⊎ (i ≡ b) → i ≡ min a b
+one-alone a b i e (inl x) = omega arith
+one-alone a b i e (inr x) = omega arith
 
-lower-higher : (a b : ℕ) → a ≢ b → lower a b ≢ higher a b
-lower-higher a b d =
-    by_cases (dec_lt a b) (λ (l : a < b). rw (lt-ltb a b l) d) (λ (l : ¬ (a < b)). rw (le-ltb a b (omega arith)) (λ (z : b ≡ a). d (sym z)))
+least-most : (a b : ℕ) → a ≢ b → min a b ≢ max a b
+least-most a b d e = d (omega arith)
 
 -- ---- the counts that move where r is laid over record e
 
 pub record Moved (f : List ℕ) (e : ℕ) (r : List ℕ) (m : Moves) : Type 0 where
-  pub named : (i : ℕ) → i < rooms f → names i r ≡ eqb i m.named.0
-  pub lost : (i : ℕ) → i < rooms f → names i (rec f e) ≡ eqb i m.lost.0
-  pub held : (i : ℕ) → i < rooms f → yes_no (stands (in_directory i) r) + yes_no (eqb i m.less.0)
-      ≡ yes_no (stands (in_directory i) (rec f e)) + yes_no (eqb i m.more.0)
-  pub heads : (i : ℕ) → i < rooms f → (i ≡ m.named.0) ⊎ (i ≡ m.lost.0) → byte (rec f i) 0 ≡ 1
-  pub holds : (i : ℕ) → i < rooms f → (i ≡ m.more.0) ⊎ (i ≡ m.less.0) → directory (rec f i) ≡ true
-  pub come : byte r 0 ≡ 2 → byte (rec f e) 0 ≢ 2 → holder_of r ≡ m.more.0
-  pub gone : byte (rec f e) 0 ≡ 2 → byte r 0 ≢ 2 → holder_of (rec f e) ≡ m.less.0
-  pub one : (rooms f ≤ m.less.0) ⊎ (rooms f ≤ m.named.0)
-  pub other : (rooms f ≤ m.more.0) ⊎ (rooms f ≤ m.lost.0)
+  pub named : (i : ℕ) → i < rooms f → names i r ≡ eqb i (number_of m.named)
+  pub lost : (i : ℕ) → i < rooms f → names i (rec f e) ≡ eqb i (number_of m.lost)
+  pub held : (i : ℕ) → i < rooms f → yes_no (stands (in_directory i) r) + yes_no (eqb i (number_of m.less))
+      ≡ yes_no (stands (in_directory i) (rec f e)) + yes_no (eqb i (number_of m.more))
+  pub heads : (i : ℕ) → i < rooms f → (i ≡ (number_of m.named)) ⊎ (i ≡ (number_of m.lost)) → byte (rec f i) 0 ≡ 1
+  pub holds : (i : ℕ) → i < rooms f → (i ≡ (number_of m.more)) ⊎ (i ≡ (number_of m.less)) → directory (rec f i) ≡ true
+  pub come : byte r 0 ≡ 2 → byte (rec f e) 0 ≢ 2 → holder_of r ≡ (number_of m.more)
+  pub gone : byte (rec f e) 0 ≡ 2 → byte r 0 ≢ 2 → holder_of (rec f e) ≡ (number_of m.less)
+  pub one : (rooms f ≤ (number_of m.less)) ⊎ (rooms f ≤ (number_of m.named))
+  pub other : (rooms f ≤ (number_of m.more)) ⊎ (rooms f ≤ (number_of m.lost))
 
 -- a heading that a table has as another has it gets the same store
-store_same : (u v : List ℕ) (m : Moves) (i : ℕ) → rooms v ≡ rooms u → (i < rooms u → rec v i ≡ rec u i) → count_store v m i ≡ count_store u m i
+store_same : (u v : List ℕ) (m : Moves) (i : ℕ) → rooms v ≡ rooms u → (i < rooms u → rec v i ≡ rec u i)
+    → count_store v m i ≡ count_store u m i
 unfolding count_store moved
 store_same u v m i e h =
     by_cases (dec_lt i (rooms u)) (λ (l : i < rooms u). rw (e, h l))
@@ -153,33 +144,37 @@ module _ (f : List ℕ) (e : ℕ) (r : List ℕ) (g : Entering f e r) (w : Whole
   u = lay f e r
 
   names-move : (i : ℕ) → i < rooms f → byte (rec f i) 0 ≡ 1
-      → namings u i + yes_no (eqb i m.lost.0) ≡ two (rec f i) 12 + yes_no (eqb i m.named.0)
+      → namings u i + yes_no (eqb i (number_of m.lost)) ≡ two (rec f i) 12 + yes_no (eqb i (number_of m.named))
   names-move i l k = rw (v.lost i l, v.named i l) at (named-after f e r g i l k)
 
   held_move : (i : ℕ) → i < rooms f → directory (rec f i) ≡ true
-      → holdings u i + yes_no (eqb i m.less.0) ≡ two (rec f i) 14 + yes_no (eqb i m.more.0)
+      → holdings u i + yes_no (eqb i (number_of m.less)) ≡ two (rec f i) 14 + yes_no (eqb i (number_of m.more))
   held_move i l d = omega (arith, held_after f e r g i l d, v.held i l)
 
-  no-holder : (i : ℕ) → i < rooms f → directory (rec f i) ≡ false → (eqb i m.more.0 ≡ false) × (eqb i m.less.0 ≡ false)
+  no-holder : (i : ℕ) → i < rooms f → directory (rec f i) ≡ false → (eqb i (number_of m.more) ≡ false) × (eqb i (number_of m.less) ≡ false)
   no-holder i l d = (
-    ne_eqb i m.more.0 (λ q. not-both (v.holds i l (inl q)) d),
-    ne_eqb i m.less.0 (λ q. not-both (v.holds i l (inr q)) d),
+    ne_eqb i (number_of m.more) (λ q. not-both (v.holds i l (inl q)) d),
+    ne_eqb i (number_of m.less) (λ q. not-both (v.holds i l (inr q)) d),
   )
 
   -- the headings that are corrected
   abbrev corrects : ℕ → Bool
   corrects i = is_kind 1 (rec f i) && changed f e r g i
 
+  abbrev moves : ℕ → Bool
+  moves i = turned i (number_of m.named) (number_of m.lost) || turned i (number_of m.more) (number_of m.less)
+
   changed-here : (i : ℕ) → i < rooms f → byte (rec f i) 0 ≡ 1
-      → changed f e r g i ≡ (turned i m.named.0 m.lost.0 || turned i m.more.0 m.less.0)
+      → changed f e r g i ≡ moves i
   changed-here i l k =
-      rw (turn (eqb i m.named.0) (eqb i m.lost.0) (namings f i) (namings u i) (rw (bytes-named f g.few g.counts i l k) at (names-move i l k)))
-      (ap (λ (b : Bool). turned i m.named.0 m.lost.0 || b) (go (truth (directory (rec f i)))))
+      rw (turn (eqb i (number_of m.named)) (eqb i (number_of m.lost)) (namings f i) (namings u i)
+      (rw (bytes-named f g.few g.counts i l k) at (names-move i l k)))
+      (ap (λ (b : Bool). turned i (number_of m.named) (number_of m.lost) || b) (go (truth (directory (rec f i)))))
     where
       go : (directory (rec f i) ≡ true) ⊎ (directory (rec f i) ≡ false)
-          → (directory (rec f i) && not (eqb (holdings f i) (holdings u i))) ≡ turned i m.more.0 m.less.0
+          → (directory (rec f i) && not (eqb (holdings f i) (holdings u i))) ≡ turned i (number_of m.more) (number_of m.less)
       go (inl d) =
-          rw d (turn (eqb i m.more.0) (eqb i m.less.0) (holdings f i) (holdings u i)
+          rw d (turn (eqb i (number_of m.more)) (eqb i (number_of m.less)) (holdings f i) (holdings u i)
           (rw (bytes-held f g.few g.counts i l k d) at (held_move i l d)))
       go (inr d) = let n = no-holder i l d in rw (d, n.0, n.1)
 
@@ -187,22 +182,22 @@ module _ (f : List ℕ) (e : ℕ) (r : List ℕ) (g : Entering f e r) (w : Whole
   unfolding moved
   corrects-moved i = rw (rooms-lay f e r) (by_cases (dec_lt i (rooms f)) here past)
     where
-      past : ¬ (i < rooms f) → corrects i ≡ (ltb i (rooms f) && (turned i m.named.0 m.lost.0 || turned i m.more.0 m.less.0))
+      past : ¬ (i < rooms f) → corrects i ≡ (ltb i (rooms f) && moves i)
       past l = rw (rec-past f i w (omega arith), le-ltb i (rooms f) (omega arith))
 
-      here : i < rooms f → corrects i ≡ (ltb i (rooms f) && (turned i m.named.0 m.lost.0 || turned i m.more.0 m.less.0))
+      here : i < rooms f → corrects i ≡ (ltb i (rooms f) && moves i)
       here l = rw (lt-ltb i (rooms f) l) (go (truth (is_kind 1 (rec f i))))
         where
           go : (is_kind 1 (rec f i) ≡ true) ⊎ (is_kind 1 (rec f i) ≡ false)
-              → corrects i ≡ (turned i m.named.0 m.lost.0 || turned i m.more.0 m.less.0)
+              → corrects i ≡ moves i
           go (inl k) = ap (λ (b : Bool). b && changed f e r g i) k ∙ changed-here i l (eqb-true _ _ k)
           go (inr k) =
               rw (
                 k,
-                ne_eqb i m.named.0 (λ q. not-both (eq-eqb _ _ (v.heads i l (inl q))) k),
-                ne_eqb i m.lost.0 (λ q. not-both (eq-eqb _ _ (v.heads i l (inr q))) k),
-                ne_eqb i m.more.0 (λ q. not-both (eq-eqb _ _ (typed-kind 0 (rec f i) (v.holds i l (inl q)))) k),
-                ne_eqb i m.less.0 (λ q. not-both (eq-eqb _ _ (typed-kind 0 (rec f i) (v.holds i l (inr q)))) k),
+                ne_eqb i (number_of m.named) (λ q. not-both (eq-eqb _ _ (v.heads i l (inl q))) k),
+                ne_eqb i (number_of m.lost) (λ q. not-both (eq-eqb _ _ (v.heads i l (inr q))) k),
+                ne_eqb i (number_of m.more) (λ q. not-both (eq-eqb _ _ (typed-kind 0 (rec f i) (v.holds i l (inl q)))) k),
+                ne_eqb i (number_of m.less) (λ q. not-both (eq-eqb _ _ (typed-kind 0 (rec f i) (v.holds i l (inr q)))) k),
               )
 
   -- .. and what is laid there
@@ -210,21 +205,21 @@ module _ (f : List ℕ) (e : ℕ) (r : List ℕ) (g : Entering f e r) (w : Whole
   unfolding recounted
   bytes_same i l k =
       rw (heading-same f e r g i l k, whole-there f i l)
-      (rw (counted-parts (rec f i) (count_after (two (rec f i) 12) i m.named.0 m.lost.0)
-      (count_after (two (rec f i) 14) i m.more.0 m.less.0) (length-rec f i l))
-      (rw (count-is (eqb i m.named.0) (eqb i m.lost.0) (two (rec f i) 12) (namings u i) (names-move i l k))
+      (rw (counted-parts (rec f i) (count_after (two (rec f i) 12) i (number_of m.named) (number_of m.lost))
+      (count_after (two (rec f i) 14) i (number_of m.more) (number_of m.less)) (length-rec f i l))
+      (rw (count-is (eqb i (number_of m.named)) (eqb i (number_of m.lost)) (two (rec f i) 12) (namings u i) (names-move i l k))
       (go (truth (directory (rec f i))))))
     where
       front : List ℕ
-      front = bytes_of 2 (count_after (two (rec f i) 12) i m.named.0 m.lost.0)
+      front = bytes_of 2 (count_after (two (rec f i) 12) i (number_of m.named) (number_of m.lost))
 
       held : ℕ
-      held = count_after (two (rec f i) 14) i m.more.0 m.less.0
+      held = count_after (two (rec f i) 14) i (number_of m.more) (number_of m.less)
 
       go : (directory (rec f i) ≡ true) ⊎ (directory (rec f i) ≡ false)
           → take 12 (rec f i) ++ (front ++ (cond (directory (rec f i)) (bytes_of 2 (holdings u i)) (take 2 (drop 14 (rec f i))) ++ drop 16 (rec f i)))
           ≡ take 12 (rec f i) ++ (front ++ (bytes_of 2 held ++ drop 16 (rec f i)))
-      go (inl d) = rw (d, count-is (eqb i m.more.0) (eqb i m.less.0) (two (rec f i) 14) (holdings u i) (held_move i l d))
+      go (inl d) = rw (d, count-is (eqb i (number_of m.more)) (eqb i (number_of m.less)) (two (rec f i) 14) (holdings u i) (held_move i l d))
       go (inr d) =
           let n = no-holder i l d in
           let z : held ≡ two (rec f i) 14 = rw (n.0, n.1) (omega arith) in
@@ -259,17 +254,17 @@ module _ (f : List ℕ) (e : ℕ) (r : List ℕ) (g : Entering f e r) (w : Whole
 
   brackets-in : (i : ℕ) → i < rooms f → Bracket (rec f e) r i → (i ≡ one_of m) ⊎ (i ≡ other_of m)
   brackets-in i l (brackets.named k q) =
-      inl (pick_first m.named.0 m.less.0 (rooms f) i (eqb-true i _ (sym (v.named i l) ∙ names-by i r k q)) l v.one)
+      inl (pick_first (number_of m.named) (number_of m.less) (rooms f) i (eqb-true i _ (sym (v.named i l) ∙ names-by i r k q)) l v.one)
   brackets-in i l (brackets.displaced k q) =
-      inr (pick_first m.lost.0 m.more.0 (rooms f) i (eqb-true i _ (sym (v.lost i l) ∙ names-by i (rec f e) k q)) l v.other)
-  brackets-in i l (brackets.holds k d q) = inr (pick_second m.lost.0 m.more.0 (rooms f) i (sym q ∙ v.come k d) l v.other)
-  brackets-in i l (brackets.held k d q) = inl (pick_second m.named.0 m.less.0 (rooms f) i (sym q ∙ v.gone k d) l v.one)
+      inr (pick_first (number_of m.lost) (number_of m.more) (rooms f) i (eqb-true i _ (sym (v.lost i l) ∙ names-by i (rec f e) k q)) l v.other)
+  brackets-in i l (brackets.holds k d q) = inr (pick_second (number_of m.lost) (number_of m.more) (rooms f) i (sym q ∙ v.come k d) l v.other)
+  brackets-in i l (brackets.held k d q) = inl (pick_second (number_of m.named) (number_of m.less) (rooms f) i (sym q ∙ v.gone k d) l v.one)
 
   abbrev low : ℕ
-  low = lower (one_of m) (other_of m)
+  low = min (one_of m) (other_of m)
 
   abbrev high : ℕ
-  high = higher (one_of m) (other_of m)
+  high = max (one_of m) (other_of m)
 
   abbrev bytes : ℕ → List ℕ
   bytes i = recounted u i (rec f i)
@@ -283,14 +278,14 @@ module _ (f : List ℕ) (e : ℕ) (r : List ℕ) (g : Entering f e r) (w : Whole
   both-listed d =
       ap (λ (x : List Store). x ++ (one corrects bytes high ++ [])) (here-same low)
       ∙ ap (λ (x : List Store). count_store u m low ++ x)
-      (append-nil (one corrects bytes high) ∙ here-same high ∙ sym (later_same low high (lower-higher (one_of m) (other_of m) d)))
+      (append-nil (one corrects bytes high) ∙ here-same high ∙ sym (later_same low high (least-most (one_of m) (other_of m) d)))
       ∙ rw (ne_eqb (one_of m) (other_of m) d)
 
   pub counts-corrected : recounts u ≡ count_stores u m
   counts-corrected =
       by_cases (ℕ_discrete (one_of m) (other_of m))
       (λ (q : one_of m ≡ other_of m).
-      recounts-few f e r g w (low ∷ []) (omega arith, tt) (λ i l _ b. inl (lower-same (one_of m) (other_of m) i q (brackets-in i l b))) ∙ alone-listed q)
+      recounts-few f e r g w (low ∷ []) (omega arith, tt) (λ i l _ b. inl (one-alone (one_of m) (other_of m) i q (brackets-in i l b))) ∙ alone-listed q)
       (λ (d : one_of m ≢ other_of m).
       recounts-few f e r g w (low ∷ high ∷ []) (in_order_lem (one_of m) (other_of m) d) (λ i l _ b. one-of (one_of m) (other_of m) i (brackets-in i l b))
       ∙ both-listed d)

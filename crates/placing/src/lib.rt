@@ -2,13 +2,14 @@
 #![tactic(auto)]
 
 ghost use Rattle.std.specs.Prelude.{◌&&◌, not, ◌≡◌};
-ghost use Rattle.paper.specs.Check.{whole, refusal_at, passed, refused, verdict};
+ghost use Rattle.paper.specs.Check.{verdict};
 ghost use Rattle.records.specs.Shown.{holder_shown};
-ghost use Rattle.answers.specs.Shown.{place_meant};
+ghost use Rattle.answers.specs.Shown.{place_meant, told, verdict_shown};
 ghost use Rattle.effects.specs.Stage.{Made};
-ghost use Rattle.placing.specs.Placing.{last_by, lost_by, met, full_by, peopled_by, losing_by, entry_checks, refusal_shown, lost_texts, entry_stores};
+ghost use Rattle.placing.specs.Placing.{last_by, lost_file, met, full_by, peopled_by, losing_by, entry_checks, lost_texts, entry_stores};
 
-use answers::Place;
+use answers::number::Number;
+use answers::{Place, Refusal};
 use effects::counts::{Moves, recount};
 use effects::rooms::text_rooms;
 use effects::stage::{clear_file, put};
@@ -17,47 +18,23 @@ use records::bytes::Room;
 use records::entry::{Entry, Holder, heading_named};
 use records::heading::{held_count, is_directory, named_count, text_length};
 use records::text::Text;
-use scans::{Found, has_fewer_free, is_full};
+use scans::{has_fewer_free, is_full};
 
-// What a new entry meets: whether an entry bears its name; the record it goes to; whether the file that the entry names is lost
-// with it; that file's heading and how many text records it has; and the headings whose counts move.
+// A file that is lost: its heading, and how many text records it has.
 #[derive(Clone, Copy)]
-pub struct Meets {
-    pub displaced: bool,
-    pub room: Room,
-    pub lost: bool,
+pub struct Lost {
     pub heading: Room,
     pub count: Room,
-    pub moves: Moves,
 }
 
-// A number and its place, or 0 and no place.
+// What a new entry meets: the record it goes to; whether an entry that bears its name is displaced there; the file that is lost with
+// that entry, if one is; and the headings whose counts move.
 #[derive(Clone, Copy)]
-pub struct Refusal {
-    pub number: u8,
-    pub place: Place,
-}
-
-impl Refusal {
-    // A number of a whole argument, or of none.
-    pub fn whole(number: u8, argument: u32) -> Self
-        ensures { result ≡ refusal_shown (refused (refusal_at number (whole argument))) }
-    {
-        Refusal {
-            number,
-            place: Place {
-                argument: argument,
-                link: 0,
-            },
-        }
-    }
-
-    // No refusal.
-    pub fn none() -> Self
-        ensures { result ≡ refusal_shown passed }
-    {
-        Refusal::whole(0, 0)
-    }
+pub struct Meets {
+    pub room: Room,
+    pub displaced: bool,
+    pub lost: Option<Lost>,
+    pub moves: Moves,
 }
 
 // Whether one entry alone names a heading.
@@ -67,51 +44,44 @@ pub fn is_last(table: &[u8], heading: Room) -> bool
     named_count(table, heading).0 == 1
 }
 
-// Whether an entry's file is named by no entry once one that names another heading is laid in its place.
-fn is_lost(table: &[u8], heading: Room, named: Room) -> bool
-    ensures { result ≡ lost_by table.now heading.0 named.0 }
+// The file of a heading, where no entry names it once one that names another heading is laid in its entry's place.
+fn lost_file(table: &[u8], heading: Room, named: Room) -> Option<Lost>
+    ensures { result ≡ lost_file table.now heading.0 named.0 }
 {
-    if named.0 == heading.0 {
-        return false;
+    if named.0 == heading.0 || !is_last(table, heading) {
+        return None;
     }
-    is_last(table, heading)
+    let count = blocks(text_length(table, heading));
+    Some(Lost { heading, count })
 }
 
 // What an entry in this place that names a heading meets, where its name was found or a free record taken.
-pub fn meet(table: &[u8], found: Found, holder: Holder, named: Room, free: Room) -> Meets
+pub fn meet(table: &[u8], found: Option<Room>, holder: Holder, named: Room, free: Room) -> Meets
     ensures { result ≡ met table.now found (holder_shown holder) named.0 free.0 }
 {
-    let none = Room(Moves::NONE);
-    let Found::At(entry) = found else {
-        let more = holder.heading;
+    let Some(room) = found else {
         return Meets {
-            displaced: false,
             room: free,
-            lost: false,
-            heading: Room(0),
-            count: Room(0),
+            displaced: false,
+            lost: None,
             moves: Moves {
-                named: named,
-                lost: none,
-                more: more,
-                less: none,
+                named: Some(named),
+                lost: None,
+                more: Some(holder.heading),
+                less: None,
             },
         };
     };
-    let heading = heading_named(table, entry);
-    let lost = is_lost(table, heading, named);
-    let count = blocks(text_length(table, heading));
+    let heading = heading_named(table, room);
     Meets {
+        room,
         displaced: true,
-        room: entry,
-        lost: lost,
-        heading: heading,
-        count: count,
+        lost: lost_file(table, heading, named),
         moves: Moves {
-            named: named,
-            lost: heading,
-            more: none,
-            less: none,
+            named: Some(named),
+            lost: Some(heading),
+            more: None,
+            less: None,
         },
     }
 }
@@ -121,69 +91,71 @@ fn is_crowded(table: &[u8], holder: Holder) -> bool
     ensures { result ≡ full_by table.now (holder_shown holder) }
 {
     if holder.heading.0 == Holder::BASE {
-        return is_full(table, holder);
+        is_full(table, holder)
+    } else {
+        Entry::MOST_IN_DIRECTORY <= held_count(table, holder.heading).0
     }
-    Entry::MOST_IN_DIRECTORY <= held_count(table, holder.heading).0
 }
 
 // "directory or base list full, nothing displaced"
 fn is_full_up(table: &[u8], holder: Holder, displaced: bool) -> bool
     ensures { result ≡ (not displaced && full_by table.now (holder_shown holder)) }
 {
-    if displaced {
-        return false;
-    }
-    is_crowded(table, holder)
+    !displaced && is_crowded(table, holder)
 }
 
 // "a directory with entries"
 pub fn is_directory_peopled(table: &[u8], heading: Room) -> bool
     ensures { result ≡ peopled_by table.now heading.0 }
 {
-    if is_directory(table, heading) {
-        return 0 < held_count(table, heading).0;
-    }
-    false
+    is_directory(table, heading) && 0 < held_count(table, heading).0
 }
 
 // "file losing its last entry is a directory with entries"
 fn is_losing(table: &[u8], meets: Meets) -> bool
-    ensures { result ≡ losing_by table.now meets }
+    ensures { result ≡ losing_by table.now meets.lost }
 {
-    if meets.lost {
-        return is_directory_peopled(table, meets.heading);
+    match meets.lost {
+        Some(file) => is_directory_peopled(table, file.heading),
+        None => false,
     }
-    false
 }
 
 // 17, 18 and 19 in number order.
-pub fn entry_refusal(
+#[tactic(auto, unfolding(paper::specs::Check::verdict))]
+pub fn check_entry(
     table: &[u8],
     holder: Holder,
     meets: Meets,
     needed: usize,
     place: Place,
-) -> Refusal
-    ensures { result ≡ refusal_shown (verdict (entry_checks table.now (place_meant place) (holder_shown holder) meets needed)) }
+) -> Result<(), Refusal>
+    ensures { told result ≡ verdict_shown (verdict (entry_checks table.now (place_meant place) (holder_shown holder) meets needed)) }
 {
     if is_full_up(table, holder, meets.displaced) {
-        return Refusal { number: 17, place };
+        return Err(Refusal {
+            number: Number::Full,
+            place,
+        });
     }
     if is_losing(table, meets) {
-        return Refusal { number: 18, place };
+        return Err(Refusal {
+            number: Number::Peopled,
+            place,
+        });
     }
     if has_fewer_free(table, needed) {
-        return Refusal::whole(19, 0);
+        return Err(Refusal::whole(Number::NoRoom, 0));
     }
-    Refusal::none()
+    Ok(())
 }
 
 // The text records, by position, of the file that is lost; where none is, none is looked for.
 pub fn lost_texts(table: &[u8], meets: Meets, texts: &mut [u16; Text::MOST])
-    ensures { texts.new ≡ lost_texts table.now meets texts.old }
+    ensures { texts.new ≡ lost_texts table.now meets.lost texts.old }
 {
-    if meets.lost {
-        text_rooms(table, meets.heading, meets.count, texts);
+    if let Some(file) = meets.lost {
+        text_rooms(table, file.heading, file.count, texts);
     }
 }
 
@@ -198,11 +170,10 @@ pub fn place_entry(
 ) -> usize
     ensures { Made table.old table.new left result (entry_stores table.old meets entry texts.now) }
 {
-    let moves = meets.moves;
     let laid = put(table, meets.room, entry, left);
-    let rest = recount(table, moves, laid);
-    if meets.lost {
-        return clear_file(table, meets.heading, texts, meets.count, rest);
+    let rest = recount(table, meets.moves, laid);
+    match meets.lost {
+        Some(file) => clear_file(table, file.heading, texts, file.count, rest),
+        None => rest,
     }
-    rest
 }

@@ -1,25 +1,20 @@
 -- The request, the refusal and the answer of the reader, for the paper's. A name stands by the place where its word starts.
-use Rattle.std.specs.Prelude.{Bool, true, false, cond, List, [], ◌∷◌, ℕ, leb, length}
-use Rattle.paper.specs.Line.{Word, word}
+use Rattle.std.specs.Prelude.{Bool, true, false, cond, List, [], ◌∷◌, ℕ, leb, length, Option, Some, None, Result, Ok, Err}
+use Rattle.paper.specs.Line.{Word}
 use Rattle.paper.specs.Name.{alone}
 use Rattle.paper.specs.Check as paper
-use Rattle.paper.specs.Check.{whole, refusal_at, Check, passed, refused}
+use Rattle.paper.specs.Check.{whole, at_link, refusal_at, Check, passed, refused}
 use Rattle.paper.specs.Request.{malformed, illegal, illegal_but, is_take, is_take_within, is_give, miscounted, read_crd, read_wrs, read_rds, read_lst, read_cpy, read_dup, read_chn, read_dpr, read_names, crd, wrs, rds, cpy, dup, chn, del, dst, dpr, lst, lst_base, lst_tree, lst_base_tree, rewrite, request, unread, after, needed, old_from, depth_given, read_tree, read_rewrite}
 use Rattle.paper.specs.Request as asked
-use Rattle.words.specs.Shown.{begin_shown, shown_part}
-use Rattle.words.specs.declared.octal.Part.TheVariants.{Given, NotGiven}
-use Rattle.words.specs.declared.octal.Octal.{Octal}
-use Rattle.words.specs.declared.octal.Octal.TheVariants.{Number, NoNumber}
-use Rattle.declarations.specs.Given.{shown_lifetime, shown_level, shown_digit}
+use Rattle.records.specs.Part.{shown_part}
+use Rattle.words.specs.Shown.{begin_shown}
+use Rattle.words.specs.declared.octal.NoNumber.{NoNumber}
+use Rattle.answers.specs.Number.{number_of}
 use Rattle.reader.specs.declared.function.Function.{Function}
 use Rattle.reader.specs.declared.function.Function.TheVariants as function
 use Rattle.reader.specs.declared.request.Request.{Request}
 use Rattle.reader.specs.declared.request.Request.TheVariants.{Crd, Wrs, Rds, Cpy, Dup, Chn, Del, Dst, Dpr, Lst, LstBase, LstTree, LstBaseTree, Rewrite}
 use Rattle.reader.specs.declared.request.Refusal.{Refusal}
-use Rattle.reader.specs.declared.request.Verdict.{Verdict}
-use Rattle.reader.specs.declared.request.Verdict.TheVariants as verdicts
-use Rattle.reader.specs.declared.request.Read.{Read}
-use Rattle.reader.specs.declared.request.Read.TheVariants as answers
 use Rattle.reader.specs.declared.request.Fault.{Fault}
 use Rattle.reader.specs.declared.request.Fault.TheVariants as faults
 
@@ -30,11 +25,11 @@ first_start (w ∷ ws) = w.start
 
 -- a line for each of the functions, and LST of a lone point
 abbrev pub shown_request : asked.Request → Request
-shown_request (crd w v d) = Crd w.start (shown_level v) (shown_digit d)
-shown_request (wrs f v d w) = Wrs f (shown_level v) (shown_digit d) w.start
+shown_request (crd w v d) = Crd w.start (shown_part v) (shown_part d)
+shown_request (wrs f v d w) = Wrs f (shown_part v) (shown_part d) w.start
 shown_request (rds b w f n) = Rds (begin_shown b) w.start (shown_part f) (shown_part n)
-shown_request (cpy b o n f v d) = Cpy (begin_shown b) o.start n.start (shown_lifetime f) (shown_level v) (shown_digit d)
-shown_request (dup b o e n d) = Dup (begin_shown b) o.start (begin_shown e) n.start (shown_digit d)
+shown_request (cpy b o n f v d) = Cpy (begin_shown b) o.start n.start (shown_part f) (shown_part v) (shown_part d)
+shown_request (dup b o e n d) = Dup (begin_shown b) o.start (begin_shown e) n.start (shown_part d)
 shown_request (chn o l) = Chn o.start l.start
 shown_request (del ws) = Del (first_start ws) (length ws)
 shown_request (dst ws) = Dst (first_start ws) (length ws)
@@ -45,21 +40,21 @@ shown_request (lst_tree b w d) = LstTree (begin_shown b) w.start d
 shown_request (lst_base_tree d) = LstBaseTree d
 shown_request (rewrite w) = Rewrite w.start
 
-abbrev pub shown_refusal : paper.Refusal → Refusal
-shown_refusal f = record { number = f.number; place = f.place.argument; link = f.place.link }
+-- the paper's refusal that a refusal here is, and what came of a call with it in its place
+abbrev pub refusal_meant : Refusal → paper.Refusal
+refusal_meant f = refusal_at (number_of f.number) (at_link f.place f.link)
 
-abbrev pub shown_verdict : paper.Verdict → Verdict
-shown_verdict passed = verdicts.Passed
-shown_verdict (refused f) = verdicts.Refused (shown_refusal f)
+abbrev pub told : {T : Type 0} → Result T Refusal → Result T paper.Refusal
+told (Ok x) = Ok x
+told (Err f) = Err (refusal_meant f)
 
--- the first of two verdicts that refuses
-abbrev pub first_of : Verdict → Verdict → Verdict
-first_of verdicts.Passed v = v
-first_of (verdicts.Refused f) v = verdicts.Refused f
+abbrev pub shown_verdict : paper.Verdict → Result Unit paper.Refusal
+shown_verdict passed = Ok tt
+shown_verdict (refused f) = Err f
 
-abbrev pub shown_read : asked.Read → Read
-shown_read (request r) = answers.Granted (shown_request r)
-shown_read (unread f) = answers.Refused (shown_refusal f)
+abbrev pub shown_read : asked.Read → Result Request paper.Refusal
+shown_read (request r) = Ok (shown_request r)
+shown_read (unread f) = Err f
 
 -- 7: malformed, 8: illegal, but for how the name may start
 abbrev pub fault_check : Fault → ℕ → Word → Check
@@ -74,19 +69,10 @@ abbrev pub old_checks : (least most : ℕ) → List ℕ → Word → List Check
 old_checks least most line old = miscounted least most line ∷ malformed 1 old ∷ illegal_but is_take 1 old ∷ []
 
 -- a number of RDS as a count: 0 is none
-abbrev pub count_of : Octal → Octal
-count_of (Number (Given n)) = cond (leb 1 n) (Number (Given n)) NoNumber
-count_of (Number NotGiven) = Number NotGiven
-count_of NoNumber = NoNumber
-
--- what LST* reads of a name, and of a lone point
-unfoldable pub tree_name : List ℕ → asked.Read
-tree_name line =
-    after (paper.verdict (old_checks 2 2 line (word line 1)))
-    (needed 2 (depth_given (word line 2).names) (λ depth. lst_tree (old_from (word line 1)) (word line 1) depth))
-
-unfoldable pub tree_base : List ℕ → asked.Read
-tree_base line = after (paper.verdict (miscounted 2 2 line ∷ [])) (needed 2 (depth_given (word line 2).names) (λ depth. lst_base_tree depth))
+abbrev pub count_of : Result (Option ℕ) NoNumber → Result (Option ℕ) NoNumber
+count_of (Ok (Some n)) = cond (leb 1 n) (Ok (Some n)) (Err (record {}))
+count_of (Ok None) = Ok None
+count_of (Err e) = Err e
 
 -- the checks of CPY and DUP but for the declaration: the count, 7 of both names, then 8 of both
 abbrev pub both_checks : List ℕ → Fault → Word → Fault → Word → List Check
@@ -103,34 +89,34 @@ removed true first count = Dst first count
 removed false first count = Del first count
 
 -- the function that a word of these names is
-unfoldable pub function_of : List (List ℕ) → Function
+unfoldable pub function_of : List (List ℕ) → Option Function
 function_of ns =
-    cond (alone (67 ∷ 82 ∷ 68 ∷ []) ns) function.Crd
-    (cond (alone (87 ∷ 82 ∷ 83 ∷ []) ns) function.Wrs
-    (cond (alone (82 ∷ 68 ∷ 83 ∷ []) ns) function.Rds
-    (cond (alone (67 ∷ 80 ∷ 89 ∷ []) ns) function.Cpy
-    (cond (alone (68 ∷ 85 ∷ 80 ∷ []) ns) function.Dup
-    (cond (alone (67 ∷ 72 ∷ 78 ∷ []) ns) function.Chn
-    (cond (alone (68 ∷ 69 ∷ 76 ∷ []) ns) function.Del
-    (cond (alone (68 ∷ 83 ∷ 84 ∷ []) ns) function.Dst
-    (cond (alone (68 ∷ 80 ∷ 82 ∷ []) ns) function.Dpr
-    (cond (alone (76 ∷ 83 ∷ 84 ∷ []) ns) function.Lst
-    (cond (alone (76 ∷ 83 ∷ 84 ∷ 42 ∷ []) ns) function.LstTree
-    (cond (alone (87 ∷ 82 ∷ 83 ∷ 42 ∷ []) ns) function.Rewrite
-    function.Nothing)))))))))))
+    cond (alone (67 ∷ 82 ∷ 68 ∷ []) ns) (Some function.Crd)
+    (cond (alone (87 ∷ 82 ∷ 83 ∷ []) ns) (Some function.Wrs)
+    (cond (alone (82 ∷ 68 ∷ 83 ∷ []) ns) (Some function.Rds)
+    (cond (alone (67 ∷ 80 ∷ 89 ∷ []) ns) (Some function.Cpy)
+    (cond (alone (68 ∷ 85 ∷ 80 ∷ []) ns) (Some function.Dup)
+    (cond (alone (67 ∷ 72 ∷ 78 ∷ []) ns) (Some function.Chn)
+    (cond (alone (68 ∷ 69 ∷ 76 ∷ []) ns) (Some function.Del)
+    (cond (alone (68 ∷ 83 ∷ 84 ∷ []) ns) (Some function.Dst)
+    (cond (alone (68 ∷ 80 ∷ 82 ∷ []) ns) (Some function.Dpr)
+    (cond (alone (76 ∷ 83 ∷ 84 ∷ []) ns) (Some function.Lst)
+    (cond (alone (76 ∷ 83 ∷ 84 ∷ 42 ∷ []) ns) (Some function.LstTree)
+    (cond (alone (87 ∷ 82 ∷ 83 ∷ 42 ∷ []) ns) (Some function.Rewrite)
+    None)))))))))))
 
 -- and what it reads of a line
-abbrev pub read_by : Function → List ℕ → asked.Read
-read_by function.Crd = read_crd
-read_by function.Wrs = read_wrs
-read_by function.Rds = read_rds
-read_by function.Cpy = read_cpy
-read_by function.Dup = read_dup
-read_by function.Chn = read_chn
-read_by function.Del = read_names del
-read_by function.Dst = read_names dst
-read_by function.Dpr = read_dpr
-read_by function.Lst = read_lst
-read_by function.LstTree = read_tree
-read_by function.Rewrite = read_rewrite
-read_by function.Nothing = λ line. unread (refusal_at 5 (whole 0))
+abbrev pub read_by : Option Function → List ℕ → asked.Read
+read_by (Some function.Crd) = read_crd
+read_by (Some function.Wrs) = read_wrs
+read_by (Some function.Rds) = read_rds
+read_by (Some function.Cpy) = read_cpy
+read_by (Some function.Dup) = read_dup
+read_by (Some function.Chn) = read_chn
+read_by (Some function.Del) = read_names del
+read_by (Some function.Dst) = read_names dst
+read_by (Some function.Dpr) = read_dpr
+read_by (Some function.Lst) = read_lst
+read_by (Some function.LstTree) = read_tree
+read_by (Some function.Rewrite) = read_rewrite
+read_by None = λ line. unread (refusal_at 5 (whole 0))

@@ -6,166 +6,97 @@
 
 ghost use Rattle.std.specs.Prelude.{◌≤◌, length};
 
-use declarations::part::{Digit, Level, Lifetime};
-use reader::request::{Read, Request};
+use declarations::part::Part;
+use reader::request::{Refusal, Request, read_line};
 use records::bytes::Bytes;
 use records::code::Code;
 use records::heading::Heading;
+use std::io::Read;
+use std::{fmt, io};
 use words::begin::Begin;
-use words::octal::Part;
 
-const STDIN: i32 = 0;
+// The most bytes of input that are read.
+const MOST: usize = 4096;
 
-const STDOUT: i32 = 1;
+// A number, or a dash where it is not given.
+#[derive(Clone, Copy)]
+struct Given<T>(Option<T>);
 
-fn put(s: &[u8]) {
-    io::write_all(STDOUT, s);
-}
-
-fn put_place(p: usize) {
-    put(b" ");
-    io::print_decimal(STDOUT, p as u64);
-}
-
-fn put_number(n: u8) {
-    put(b" ");
-    io::print_decimal(STDOUT, n as u64);
-}
-
-fn put_lifetime(part: Lifetime) {
-    let Lifetime::Given(n) = part else {
-        put(b" -");
-        return;
-    };
-    put_number(n);
-}
-
-fn put_level(part: Level) {
-    let Level::Given(n) = part else {
-        put(b" -");
-        return;
-    };
-    put_number(n);
-}
-
-fn put_digit(part: Digit) {
-    let Digit::Given(n) = part else {
-        put(b" -");
-        return;
-    };
-    put_number(n);
-}
-
-fn put_parts(level: Level, digit: Digit) {
-    put_level(level);
-    put_digit(digit);
-}
-
-// The first five bytes of a heading: kind, type, level, code and lifetime.
-fn put_heading(ty: u8, lifetime: u8, level: Level, digit: Digit) {
-    let heading = Heading {
-        ty: ty,
-        level: level.or_else(0),
-        code: Code(digit.or_else(0)),
-        lifetime: lifetime,
-        length: Bytes(0),
-    };
-    let laid = heading.laid();
-    put_number(laid[0]);
-    put_number(laid[Heading::TYPE]);
-    put_number(laid[Heading::LEVEL]);
-    put_number(laid[Heading::CODE]);
-    put_number(laid[Heading::LIFETIME]);
-}
-
-fn put_user(shelf: &[u8], user: u32) {
-    put(shelf);
-    io::print_decimal(STDOUT, user as u64);
+impl<T: fmt::Display> fmt::Display for Given<T> {
+    fn fmt<W: fmt::Write>(&self, f: &mut fmt::Formatter<W>) -> fmt::Result {
+        match &self.0 {
+            Some(n) => write!(f, "{n}"),
+            None => write!(f, "-"),
+        }
+    }
 }
 
 // Where a name starts, unless in one's own base list, and the name.
-fn put_name(begin: Begin, name: usize) {
-    match begin {
-        Begin::Own => {}
-        Begin::Take(user) => put_user(b" T", user),
-        Begin::Give(user) => put_user(b" G", user),
+#[derive(Clone, Copy)]
+struct Named(Begin, usize);
+
+impl fmt::Display for Named {
+    fn fmt<W: fmt::Write>(&self, f: &mut fmt::Formatter<W>) -> fmt::Result {
+        let Named(begin, name) = *self;
+        match begin {
+            Begin::Own => write!(f, "{name}"),
+            Begin::Take(user) => write!(f, "T{user} {name}"),
+            Begin::Give(user) => write!(f, "G{user} {name}"),
+        }
     }
-    put_place(name);
 }
 
-fn put_old(function: &[u8], from: Begin, name: usize) {
-    put(function);
-    put_name(from, name);
+// The first five bytes of a heading: kind, type, level, code and lifetime.
+#[derive(Clone, Copy)]
+struct Laid(Heading);
+
+impl fmt::Display for Laid {
+    fn fmt<W: fmt::Write>(&self, f: &mut fmt::Formatter<W>) -> fmt::Result {
+        let [kind, ty, level, code, lifetime, ..] = self.0.laid();
+        write!(f, "{kind} {ty} {level} {code} {lifetime}")
+    }
 }
 
-fn put_one(function: &[u8], name: usize) {
-    put(function);
-    put_place(name);
+fn first_bytes(ty: u8, lifetime: u8, level: Part, digit: Part) -> Laid {
+    Laid(Heading {
+        ty,
+        level: level.unwrap_or(0),
+        code: Code(digit.unwrap_or(0)),
+        lifetime,
+        length: Bytes(0),
+    })
 }
 
-fn put_two(function: &[u8], one: usize, other: usize) {
-    put_one(function, one);
-    put_place(other);
-}
-
-fn put_crd(name: usize, level: Level, digit: Digit) {
-    put_one(b"0 CRD", name);
-    put_parts(level, digit);
-    put_heading(Heading::DIRECTORY, 1, level, digit);
-}
-
-fn put_wrs(lifetime: u8, level: Level, digit: Digit, name: usize) {
-    put(b"0 WRS");
-    put_number(lifetime);
-    put_parts(level, digit);
-    put_place(name);
-    put_heading(Heading::SIMPLE, lifetime, level, digit);
-}
-
-// A number of RDS.
-fn put_part(part: Part) {
-    let Part::Given(n) = part else {
-        put(b" -");
-        return;
-    };
-    put(b" ");
-    io::print_decimal(STDOUT, n as u64);
-}
-
-fn put_rds(from: Begin, name: usize, first: Part, count: Part) {
-    put_old(b"0 RDS", from, name);
-    put_part(first);
-    put_part(count);
-}
-
-fn put_cpy(from: Begin, old: usize, new: usize, lifetime: Lifetime, level: Level, digit: Digit) {
-    put_old(b"0 CPY", from, old);
-    put_place(new);
-    put_lifetime(lifetime);
-    put_parts(level, digit);
-}
-
-fn put_dup(from: Begin, old: usize, to: Begin, new: usize, digit: Digit) {
-    put_old(b"0 DUP", from, old);
-    put_name(to, new);
-    put_digit(digit);
-}
-
-fn put_request(request: Request) {
+fn put_request(rt: &impl Print, request: Request) -> io::Result<()> {
     match request {
-        Request::Crd { name, level, digit } => put_crd(name, level, digit),
+        Request::Crd { name, level, digit } => println!(rt;
+            "0 CRD {name} {} {} {}",
+            Given(level),
+            Given(digit),
+            first_bytes(Heading::DIRECTORY, 1, level, digit)
+        ),
         Request::Wrs {
             lifetime,
             level,
             digit,
             name,
-        } => put_wrs(lifetime, level, digit, name),
+        } => println!(rt;
+            "0 WRS {lifetime} {} {} {name} {}",
+            Given(level),
+            Given(digit),
+            first_bytes(Heading::SIMPLE, lifetime, level, digit)
+        ),
         Request::Rds {
             from,
             name,
-            first: since,
-            count: most,
-        } => put_rds(from, name, since, most),
+            first,
+            count,
+        } => println!(rt;
+            "0 RDS {} {} {}",
+            Named(from, name),
+            Given(first),
+            Given(count)
+        ),
         Request::Cpy {
             from,
             old,
@@ -173,73 +104,86 @@ fn put_request(request: Request) {
             lifetime,
             level,
             digit,
-        } => put_cpy(from, old, new, lifetime, level, digit),
+        } => println!(rt;
+            "0 CPY {} {new} {} {} {}",
+            Named(from, old),
+            Given(lifetime),
+            Given(level),
+            Given(digit)
+        ),
         Request::Dup {
             from,
             old,
             to,
             new,
             digit,
-        } => put_dup(from, old, to, new, digit),
-        Request::Chn { old, link } => put_two(b"0 CHN", old, link),
-        Request::Del { first, count } => put_two(b"0 DEL", first, count),
-        Request::Dst { first, count } => put_two(b"0 DST", first, count),
-        Request::Dpr { name, code } => {
-            put_one(b"0 DPR", name);
-            put_number(code);
-        }
-        Request::Lst { from, name } => put_old(b"0 LST", from, name),
-        Request::LstBase => put(b"0 LST ."),
-        Request::LstTree { from, name, depth } => {
-            put_old(b"0 LST*", from, name);
-            put_number(depth);
-        }
-        Request::LstBaseTree { depth } => {
-            put(b"0 LST* .");
-            put_number(depth);
-        }
-        Request::Rewrite { name } => put_one(b"0 WRS*", name),
+        } => println!(rt;
+            "0 DUP {} {} {}",
+            Named(from, old),
+            Named(to, new),
+            Given(digit)
+        ),
+        Request::Chn { old, link } => println!(rt; "0 CHN {old} {link}"),
+        Request::Del { first, count } => println!(rt; "0 DEL {first} {count}"),
+        Request::Dst { first, count } => println!(rt; "0 DST {first} {count}"),
+        Request::Dpr { name, code } => println!(rt; "0 DPR {name} {code}"),
+        Request::Lst { from, name } => println!(rt; "0 LST {}", Named(from, name)),
+        Request::LstBase => println!(rt; "0 LST ."),
+        Request::LstTree { from, name, depth } => println!(rt;
+            "0 LST* {} {depth}",
+            Named(from, name)
+        ),
+        Request::LstBaseTree { depth } => println!(rt; "0 LST* . {depth}"),
+        Request::Rewrite { name } => println!(rt; "0 WRS* {name}"),
     }
 }
 
-fn put_read(read: Read) {
-    match read {
-        Read::Granted(request) => put_request(request),
-        Read::Refused(refusal) => {
-            io::print_decimal(STDOUT, refusal.number as u64);
-            put_place(refusal.place);
-            put_place(refusal.link);
-        }
+fn put_line(rt: &impl Print, line: &[u8]) -> io::Result<()> {
+    match read_line(line) {
+        Ok(request) => put_request(rt, request),
+        Err(
+            Refusal {
+                number,
+                place,
+                link,
+            },
+        ) => println!(rt; "{} {place} {link}", u32::from(number)),
     }
-    put(b"\n");
 }
 
-// The first place from `at` on with byte 10, or the end.
-fn line_end(text: &[u8], at: usize) -> usize
-    requires { at ≤ length text.now }
-    ensures { (at ≤ result) × (result ≤ length text.now) }
+// A line ends before byte 10, the last one at the latest where the text ends.
+fn put_lines(rt: &impl Print, text: &[u8]) -> io::Result<()> {
+    if text.is_empty() {
+        return Ok(());
+    }
+    for line in text
+        .strip_suffix(b"\n")
+        .unwrap_or(text)
+        .split(|b| *b == b'\n')
+    {
+        put_line(rt, line)?;
+    }
+    Ok(())
+}
+
+// Reads until the buffer is full, the input ends or cannot be read: how many bytes were read.
+fn read_full(input: &mut impl Read, buf: &mut [u8]) -> usize
+    ensures { result ≤ length buf.new }
 {
-    let mut i = at;
-    while i < text.len() {
-        if text[i] == b'\n' {
-            return i;
+    let mut n = 0;
+    while n < buf.len() {
+        let more = input.read(&mut buf[n..]).unwrap_or(0);
+        if more == 0 {
+            break;
         }
-        i += 1;
+        n += more;
     }
-    i
+    n
 }
 
-fn put_lines(text: &[u8]) {
-    let mut at = 0;
-    while at < text.len() {
-        let e = line_end(text, at);
-        put_read(reader::request::read_line(&text[at..e]));
-        at = e + 1;
-    }
-}
-
-fn main() {
-    let mut buf = io::buffer();
-    let n = io::read_full(STDIN, &mut buf);
-    put_lines(&buf[..n]);
+// Where its output cannot be written it stops, and says nothing of that.
+fn main(rt: HostRuntime) {
+    let mut buf = [0; MOST];
+    let n = read_full(&mut rt.stdin(), &mut buf);
+    put_lines(&rt, &buf[..n]).unwrap_or(());
 }

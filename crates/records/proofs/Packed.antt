@@ -1,6 +1,6 @@
 -- Six-bit names as the code goes over them: packing from the highest place down, each code shifted in below those before it, and unpacking
 -- from the lowest place up, where the codes of 0 before the first other one are padding. Only 60 bits of a number show in its name.
-use mathlib.Core.List.{List, [], ◌∷◌, ◌++◌, append_assoc, append-nil}
+use mathlib.Core.List.{List, [], ◌∷◌}
 use mathlib.Core.Logic.{◌≢◌, by_cases}
 use mathlib.Core.Path.{◌≡◌, refl, sym, ap, ◌∙◌}
 use Prim.Native.Nat.{ℕ, zero, suc, ◌+◌, ◌*◌, ◌-◌, ◌/◌, ◌%◌, ◌^◌, ◌≤◌, ◌<◌}
@@ -9,12 +9,12 @@ use native.Mathlib.Nat.{pow-zero, pow-suc, pow-succ', zero-lt-suc, mul_assoc, ze
 use native.Mathlib.Numerals.{add-one}
 use native.Mathlib.Decide.{ℕ_discrete, dec_lt}
 use lib.ListN.{length, get_or, take, drop, set, length-set, drop_of_length-le, get_or-eq_default}
-use lib.Seq.{drop-cons, get_or-set_same, drop-set-lt, take-suc-set, take_all}
+use lib.Seq.{drop-cons, get_or-set_same, drop-set-lt}
 use lib.Dec.{eqb}
 use borrow.Author.Tests.{eqb-true, eq-eqb, ne_eqb}
 use Rattle.paper.specs.Layout.{code_of, packing, packed, ahead, unpacking, unpacked}
 use Rattle.paper.specs.Name.{same}
-use Rattle.paper.specs.Number.{number_at, bytes_of}
+use Rattle.paper.specs.Number.{number_at}
 use Rattle.laws.proofs.Entries.{same_true, eq-same}
 use Rattle.laws.proofs.Packing.{packed-unpacked}
 use Rattle.laws.proofs.Tests.{same_truth}
@@ -180,16 +180,3 @@ unfolding number_at
 number-halves s j =
     let a : j + 4 ≡ suc (suc (suc (suc j))) = omega arith in
     rw a (omega arith)
-
--- the bytes so far, and those of the rest
-module _ (r all : List ℕ) (rest j : ℕ) (n : length r ≡ 8) (h : take j r ++ bytes_of (8 - j) rest ≡ all) where
-  pub bytes-turn : j < 8 → take (j + 1) (set r j (rest % 256)) ++ bytes_of (8 - (j + 1)) (rest / 256) ≡ all
-  unfolding bytes_of
-  bytes-turn l = go (8 - (j + 1)) (omega arith)
-    where
-      go : (w : ℕ) → 8 - j ≡ suc w → take (j + 1) (set r j (rest % 256)) ++ bytes_of w (rest / 256) ≡ all
-      go w s = rw (add-one, take-suc-set r j (rest % 256) (omega arith), append_assoc (take j r)) (rw s at h)
-
-  pub bytes-end : j ≡ 8 → r ≡ all
-  unfolding bytes_of
-  bytes-end e = sym (take_all 8 r (omega arith)) ∙ sym (append-nil (take 8 r)) ∙ rw e at h

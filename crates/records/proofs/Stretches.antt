@@ -1,12 +1,14 @@
 -- Stretches of bytes, by the length that is left: past the end a stretch is empty and a number is 0, since no byte is there;
 -- a number of one byte more is its low byte and the number above it.
 use mathlib.Core.List.{List}
+use mathlib.Core.Logic.{by_cases}
 use mathlib.Core.Path.{◌≡◌, refl}
-use Prim.Native.Nat.{ℕ, zero, suc, ◌+◌, ◌*◌, ◌-◌, ◌≤◌}
+use Prim.Native.Nat.{ℕ, zero, suc, ◌+◌, ◌*◌, ◌≤◌, min}
 use native.Mathlib.Omega.{arith}
 use native.Mathlib.Numerals.{add-one}
-use lib.ListN.{get_or, length, take, drop, length-take, length-drop, drop_of_length-le, get_or-eq_default}
-use lib.Seq.{take-nil, take_all}
+use native.Mathlib.Decide.{dec_le}
+use lib.ListN.{get_or, length, take, drop, length-take, drop_of_length-le, get_or-eq_default}
+use lib.Seq.{take-nil}
 use Rattle.paper.specs.Number.{number_at}
 use Rattle.paper.specs.Record.{byte}
 use Rattle.paper.specs.Table.{rec}
@@ -15,9 +17,12 @@ pub stretch-past : (s : List ℕ) (a b m n : ℕ) → length s ≤ a → length 
 stretch-past s a b m n h k =
     rw (drop_of_length-le s {i = a} h, drop_of_length-le s {i = b} k, take-nil m, take-nil n)
 
-pub stretch-whole : (s : List ℕ) (a m n : ℕ) → length s - a ≤ m → length s - a ≤ n → take m (drop a s) ≡ take n (drop a s)
-stretch-whole s a m n h k =
-    rw (take_all m (drop a s) (rw length-drop h), take_all n (drop a s) (rw length-drop k))
+-- past the end one place is as good as another
+pub stretch-near : (s : List ℕ) (a b m k : ℕ) → b ≡ min a k → length s ≤ k → take m (drop b s) ≡ take m (drop a s)
+stretch-near s a b m k e h =
+    by_cases (dec_le a k)
+    (λ (l : a ≤ k). let q : b ≡ a = omega arith in rw q)
+    (λ (l : ¬ (a ≤ k)). stretch-past s b a m m (omega arith) (omega arith))
 
 pub number_past : (w : ℕ) (s : List ℕ) (j : ℕ) → length s ≤ j → number_at w s j ≡ 0
 unfolding number_at

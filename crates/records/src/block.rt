@@ -17,26 +17,14 @@ pub fn blocks(length: Bytes) -> Room
 pub fn share(length: Bytes, position: Room) -> Bytes
     ensures { result.0 ≡ share length.0 position.0 }
 {
-    let n = length.0;
-    let p = position.0;
-    let last = blocks(length).0;
-    if last <= p {
-        return Bytes(0);
-    }
-    if p + 1 < last {
-        return Bytes(Text::MOST_HELD);
-    }
-    Bytes(n - p * Text::MOST_HELD)
+    let before = position.0.saturating_mul(Text::MOST_HELD);
+    Bytes(length.0.saturating_sub(before).min(Text::MOST_HELD))
 }
 
 // The bytes of a text at a position, as the stretch of the text that they are.
 pub fn block_at(text: &[u8], position: Room) -> &[u8]
     ensures { result.now ≡ block text.now position.0 }
 {
-    let n = text.len();
-    let p = position.0;
-    if n / Text::MOST_HELD < p {
-        return &text[n..];
-    }
-    part(text, p * Text::MOST_HELD, Bytes(Text::MOST_HELD))
+    let before = position.0.saturating_mul(Text::MOST_HELD);
+    part(text, before, Bytes(Text::MOST_HELD))
 }

@@ -6,9 +6,9 @@ ghost use Rattle.paper.specs.Table.{rec};
 ghost use Rattle.paper.specs.Effect.{recoded};
 ghost use Rattle.records.specs.Counts.{named_count, held_count, counted};
 
-use crate::bytes::{Bytes, Room, byte_of, kind_of, two_of};
+use crate::bytes::{Bytes, Room, byte_of, kind_of, two_bytes, two_of};
 use crate::code::Code;
-use crate::store::whole;
+use crate::store::{copy_in, whole};
 
 #[derive(Clone, Copy)]
 pub struct Heading {
@@ -64,18 +64,17 @@ impl Heading {
     pub const MOST_LENGTH: usize = 24000;
 
     // The record of this heading.
+    #[tactic(auto, unfolding(paper::specs::Record::heading_record, paper::specs::Number::bytes_of))]
     pub fn laid(self) -> [u8; Room::SIZE]
         ensures { result ≡ heading_record self.ty self.level self.code.0 self.lifetime self.length.0 }
     {
-        let n = self.length.0;
         let mut r = [0u8; Room::SIZE];
         r[Room::KIND] = Heading::KIND;
         r[Heading::TYPE] = self.ty;
         r[Heading::LEVEL] = self.level;
         r[Heading::CODE] = self.code.0;
         r[Heading::LIFETIME] = self.lifetime;
-        r[Heading::LENGTH] = (n % 256) as u8;
-        r[Heading::LENGTH + 1] = (n / 256 % 256) as u8;
+        copy_in(&mut r, Heading::LENGTH, &two_bytes(self.length.0));
         r
     }
 }
@@ -107,21 +106,21 @@ pub fn lifetime_of(table: &[u8], room: Room) -> u8
 pub fn text_length(table: &[u8], room: Room) -> Bytes
     ensures { (result.0 ≡ text_length (rec table.now room.0)) × (result.0 < 65536) }
 {
-    Bytes(two_of(table, room, Heading::LENGTH) as usize)
+    Bytes(usize::from(two_of(table, room, Heading::LENGTH)))
 }
 
 // How many entries name a heading.
 pub fn named_count(table: &[u8], room: Room) -> Room
     ensures { (result.0 ≡ named_count (rec table.now room.0)) × (result.0 < 65536) }
 {
-    Room(two_of(table, room, Heading::NAMED) as usize)
+    Room(usize::from(two_of(table, room, Heading::NAMED)))
 }
 
 // How many entries a directory holds.
 pub fn held_count(table: &[u8], room: Room) -> Room
     ensures { (result.0 ≡ held_count (rec table.now room.0)) × (result.0 < 65536) }
 {
-    Room(two_of(table, room, Heading::HELD) as usize)
+    Room(usize::from(two_of(table, room, Heading::HELD)))
 }
 
 pub fn mark_of(table: &[u8], room: Room) -> u8
@@ -140,10 +139,7 @@ pub fn is_marked(table: &[u8], room: Room) -> bool
 fn is_type(table: &[u8], room: Room, ty: u8) -> bool
     ensures { result ≡ (is_kind 1 (rec table.now room.0) && eqb (heading_type (rec table.now room.0)) ty) }
 {
-    if kind_of(table, room) == Heading::KIND {
-        return type_of(table, room) == ty;
-    }
-    false
+    kind_of(table, room) == Heading::KIND && type_of(table, room) == ty
 }
 
 pub fn is_directory(table: &[u8], room: Room) -> bool
@@ -159,6 +155,7 @@ pub fn is_simple(table: &[u8], room: Room) -> bool
 }
 
 // A heading's record with another code.
+#[tactic(auto, unfolding(paper::specs::Effect::recoded))]
 pub fn recoded(table: &[u8], room: Room, code: Code) -> [u8; Room::SIZE]
     ensures { result ≡ recoded (padded 32 (rec table.now room.0)) code.0 }
 {
@@ -168,27 +165,23 @@ pub fn recoded(table: &[u8], room: Room, code: Code) -> [u8; Room::SIZE]
 }
 
 // A heading's record with another mark and text length.
+#[tactic(auto, unfolding(paper::specs::Record::rewritten))]
 pub fn rewritten(table: &[u8], room: Room, mark: u8, length: Bytes) -> [u8; Room::SIZE]
     ensures { result ≡ rewritten (padded 32 (rec table.now room.0)) mark length.0 }
 {
-    let n = length.0;
     let mut r = whole(table, room);
     r[Heading::MARK] = mark;
-    r[Heading::LENGTH] = (n % 256) as u8;
-    r[Heading::LENGTH + 1] = (n / 256 % 256) as u8;
+    copy_in(&mut r, Heading::LENGTH, &two_bytes(length.0));
     r
 }
 
 // A heading's record with other counts.
+#[tactic(auto, unfolding(crate::specs::Counts::counted))]
 pub fn recounted(table: &[u8], room: Room, named: Room, held: Room) -> [u8; Room::SIZE]
     ensures { result ≡ counted (padded 32 (rec table.now room.0)) named.0 held.0 }
 {
-    let n = named.0;
-    let h = held.0;
     let mut r = whole(table, room);
-    r[Heading::NAMED] = (n % 256) as u8;
-    r[Heading::NAMED + 1] = (n / 256 % 256) as u8;
-    r[Heading::HELD] = (h % 256) as u8;
-    r[Heading::HELD + 1] = (h / 256 % 256) as u8;
+    copy_in(&mut r, Heading::NAMED, &two_bytes(named.0));
+    copy_in(&mut r, Heading::HELD, &two_bytes(held.0));
     r
 }

@@ -9,7 +9,7 @@ ghost use Rattle.records.specs.Characters.{characters};
 use crate::bytes::{Bytes, byte_at};
 use crate::name::are_same;
 
-// A name out of its number: ten characters, of which the first so many are the name.
+// A name out of its number: ten characters, of which the first so many are the name. It is handed over by value, so it is no slice.
 #[derive(Clone, Copy)]
 pub struct Unpacked {
     pub characters: [u8; 10],
@@ -29,10 +29,7 @@ impl Unpacked {
 fn code_of(b: u8) -> u64
     ensures { (result ≡ code_of b) × (result < 64) }
 {
-    if b < Unpacked::BLANK {
-        return 0;
-    }
-    ((b - 32) % 64) as u64
+    u64::from(b.saturating_sub(Unpacked::BLANK) % 64)
 }
 
 // A code behind those of a number: they are shifted up by six bits, and it is joined to them.
@@ -48,10 +45,8 @@ pub fn pack(name: &[u8]) -> u64
     ensures { (result ≡ packed name.now) × (result < 2 ^ 60) }
 {
     let mut x: u64 = 0;
-    let mut j: usize = 0;
-    while j < Unpacked::MOST {
+    for j in 0..Unpacked::MOST {
         x = shifted_in(x, code_of(byte_at(name, j)));
-        j += 1;
     }
     x
 }
@@ -76,9 +71,7 @@ fn characters(x: u64) -> [u8; Unpacked::MOST]
 {
     let mut r = [0u8; Unpacked::MOST];
     let mut rest = x;
-    let mut k = Unpacked::MOST;
-    while 0 < k {
-        k -= 1;
+    for k in (0..Unpacked::MOST).rev() {
         r[k] = last_code(rest) + Unpacked::BLANK;
         rest = shifted_out(rest);
     }
@@ -90,13 +83,11 @@ pub fn unpacked_length(x: u64) -> Bytes
     ensures { (result.0 ≡ length (unpacked x)) × (result.0 ≤ 10) }
 {
     let mut rest = x;
-    let mut n = Unpacked::MOST;
-    while 0 < n {
+    for n in (0..Unpacked::MOST).rev() {
         if last_code(rest) != 0 {
-            return Bytes(n);
+            return Bytes(n + 1);
         }
         rest = shifted_out(rest);
-        n -= 1;
     }
     Bytes(0)
 }
@@ -105,32 +96,23 @@ pub fn unpacked_length(x: u64) -> Bytes
 pub fn unpack(x: u64) -> Unpacked
     ensures { (take result.length result.characters ≡ unpacked x) × (result.length ≤ 10) × (length result.characters ≡ 10) }
 {
-    let characters = characters(x);
-    let length = unpacked_length(x).0;
-    Unpacked { characters, length }
+    Unpacked {
+        characters: characters(x),
+        length: unpacked_length(x).0,
+    }
 }
 
 // Whether a name is that of a number.
 pub fn is_unpacked(name: &[u8], x: u64) -> bool
     ensures { result ≡ same name.now (unpacked x) }
 {
-    let other = unpack(x);
-    let characters = other.characters;
-    let n = other.length;
-    are_same(name, &characters[..n])
+    let Unpacked { characters, length } = unpack(x);
+    are_same(name, &characters[..length])
 }
 
 // A number's eight bytes, "low byte first".
 pub fn bytes_of(x: u64) -> [u8; 8]
     ensures { result ≡ bytes_of 8 x }
 {
-    let mut r = [0u8; 8];
-    let mut rest = x;
-    let mut j: usize = 0;
-    while j < 8 {
-        r[j] = (rest % 256) as u8;
-        rest /= 256;
-        j += 1;
-    }
-    r
+    x.to_le_bytes()
 }

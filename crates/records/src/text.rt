@@ -1,12 +1,11 @@
 // Text: "1 bytes held, 1..24; 2-3 heading; 4-5 position; 8-31 the bytes, zero after those held".
 ghost use Rattle.std.specs.Prelude.{◌≡◌, ◌<◌, length, take};
-ghost use Rattle.std.proofs.lemmas.List.Edits.{sets};
 ghost use Rattle.paper.specs.Record.{bytes_held, heading_of, position, held, text_record};
 ghost use Rattle.paper.specs.Table.{rec};
 ghost use Rattle.paper.specs.Block.{block};
 
 use crate::block::block_at;
-use crate::bytes::{Bytes, Room, byte_of, part, record_at, two_of};
+use crate::bytes::{Bytes, Room, byte_of, part, record_at, two_bytes, two_of};
 use crate::store::copy_in;
 
 #[derive(Clone, Copy)]
@@ -38,20 +37,17 @@ impl Text {
     pub fn laid(self, bytes: &[u8]) -> [u8; Room::SIZE]
         ensures { result ≡ text_record self.heading.0 self.position.0 (take 24 bytes.now) }
     {
-        let h = self.heading.0;
-        let p = self.position.0;
         let held = part(bytes, 0, Bytes(Text::MOST_HELD));
         let mut r = [0u8; Room::SIZE];
         r[Room::KIND] = Text::KIND;
         r[Text::HELD] = held.len() as u8;
-        r[Text::HEADING] = (h % 256) as u8;
-        r[Text::HEADING + 1] = (h / 256 % 256) as u8;
-        r[Text::POSITION] = (p % 256) as u8;
-        r[Text::POSITION + 1] = (p / 256 % 256) as u8;
+        copy_in(&mut r, Text::HEADING, &two_bytes(self.heading.0));
+        copy_in(&mut r, Text::POSITION, &two_bytes(self.position.0));
         if held.len() == Text::MOST_HELD {
-            return with_block(r, held);
+            r[Text::BYTES..Room::SIZE].copy_from_slice(held);
+        } else {
+            copy_in(&mut r, Text::BYTES, held);
         }
-        copy_in(&mut r, Text::BYTES, held);
         r
     }
 
@@ -59,47 +55,32 @@ impl Text {
     pub fn of_text(self, text: &[u8]) -> [u8; Room::SIZE]
         ensures { result ≡ text_record self.heading.0 self.position.0 (block text.now self.position.0) }
     {
-        let p = self.position;
-        self.laid(block_at(text, p))
+        self.laid(block_at(text, self.position))
     }
-}
-
-// A text record with a whole block laid in it.
-fn with_block(begun: [u8; Room::SIZE], block: &[u8]) -> [u8; Room::SIZE]
-    requires { length block.now ≡ 24 }
-    ensures { result ≡ sets begun 8 block.now }
-{
-    let mut r = begun;
-    let mut j: usize = 0;
-    while j < Text::MOST_HELD {
-        r[Text::BYTES + j] = block[j];
-        j += 1;
-    }
-    r
 }
 
 fn bytes_held(table: &[u8], room: Room) -> Bytes
     ensures { (result.0 ≡ bytes_held (rec table.now room.0)) × (result.0 < 256) }
 {
-    Bytes(byte_of(table, room, Text::HELD) as usize)
+    Bytes(usize::from(byte_of(table, room, Text::HELD)))
 }
 
 pub fn heading_of(table: &[u8], room: Room) -> Room
     ensures { (result.0 ≡ heading_of (rec table.now room.0)) × (result.0 < 65536) }
 {
-    Room(two_of(table, room, Text::HEADING) as usize)
+    Room(usize::from(two_of(table, room, Text::HEADING)))
 }
 
 pub fn position_of(table: &[u8], room: Room) -> Room
     ensures { (result.0 ≡ position (rec table.now room.0)) × (result.0 < 65536) }
 {
-    Room(two_of(table, room, Text::POSITION) as usize)
+    Room(usize::from(two_of(table, room, Text::POSITION)))
 }
 
 // The bytes that a text record holds, as the stretch of the table that they are.
+#[tactic(auto, unfolding(paper::specs::Record::held))]
 pub fn held_at(table: &[u8], room: Room) -> &[u8]
     ensures { result.now ≡ held (rec table.now room.0) }
 {
-    let most = bytes_held(table, room);
-    part(record_at(table, room), Text::BYTES, most)
+    part(record_at(table, room), Text::BYTES, bytes_held(table, room))
 }

@@ -14,13 +14,6 @@ use records::bytes::{Room, rooms};
 use records::entry::{Entry, Holder, bears, stands};
 use records::packing::{is_unpacked, pack};
 
-// Where something was found, if it was.
-#[derive(Clone, Copy)]
-pub enum Found {
-    At(Room),
-    Nowhere,
-}
-
 // Whether record i is of a kind.
 fn is_kind(table: &[u8], i: usize, kind: u8) -> bool
     requires { i < rooms table.now }
@@ -29,38 +22,31 @@ fn is_kind(table: &[u8], i: usize, kind: u8) -> bool
     table[i * Room::SIZE] == kind
 }
 
+#[tactic(auto, unfolding(paper::specs::Entry::stands))]
 fn stands_here(table: &[u8], i: usize, d: Holder) -> bool
     requires { i < rooms table.now }
     ensures { result ≡ stands (holder_shown d) (rec table.now i) }
 {
-    if is_kind(table, i, Entry::KIND) {
-        return stands(table, Room(i), d);
-    }
-    false
+    is_kind(table, i, Entry::KIND) && stands(table, Room(i), d)
 }
 
+#[tactic(auto, unfolding(paper::specs::Entry::stands, paper::specs::Entry::bears))]
 fn bears_here(table: &[u8], i: usize, d: Holder, number: u64) -> bool
     requires { i < rooms table.now }
     ensures { result ≡ bears boxed (holder_shown d) (unpacked number) (rec table.now i) }
 {
-    if is_kind(table, i, Entry::KIND) {
-        return bears(table, Room(i), d, number);
-    }
-    false
+    is_kind(table, i, Entry::KIND) && bears(table, Room(i), d, number)
 }
 
 // How many entries stand in d.
 pub fn crowd(table: &[u8], d: Holder) -> Room
     ensures { result.0 ≡ crowd table.now (holder_shown d) }
 {
-    let n = rooms(table).0;
     let mut count: usize = 0;
-    let mut i: usize = 0;
-    while i < n {
+    for i in 0..rooms(table).0 {
         if stands_here(table, i, d) {
             count += 1;
         }
-        i += 1;
     }
     Room(count)
 }
@@ -73,44 +59,39 @@ pub fn is_full(table: &[u8], d: Holder) -> bool
 }
 
 // The entry that bears the name of a number in d.
-fn find_number(table: &[u8], d: Holder, number: u64) -> Found
+fn find_number(table: &[u8], d: Holder, number: u64) -> Option<Room>
     ensures { result ≡ found_shown (find boxed table.now (holder_shown d) (unpacked number)) }
 {
-    let n = rooms(table).0;
-    let mut i: usize = 0;
-    while i < n {
+    for i in 0..rooms(table).0 {
         if bears_here(table, i, d, number) {
-            return Found::At(Room(i));
+            return Some(Room(i));
         }
-        i += 1;
     }
-    Found::Nowhere
+    None
 }
 
 // The entry that bears a name in d: the name is packed once, and numbers are compared. No entry bears a name that does not come back
 // from its number.
-pub fn find(table: &[u8], d: Holder, name: &[u8]) -> Found
+pub fn find(table: &[u8], d: Holder, name: &[u8]) -> Option<Room>
     ensures { result ≡ found_shown (find boxed table.now (holder_shown d) name.now) }
 {
     let number = pack(name);
     if is_unpacked(name, number) {
-        return find_number(table, d, number);
+        find_number(table, d, number)
+    } else {
+        None
     }
-    Found::Nowhere
 }
 
 // How many records are free.
 pub fn count_free(table: &[u8]) -> Room
     ensures { result.0 ≡ length (frees table.now) }
 {
-    let n = rooms(table).0;
     let mut count: usize = 0;
-    let mut i: usize = 0;
-    while i < n {
+    for i in 0..rooms(table).0 {
         if is_kind(table, i, Room::FREE) {
             count += 1;
         }
-        i += 1;
     }
     Room(count)
 }
@@ -119,17 +100,14 @@ pub fn count_free(table: &[u8]) -> Room
 pub fn has_fewer_free(table: &[u8], needed: usize) -> bool
     ensures { result ≡ ltb (length (frees table.now)) needed }
 {
-    let n = rooms(table).0;
     let mut count: usize = 0;
-    let mut i: usize = 0;
-    while i < n {
+    for i in 0..rooms(table).0 {
         if needed <= count {
             return false;
         }
         if is_kind(table, i, Room::FREE) {
             count += 1;
         }
-        i += 1;
     }
     count < needed
 }
@@ -139,12 +117,10 @@ pub fn next_free(table: &[u8], from: Room) -> Room
     ensures { result.0 ≡ next_free table.now from.0 }
 {
     let n = rooms(table).0;
-    let mut i = from.0;
-    while i < n {
+    for i in from.0..n {
         if is_kind(table, i, Room::FREE) {
             return Room(i);
         }
-        i += 1;
     }
     Room(n)
 }

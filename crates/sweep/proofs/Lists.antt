@@ -16,14 +16,14 @@ use Rattle.judge_laws.specs.Tally.{last_below}
 use Rattle.judge_laws.proofs.Lasts.{last_more}
 use Rattle.laws.proofs.Tests.{not-both, false-by, and_right}
 use Rattle.sweep.specs.Listed.{inside, Listed}
-use Rattle.sweep.proofs.Marks.{heading-room, inside-entry}
+use Rattle.sweep.proofs.Marks.{heading_room, inside-entry}
 
 -- no entry is listed yet
 pub listed-none : (t : List ℕ) → sized t ≡ true → Listed t 0 (replicate 2048 0)
 unfolding last_below
 listed-none t w =
     record {
-      from = λ d k. get_or-replicate 2048 d 0 0 (heading-room t d w k);
+      from = λ d k. get_or-replicate 2048 d 0 0 (heading_room t d w k);
       on = λ e d l k q. let z : ⊥ = omega arith in absurd z;
       long = refl;
     }
@@ -43,11 +43,11 @@ module _ (t : List ℕ) (i : ℕ) (list : List ℕ) (c : Listed t i list) where
         long = c.long;
       }
 
-  pub listed-other : byte (rec t i) 0 ≢ 2 → Listed t (i + 1) list
-  listed-other n = listed-out (λ d k. false-by (inside t d i) (λ z. n (inside-entry t d i z)))
+  pub listed_other : byte (rec t i) 0 ≢ 2 → Listed t (i + 1) list
+  listed_other n = listed-out (λ d k. false-by (inside t d i) (λ z. n (inside-entry t d i z)))
 
-  pub listed-nowhere : byte (rec t (holder_of (rec t i))) 0 ≢ 1 → Listed t (i + 1) list
-  listed-nowhere n = listed-out (λ d k. false-by (inside t d i) (λ z. n (rw (inside-holder t d i z) k)))
+  pub listed_nowhere : byte (rec t (holder_of (rec t i))) 0 ≢ 1 → Listed t (i + 1) list
+  listed_nowhere n = listed-out (λ d k. false-by (inside t d i) (λ z. n (rw (inside-holder t d i z) k)))
 
   -- it is an entry of directory d
   module _ (d : ℕ) (room : d < 2048) (g : byte (rec t d) 0 ≡ 1) (k : byte (rec t i) 0 ≡ 2) (h : holder_of (rec t i) ≡ d) where

@@ -9,22 +9,22 @@ ghost use Rattle.paper.specs.Sweep.{sweeping};
 ghost use Rattle.answers.specs.Promised.{Keeps};
 
 use crate::stores::store_sweep;
-use answers::Answer;
+use answers::number::Number;
+use answers::{Answer, Refusal};
 
 // "It is a call like mending": judged before any store; cut, the index stays as lent, and else it is true for the table after.
 pub fn sweep(table: &mut [u8], index: &mut [u16], stop: u32) -> Answer
     ensures { Keeps (sweeping table.old index.old stop) result table.new index.new [] }
 {
-    let number = judge::judge(table);
-    if number != 0 {
-        return Answer::refused_whole(number, 0);
+    if let Ok(number) = Number::try_from(judge::judge(table)) {
+        return Answer::from(Refusal::whole(number, 0));
     }
     if !index::is_true(table, index) {
-        return Answer::refused_whole(26, 0);
+        return Answer::from(Refusal::whole(Number::IndexUntrue, 0));
     }
     let needed = store_sweep(table, stop as usize) as u32;
     if stop < needed {
-        return Answer::placeless(22, 0, stop);
+        return Answer::placeless(u32::from(Number::Stopped), 0, stop);
     }
     let done = Answer::placeless(0, 0, needed);
     if needed != 0 {

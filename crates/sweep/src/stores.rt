@@ -6,10 +6,10 @@ ghost use Rattle.paper.specs.Record.{byte};
 ghost use Rattle.paper.specs.Table.{sized, rooms, rec};
 ghost use Rattle.effects.specs.Counted.{Counted};
 ghost use Rattle.effects.specs.Allowed.{Allowed};
-ghost use Rattle.sweep.specs.Lost.{lost_mark, LostBelow, has_mark, lost_stores, all_stores};
+ghost use Rattle.sweep.specs.Lost.{mark_number, lost_mark, LostBelow, has_mark, lost_stores, all_stores};
 ghost use Rattle.sweep.specs.Marked.{marked, Reaches};
 
-use crate::reach::mark_reached;
+use crate::reach::Reached;
 use effects::recount::recount_all;
 use records::bytes::{Room, kind_of, rooms};
 use records::entry::{Entry, Holder, holder_of};
@@ -17,83 +17,60 @@ use records::heading::Heading;
 use records::store::clear;
 use records::text::{Text, heading_of};
 
-// A record that is lost.
+// What a record is lost as.
 #[derive(Clone, Copy)]
-struct Lost(u16);
-
-impl Lost {
-    const STAYS: u16 = 0;
+enum Lost {
+    Stays,
     // an entry, not a base file's, whose directory is not reached
-    const ENTRY: u16 = 1;
+    Entry,
     // a heading that is not reached
-    const HEADING: u16 = 2;
+    Heading,
     // text of such a heading
-    const TEXT: u16 = 3;
+    Text,
 }
 
 // Whether a heading is marked as reached: past the marks none is.
-fn is_reached(marks: &[u8; Room::MOST], heading: Room) -> bool
+fn is_reached(marks: &[bool; Room::MOST], heading: Room) -> bool
     requires { length marks.now ≡ 2048 }
     ensures { result ≡ marked marks.now heading.0 }
 {
-    let h = heading.0;
-    if Room::MOST <= h {
-        return false;
-    }
-    marks[h] != 0
+    heading.0 < Room::MOST && marks[heading.0]
 }
 
 // The mark of entry i.
-fn mark_entry(table: &[u8], marks: &[u8; Room::MOST], i: usize) -> u16
+fn mark_entry(table: &[u8], marks: &[bool; Room::MOST], i: usize) -> Lost
     requires { (byte (rec table.now i) 0 ≡ 2) × Reaches table.now marks.now }
-    ensures { result ≡ lost_mark table.now i }
+    ensures { mark_number result ≡ lost_mark table.now i }
 {
-    let d = holder_of(table, Room(i)).0;
-    if d == Holder::BASE {
-        return Lost::STAYS;
+    let holder = holder_of(table, Room(i));
+    if holder.0 == Holder::BASE || is_reached(marks, holder) {
+        Lost::Stays
+    } else {
+        Lost::Entry
     }
-    if is_reached(marks, Room(d)) {
-        return Lost::STAYS;
-    }
-    Lost::ENTRY
 }
 
 // The mark of record i: whether it is lost, and as what.
-fn mark_of(table: &[u8], marks: &[u8; Room::MOST], i: usize) -> u16
+fn mark_of(table: &[u8], marks: &[bool; Room::MOST], i: usize) -> Lost
     requires { Reaches table.now marks.now }
-    ensures { result ≡ lost_mark table.now i }
+    ensures { mark_number result ≡ lost_mark table.now i }
 {
-    let kind = kind_of(table, Room(i));
-    if kind == Entry::KIND {
-        return mark_entry(table, marks, i);
+    match kind_of(table, Room(i)) {
+        Entry::KIND => mark_entry(table, marks, i),
+        Heading::KIND if !is_reached(marks, Room(i)) => Lost::Heading,
+        Text::KIND if !is_reached(marks, heading_of(table, Room(i))) => Lost::Text,
+        _ => Lost::Stays,
     }
-    if kind == Heading::KIND {
-        if is_reached(marks, Room(i)) {
-            return Lost::STAYS;
-        }
-        return Lost::HEADING;
-    }
-    if kind != Text::KIND {
-        return Lost::STAYS;
-    }
-    if is_reached(marks, heading_of(table, Room(i))) {
-        return Lost::STAYS;
-    }
-    Lost::TEXT
 }
 
-// The marks of all records, written where the queue of what is reached was.
-fn mark_lost(table: &[u8], lost: &mut [u16; Room::MOST])
-    requires { (sized table.now ≡ true) × (length lost.old ≡ 2048) }
-    ensures { LostBelow table.now lost.new (rooms table.now) }
+// The marks of all records, as numbers: they take the place of the queue, since memory is fixed.
+#[tactic(auto, using(crate::proofs::Cleared::mark_tag))]
+fn mark_lost(table: &[u8], reached: &mut Reached)
+    requires { (sized table.now ≡ true) × Reaches table.now reached.old.marks × (length reached.old.queue ≡ 2048) }
+    ensures { LostBelow table.now reached.new.queue (rooms table.now) }
 {
-    let mut marks = [0u8; Room::MOST];
-    mark_reached(table, &mut marks, lost);
-    let n = rooms(table).0;
-    let mut i: usize = 0;
-    while i < n {
-        lost[i] = mark_of(table, &marks, i);
-        i += 1;
+    for i in 0..rooms(table).0 {
+        reached.queue[i] = mark_of(table, &reached.marks, i) as u16;
     }
 }
 
@@ -101,22 +78,21 @@ fn mark_lost(table: &[u8], lost: &mut [u16; Room::MOST])
 fn clear_turn(
     table: &mut [u8],
     lost: &[u16; Room::MOST],
-    mark: u16,
+    mark: Lost,
     i: usize,
     needed: usize,
     stop: usize,
 ) -> usize
     requires { (i < 2048) × (needed < 6144) }
-    ensures { Counted table.old table.new stop needed result (cond (has_mark lost.now mark i) (clear i ∷ []) [])
+    ensures { Counted table.old table.new stop needed result (cond (has_mark lost.now (mark_number mark) i) (clear i ∷ []) [])
         × (result ≤ needed + 1) }
 {
-    if lost[i] != mark {
+    if lost[i] != mark as u16 {
         return needed;
     }
-    if stop <= needed {
-        return needed + 1;
+    if needed < stop {
+        clear(table, Room(i));
     }
-    clear(table, Room(i));
     needed + 1
 }
 
@@ -124,20 +100,17 @@ fn clear_turn(
 fn clear_marked(
     table: &mut [u8],
     lost: &[u16; Room::MOST],
-    mark: u16,
+    mark: Lost,
     before: usize,
     stop: usize,
 ) -> usize
     requires { (length table.old ≤ 65536) × (before ≤ 4096) }
-    ensures { Counted table.old table.new stop before result (clears (has_mark lost.now mark) (rooms table.old))
+    ensures { Counted table.old table.new stop before result (clears (has_mark lost.now (mark_number mark)) (rooms table.old))
         × (result ≤ before + 2048) }
 {
-    let n = rooms(table).0;
     let mut needed = before;
-    let mut i: usize = 0;
-    while i < n {
+    for i in 0..rooms(table).0 {
         needed = clear_turn(table, lost, mark, i, needed, stop);
-        i += 1;
     }
     needed
 }
@@ -147,9 +120,9 @@ fn clear_lost(table: &mut [u8], lost: &[u16; Room::MOST], stop: usize) -> usize
     requires { length table.old ≤ 65536 }
     ensures { Counted table.old table.new stop 0 result (lost_stores lost.now table.old) × (result ≤ 6144) }
 {
-    let entries = clear_marked(table, lost, Lost::ENTRY, 0, stop);
-    let headings = clear_marked(table, lost, Lost::HEADING, entries, stop);
-    clear_marked(table, lost, Lost::TEXT, headings, stop)
+    let entries = clear_marked(table, lost, Lost::Entry, 0, stop);
+    let headings = clear_marked(table, lost, Lost::Heading, entries, stop);
+    clear_marked(table, lost, Lost::Text, headings, stop)
 }
 
 // What is lost is cleared and then the counts are corrected, exactly the first `stop` of these stores; how many are needed, or more than `stop`.
@@ -169,7 +142,12 @@ pub fn store_sweep(table: &mut [u8], stop: usize) -> usize
     requires { sized table.old ≡ true }
     ensures { Allowed table.old table.new stop result (sweep_stores table.old) × (result ≤ 8192) }
 {
-    let mut lost = [0u16; Room::MOST];
-    mark_lost(table, &mut lost);
-    clear_and_correct(table, &lost, stop)
+    let mut reached = Reached {
+        marks: [false; Room::MOST],
+        queue: [0; Room::MOST],
+        end: 0,
+    };
+    reached.mark(table);
+    mark_lost(table, &mut reached);
+    clear_and_correct(table, &reached.queue, stop)
 }

@@ -1,5 +1,4 @@
-mod Inserted
-mod Chains
+mod Chained
 mod Lines
 mod Places
 mod Answers

@@ -7,24 +7,23 @@ use native.Mathlib.Nat.{add-zero}
 use native.Mathlib.Numerals.{add-one}
 use native.Mathlib.Omega.{arith}
 use lib.Dec.{leb}
-use lib.ListN.{length, get_or, take, drop, length-append, drop_of_length-le}
-use lib.Seq.{sets, drop-cons, length-take-le, get_or-take}
+use lib.ListN.{length, get_or, drop, length-append, drop_of_length-le}
+use lib.Seq.{sets, drop-cons}
 use borrow.Author.Tests.{le-leb, lt-leb, leb-true, leb-false}
 use Rattle.paper.specs.Record.{heading_named}
 use Rattle.paper.specs.Table.{rec}
 use Rattle.paper.specs.Entry.{in_directory, stands}
 use Rattle.paper.specs.Listing.{opens, lines_by}
 use Rattle.records.proofs.Copies.{sets-append}
-use Rattle.tree.specs.declared.Reach.{Reach}
-use Rattle.tree.specs.declared.Reach.TheVariants.{At, Past}
+use Rattle.std.proofs.Common.{Option, Some, None}
 use Rattle.tree.specs.Gathered.{gathered}
 use Rattle.tree.specs.Shown.{sub_shown, entry_over, entry_shown, tree_shown, placed, Lists}
 
-placed-fit : (at end n : ℕ) → at + n ≤ end → placed at end n ≡ At (at + n)
+placed-fit : (at end n : ℕ) → at + n ≤ end → placed at end n ≡ Some (at + n)
 unfolding placed
 placed-fit at end n l = rw (le-leb (at + n) end l)
 
-placed_past : (at end n : ℕ) → end < at + n → placed at end n ≡ Past
+placed_past : (at end n : ℕ) → end < at + n → placed at end n ≡ None
 unfolding placed
 placed_past at end n l = rw (lt-leb (at + n) end l)
 
@@ -40,39 +39,39 @@ fits at end n = go (leb (at + n) end) refl
     go true e = fit (leb-true (at + n) end e)
     go false e = over (leb-false (at + n) end e)
 
-pub placed_at : (at end n p : ℕ) → At p ≡ placed at end n → (at + n ≤ end) × (p ≡ at + n)
+pub placed_at : (at end n p : ℕ) → Some p ≡ placed at end n → (at + n ≤ end) × (p ≡ at + n)
 placed_at at end n p e = go (fits at end n)
   where
     go : Fits at end n → (at + n ≤ end) × (p ≡ at + n)
-    go (fit l) = let q : At p ≡ At (at + n) = e ∙ placed-fit at end n l in (l, (cc))
-    go (over l) = let q : At p ≡ Past = e ∙ placed_past at end n l in let z : ◌≡◌ {A = ℕ} 0 1 = cc in absurd (omega arith)
+    go (fit l) = let q : Some p ≡ Some (at + n) = e ∙ placed-fit at end n l in (l, (cc))
+    go (over l) = let q : Some p ≡ None = e ∙ placed_past at end n l in let z : ◌≡◌ {A = ℕ} 0 1 = cc in absurd (omega arith)
 
-pub placed-over : (at end n : ℕ) → Past ≡ placed at end n → end < at + n
+pub placed-over : (at end n : ℕ) → None ≡ placed at end n → end < at + n
 placed-over at end n e = go (fits at end n)
   where
     go : Fits at end n → end < at + n
-    go (fit l) = let q : Past ≡ At (at + n) = e ∙ placed-fit at end n l in let z : ◌≡◌ {A = ℕ} 0 1 = cc in absurd (omega arith)
+    go (fit l) = let q : None ≡ Some (at + n) = e ∙ placed-fit at end n l in let z : ◌≡◌ {A = ℕ} 0 1 = cc in absurd (omega arith)
     go (over l) = l
 
 -- ---- what is listed from a place on
 
 -- nothing
-pub lists-none : (reply : List ℕ) (at end : ℕ) → at ≤ end → Lists [] reply at end (At at) reply
+pub lists-none : (reply : List ℕ) (at end : ℕ) → at ≤ end → Lists [] reply at end (Some at) reply
 lists-none reply at end l =
     record { place = rw add-zero at (sym (placed-fit at end 0 (omega arith))); bytes = λ _. refl }
 
 -- what passes the end, whatever is left of the buffer
-pub lists-past : (s reply after : List ℕ) (at end : ℕ) → end < at + length s → Lists s reply at end Past after
+pub lists-past : (s reply after : List ℕ) (at end : ℕ) → end < at + length s → Lists s reply at end None after
 lists-past s reply after at end l =
     record { place = sym (placed_past at end (length s) l); bytes = λ h. let z : ⊥ = omega arith in absurd z }
 
 -- what fits
 pub lists-all : (s reply after : List ℕ) (at end p : ℕ) → at + length s ≤ end → p ≡ at + length s → after ≡ sets reply at s
-    → Lists s reply at end (At p) after
+    → Lists s reply at end (Some p) after
 lists-all s reply after at end p l q e = record { place = rw q (sym (placed-fit at end (length s) l)); bytes = λ _. e }
 
 -- one stretch that fits, and then another
-pub lists-then : (a b reply mid after : List ℕ) (at end p : ℕ) (r : Reach) → at + length a ≤ end → p ≡ at + length a → mid ≡ sets reply at a
+pub lists-then : (a b reply mid after : List ℕ) (at end p : ℕ) (r : Option ℕ) → at + length a ≤ end → p ≡ at + length a → mid ≡ sets reply at a
     → Lists b mid p end r after → Lists (a ++ b) reply at end r after
 lists-then a b reply mid after at end p r l q e n =
     let z : length (a ++ b) ≡ length a + length b = length-append a b in
@@ -102,7 +101,8 @@ module _ (t : List ℕ) (depth blanks e : ℕ) where
   pub entry-over : (at end : ℕ) → end < at + length (sub_shown t blanks e) → end < at + length (entry_shown t depth blanks e)
   unfolding entry_over
   entry-over at end l =
-      omega (arith, length-append (sub_shown t blanks e) (cond (opens t e) (tree_shown t depth (blanks + 2) (stands (in_directory (heading_named (rec t e))))) []))
+      let below : List ℕ = cond (opens t e) (tree_shown t depth (blanks + 2) (stands (in_directory (heading_named (rec t e))))) [] in
+      omega (arith, length-append (sub_shown t blanks e) below)
 
 -- ---- a directory
 
@@ -111,7 +111,7 @@ unfolding tree_shown
 tree-none t depth blanks test e = rw e
 
 pub tree-some : (t : List ℕ) (depth blanks : ℕ) (test : List ℕ → Bool) → (depth ≡ 0 → ⊥)
-    → tree_shown t depth blanks test ≡ lines_by (entry_shown t (depth - 1) blanks) (gathered t test)
+    → tree_shown t depth blanks test ≡ lines_by (entry_shown t (depth - 1) blanks) (gathered t test [])
 unfolding tree_shown
 tree-some t zero blanks test f = absurd (f refl)
 tree-some t (suc d) blanks test f = let q : suc d - 1 ≡ d = omega arith in rw q
@@ -122,7 +122,7 @@ module _ (f : ℕ → List ℕ) (order : List ℕ) where
   rest m = lines_by f (drop m order)
 
   pub record Going (reply₀ : List ℕ) (at end : ℕ) (reply : List ℕ) (place m : ℕ) : Type 0 where
-    pub whole : (r : Reach) (after : List ℕ) → Lists (rest m) reply place end r after → Lists (lines_by f order) reply₀ at end r after
+    pub whole : (r : Option ℕ) (after : List ℕ) → Lists (rest m) reply place end r after → Lists (lines_by f order) reply₀ at end r after
     pub here : place ≤ end
     pub within : m ≤ length order
     pub long : length reply ≡ length reply₀
@@ -132,9 +132,9 @@ module _ (f : ℕ → List ℕ) (order : List ℕ) where
 
   module _ (reply₀ : List ℕ) (at end : ℕ) (reply : List ℕ) (place m : ℕ) (g : Going reply₀ at end reply place m) where
     -- none is left
-    pub gone : length order ≤ m → Lists (lines_by f order) reply₀ at end (At place) reply
+    pub gone : length order ≤ m → Lists (lines_by f order) reply₀ at end (Some place) reply
     unfolding lines_by
-    gone l = g.whole (At place) reply (rw (drop_of_length-le order {i = m} l) (lists-none reply place end g.here))
+    gone l = g.whole (Some place) reply (rw (drop_of_length-le order {i = m} l) (lists-none reply place end g.here))
 
     module _ (l : m < length order) where
       next : rest m ≡ f (get_or order m 0) ++ rest (m + 1)
@@ -142,14 +142,14 @@ module _ (f : ℕ → List ℕ) (order : List ℕ) where
       next = rw (drop-cons order m 0 l, add-one)
 
       -- the next one's lines pass the end
-      pub gone-past : (after : List ℕ) → Past ≡ placed place end (length (f (get_or order m 0))) → Lists (lines_by f order) reply₀ at end Past after
+      pub gone-past : (after : List ℕ) → None ≡ placed place end (length (f (get_or order m 0))) → Lists (lines_by f order) reply₀ at end None after
       gone-past after e =
-          g.whole Past after
+          g.whole None after
           (lists-past (rest m) reply after place end
           (rw next (omega (arith, placed-over place end (length (f (get_or order m 0))) e, length-append (f (get_or order m 0)) (rest (m + 1))))))
 
       -- .. or fit
-      pub going_on : (p : ℕ) (mid : List ℕ) → Lists (f (get_or order m 0)) reply place end (At p) mid → length mid ≡ length reply
+      pub going_on : (p : ℕ) (mid : List ℕ) → Lists (f (get_or order m 0)) reply place end (Some p) mid → length mid ≡ length reply
           → Going reply₀ at end mid p (m + 1)
       going_on p mid n w =
           let q = placed_at place end (length (f (get_or order m 0))) p n.place in
@@ -162,20 +162,11 @@ module _ (f : ℕ → List ℕ) (order : List ℕ) where
             long = w ∙ g.long;
           }
 
--- the next one of the first n of a list was listed: it passes the end, or fits
-module _ (f : ℕ → List ℕ) (o : List ℕ) (n : ℕ) (big : n ≤ length o) (reply₀ : List ℕ) (at end : ℕ) (reply : List ℕ) (place m e : ℕ)
-    (g : Going f (take n o) reply₀ at end reply place m) (l : m < n) (q : e ≡ get_or o m 0) (r : Reach) (mid : List ℕ)
-    (k : Lists (f e) reply place end r mid) where
-  short : m < length (take n o)
-  short = omega (arith, length-take-le n o big)
+      -- the next one was listed: it passes the end, or fits
+      pub turn-past : (r : Option ℕ) (mid : List ℕ) → Lists (f (get_or order m 0)) reply place end r mid → (after : List ℕ) → r ≡ None
+          → Lists (lines_by f order) reply₀ at end None after
+      turn-past r mid k after x = gone-past after (sym x ∙ k.place)
 
-  itself : e ≡ get_or (take n o) m 0
-  itself = q ∙ sym (get_or-take n o m 0 l)
-
-  pub turn-past : (after : List ℕ) → r ≡ Past → Lists (lines_by f (take n o)) reply₀ at end Past after
-  turn-past after x = gone-past f (take n o) reply₀ at end reply place m g short after (rw itself at (sym x ∙ k.place))
-
-  pub turn_on : (p : ℕ) → r ≡ At p → length mid ≡ length reply → Going f (take n o) reply₀ at end mid p (m + 1)
-  turn_on p x w =
-      let y : Lists (f e) reply place end (At p) mid = rw x at k in
-      going_on f (take n o) reply₀ at end reply place m g short p mid (rw itself at y) w
+      pub turn_on : (r : Option ℕ) (mid : List ℕ) → Lists (f (get_or order m 0)) reply place end r mid → (p : ℕ) → r ≡ Some p
+          → length mid ≡ length reply → Going reply₀ at end mid p (m + 1)
+      turn_on r mid k p x w = let y : Lists (f (get_or order m 0)) reply place end (Some p) mid = rw x at k in going_on p mid y w

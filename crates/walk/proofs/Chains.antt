@@ -3,68 +3,68 @@
 use mathlib.Core.Bool.{Bool, true, false}
 use mathlib.Core.List.{List, [], ◌∷◌}
 use mathlib.Core.Path.{◌≡◌, refl, sym, ap, ◌∙◌}
-use Prim.Native.Nat.{ℕ, suc, ◌+◌, ◌-◌, ◌<◌}
+use Prim.Native.Nat.{ℕ, suc, ◌+◌, ◌-◌}
 use native.Mathlib.Numerals.{add-one}
 use native.Mathlib.Omega.{arith}
 use lib.ListN.{length, drop}
 use Rattle.paper.specs.Layout.{boxed}
 use Rattle.paper.specs.Name.{pointed, dot_w, chain}
-use Rattle.paper.specs.Walk.{on, off, follow, linked, reached, to_directory, last_name}
+use Rattle.paper.specs.Walk.{on, off, look, follow, linked, reached, stopped, to_directory, last_name, to_last}
 use Rattle.paper.specs.Walk as W
 use Rattle.words.specs.Place.{joined, next_name, cut, names_from}
-use Rattle.words.specs.Shown.{next_at}
-use Rattle.words.specs.declared.line.Next.TheVariants.{At}
 use Rattle.words.proofs.Pieces.{names-step}
 use Rattle.words.proofs.Words.{next-later}
-use Rattle.words.proofs.Names.{next-there, joined-inside, names-one, names_more, chain-pointed, chain-bare}
-use Rattle.walk.specs.Shown.{meant, shown, step_meant, step_shown, walked_shown}
-use Rattle.walk.specs.declared.state.State.{State}
-use Rattle.walk.specs.declared.state.Step.{Step}
-use Rattle.walk.specs.declared.chain.Walked.{Walked}
-use Rattle.walk.specs.declared.chain.Walked.TheVariants.{Reached, Stopped}
-use Rattle.walk.proofs.Steps.{step-meant}
+use Rattle.words.proofs.Names.{next-there, next-some, next-value, joined-inside, names-one, names_more, chain-pointed, chain-bare}
+use Rattle.laws.proofs.Tests.{clash}
+use Rattle.walk.specs.Shown.{step_at}
 
--- a step of the code and its number of the link
-pub link-shown : (k : ℕ) (step : Step) (g : W.Step) → step ≡ step_shown g → walked_shown (linked k (step_meant step) reached) ≡ walked_shown (linked k g reached)
-link-shown k step g e = ap (λ (x : W.Step). walked_shown (linked k x reached)) (ap step_meant e ∙ step-meant g)
+-- a link leads on, or stops the walk
+pub linked-on : (k : ℕ) (g : W.Step) (f : W.State → W.Walked) (s : W.State) → reached s ≡ step_at k g → linked k g f ≡ f s
+linked-on k (on x) f s e = let z : s ≡ x = cc in ap f (sym z)
+linked-on k (off number) f s e = clash (cc)
 
--- a name after the one at p starts further on, and p is inside the line
-pub next-on : (line : List ℕ) (p q : ℕ) → next_at line p ≡ At q → (p < q) × (p < length line)
-next-on line p q e =
-    let n = next-there line p q e in
-    (rw n.1 (next-later line p), joined-inside line p n.0)
+pub linked-off : (k : ℕ) (g : W.Step) (f : W.State → W.Walked) (n l : ℕ) → stopped n l ≡ step_at k g → stopped n l ≡ linked k g f
+linked-off k (on x) f n l e = clash (cc)
+linked-off k (off number) f n l e = e
 
-module _ (t : List ℕ) (k : ℕ) (s : State) (line : List ℕ) (p : ℕ) where
+-- a name before the names of a word is followed
+pub walk-before : (t : List ℕ) (k : ℕ) (s : W.State) (n : List ℕ) (line : List ℕ) (p : ℕ) → to_directory boxed t k s (n ∷ names_from line p)
+    ≡ linked k (follow boxed t s n) (λ d. to_directory boxed t (suc k) d (names_from line p))
+unfolding to_directory
+walk-before t k s n line p = rw (names-step line p)
+
+-- .. as link 1, by what the step came to
+module _ (t : List ℕ) (s : W.State) (n : List ℕ) (line : List ℕ) (p : ℕ) where
+  pub base-on : (d : W.State) → reached d ≡ step_at 1 (follow boxed t s n)
+      → to_directory boxed t 2 d (names_from line p) ≡ to_directory boxed t 1 s (n ∷ names_from line p)
+  base-on d e = sym (walk-before t 1 s n line p ∙ linked-on 1 _ _ d e)
+
+  pub base-off : (m l : ℕ) → stopped m l ≡ step_at 1 (follow boxed t s n) → stopped m l ≡ to_directory boxed t 1 s (n ∷ names_from line p)
+  base-off m l e = rw (walk-before t 1 s n line p) (linked-off 1 _ _ m l e)
+
+pub ruleset base_steps = (base-on, base-off)
+
+module _ (t : List ℕ) (k : ℕ) (s : W.State) (line : List ℕ) (p : ℕ) where
+  -- so is a name that another is joined to
+  pub walk-more : joined line p ≡ true → to_directory boxed t k s (names_from line p)
+      ≡ linked k (follow boxed t s (cut line p)) (λ d. to_directory boxed t (suc k) d (names_from line (next_name line p)))
+  walk-more j = rw (names_more line p j) (walk-before t k s (cut line p) line (next_name line p))
+
   -- a word of one name is not walked
-  pub walk-one : joined line p ≡ false → Reached s ≡ walked_shown (to_directory boxed t k (meant s) (names_from line p))
+  pub walk-one : joined line p ≡ false → to_directory boxed t k s (names_from line p) ≡ reached s
   unfolding to_directory
   walk-one j = rw (names-one line p j)
 
-  -- a name n before the names of a word is followed
-  module _ (n : List ℕ) where
-    walk-link : to_directory boxed t k (meant s) (n ∷ names_from line p)
-        ≡ linked k (follow boxed t (meant s) n) (λ d. to_directory boxed t (suc k) d (names_from line p))
-    unfolding to_directory
-    walk-link = rw (names-step line p)
+  -- by what the step came to
+  pub walk-on : (d : W.State) → joined line p ≡ true → reached d ≡ step_at k (follow boxed t s (cut line p))
+      → to_directory boxed t (k + 1) d (names_from line (next_name line p)) ≡ to_directory boxed t k s (names_from line p)
+  walk-on d j e = rw add-one (sym (walk-more j ∙ linked-on k _ _ d e))
 
-    -- .. and stops the walk, or leads on
-    module _ (w : Walked) (e : w ≡ walked_shown (linked k (follow boxed t (meant s) n) reached)) where
-      pub walk-off : (number link : ℕ) → w ≡ Stopped number link → w ≡ walked_shown (to_directory boxed t k (meant s) (n ∷ names_from line p))
-      walk-off number link f = e ∙ rw walk-link (go (follow boxed t (meant s) n) (sym e ∙ f))
-        where
-          go : (g : W.Step) → walked_shown (linked k g reached) ≡ Stopped number link
-              → walked_shown (linked k g reached) ≡ walked_shown (linked k g (λ d. to_directory boxed t (suc k) d (names_from line p)))
-          go (on d) f = let z : ◌≡◌ {A = ℕ} 0 1 = cc in absurd (omega arith)
-          go (off number) f = refl
+  pub walk-off : (m l : ℕ) → joined line p ≡ true → stopped m l ≡ step_at k (follow boxed t s (cut line p))
+      → stopped m l ≡ to_directory boxed t k s (names_from line p)
+  walk-off m l j e = rw (walk-more j) (linked-off k _ _ m l e)
 
-      pub walk-on : (d : State) → w ≡ Reached d
-          → to_directory boxed t (k + 1) (meant d) (names_from line p) ≡ to_directory boxed t k (meant s) (n ∷ names_from line p)
-      walk-on d f = rw (add-one k, walk-link) (go (follow boxed t (meant s) n) (sym e ∙ f))
-        where
-          go : (g : W.Step) → walked_shown (linked k g reached) ≡ Reached d
-              → to_directory boxed t (suc k) (meant d) (names_from line p) ≡ linked k g (λ d. to_directory boxed t (suc k) d (names_from line p))
-          go (on x) f = let z : shown x ≡ d = cc in ap (λ (y : State). to_directory boxed t (suc k) (meant y) (names_from line p)) (sym z)
-          go (off number) f = let z : ◌≡◌ {A = ℕ} 0 1 = cc in absurd (omega arith)
+pub ruleset name_steps = (next-some, next-value, next-later, joined-inside, walk-one, walk-on, walk-off)
 
 -- the names after the first of a word: none, or those of the next
 pub rest-one : (line : List ℕ) (p : ℕ) → joined line p ≡ false → drop 1 (names_from line p) ≡ []
@@ -77,10 +77,16 @@ rest_more line p j = rw (names_more line p j)
 pub rest-length : (line : List ℕ) (p : ℕ) (n : List ℕ) → length (n ∷ drop 1 (names_from line p)) ≡ length (names_from line p)
 rest-length line p n = rw (names-step line p)
 
-pub walk-alone : (t : List ℕ) (s : State) (line : List ℕ) (p : ℕ) (n : List ℕ) → joined line p ≡ false
-    → Reached s ≡ walked_shown (to_directory boxed t 1 (meant s) (n ∷ drop 1 (names_from line p)))
+pub walk-alone : (t : List ℕ) (s : W.State) (line : List ℕ) (p : ℕ) (n : List ℕ) → joined line p ≡ false
+    → to_directory boxed t 1 s (n ∷ drop 1 (names_from line p)) ≡ reached s
 unfolding to_directory
 walk-alone t s line p n j = rw (rest-one line p j)
+
+pub walk-instead : (t : List ℕ) (s : W.State) (line : List ℕ) (p : ℕ) (n : List ℕ) → joined line p ≡ true
+    → to_directory boxed t 1 s (n ∷ drop 1 (names_from line p)) ≡ to_directory boxed t 1 s (n ∷ names_from line (next_name line p))
+walk-instead t s line p n j = rw (rest_more line p j)
+
+pub ruleset instead_steps = (next-some, next-value, walk-alone, walk-instead)
 
 -- the last name of a word, name by name
 less : (k : ℕ) → suc k - 1 ≡ k
@@ -114,3 +120,20 @@ pub last-instead : (line : List ℕ) (p : ℕ) (n : List ℕ) → joined line p 
     → last_name (n ∷ drop 1 (names_from line p)) ≡ last_name (chain (names_from line p))
 last-instead line p n j =
     rw (rest_more line p j, last-chain line p) (last-later n line (next_name line p) ∙ sym (last_more line p j))
+
+pub look-instead : (t : List ℕ) (d : W.State) (line : List ℕ) (p : ℕ) (n : List ℕ) → joined line p ≡ true
+    → to_last boxed t d (n ∷ drop 1 (names_from line p))
+    ≡ step_at (length (names_from line p)) (look boxed t d (last_name (chain (names_from line p))))
+look-instead t d line p n j = rw (rest-length line p n, last-instead line p n j)
+
+pub look-alone : (t : List ℕ) (d : W.State) (line : List ℕ) (p : ℕ) (n : List ℕ) → joined line p ≡ false
+    → to_last boxed t d (n ∷ drop 1 (names_from line p)) ≡ step_at 1 (look boxed t d n)
+look-alone t d line p n j = rw (rest-one line p j, last-alone n)
+
+pub ruleset instead_looks = (next-some, next-value, look-alone, look-instead)
+
+pub ruleset last_steps = (next-some, next-value, next-later, joined-inside, last_one, last_more, last-chain)
+
+pub ruleset own_names = (chain-pointed, chain-bare)
+
+pub ruleset instead_names = (rest-length)

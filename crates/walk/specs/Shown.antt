@@ -1,17 +1,15 @@
 -- The states and answers of the code, and those of `Walk` that they stand for.
-use Rattle.std.specs.Prelude.{List, ℕ}
+use Rattle.std.specs.Prelude.{List, ℕ, Result, Ok, Err}
 use Rattle.paper.specs.Effect.{chain_of, list_of, begun}
-use Rattle.paper.specs.Walk.{start, on, off, reached, stopped}
+use Rattle.paper.specs.Walk.{start, linked, reached, stopped}
 use Rattle.paper.specs.Walk as W
 use Rattle.records.specs.Shown.{holder_shown}
+use Rattle.answers.specs.Number.{number_of}
 use Rattle.words.specs.Place.{word_at}
 use Rattle.words.specs.Shown.{begin_meant}
 use Rattle.words.specs.declared.begin.Begin.{Begin}
 use Rattle.walk.specs.declared.state.State.{State}
-use Rattle.walk.specs.declared.state.Step.{Step}
-use Rattle.walk.specs.declared.state.Step.TheVariants.{On, Off}
-use Rattle.walk.specs.declared.chain.Walked.{Walked}
-use Rattle.walk.specs.declared.chain.Walked.TheVariants.{Reached, Stopped}
+use Rattle.walk.specs.declared.state.Stop.{Stop}
 
 -- the paper's state that a state of the code is, and back
 abbrev pub meant : State → W.State
@@ -25,19 +23,14 @@ shown s =
       code = record { 0 = s.code };
     }
 
--- the same of one link
-abbrev pub step_meant : Step → W.Step
-step_meant (On s) = on (meant s)
-step_meant (Off number) = off number
+-- where a walk came to, or its number and the link that it stopped at
+abbrev pub walked_meant : Result State Stop → W.Walked
+walked_meant (Ok s) = reached (meant s)
+walked_meant (Err f) = stopped (number_of f.number) f.link
 
-abbrev pub step_shown : W.Step → Step
-step_shown (on s) = On (shown s)
-step_shown (off number) = Off number
-
--- the end of a walk: where it came to, or its number and the link that it stopped at
-abbrev pub walked_shown : W.Walked → Walked
-walked_shown (reached s) = Reached (shown s)
-walked_shown (stopped number link) = Stopped number link
+-- one link: the next state, or its number at this link
+abbrev pub step_at : ℕ → W.Step → W.Walked
+step_at link step = linked link step reached
 
 -- where a chain of this user starts, and the chain at p
 abbrev pub begins : ℕ → Begin → W.State

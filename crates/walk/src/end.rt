@@ -3,41 +3,34 @@ ghost use Rattle.std.specs.Prelude.{◌≡◌};
 ghost use Rattle.paper.specs.Layout.{boxed};
 ghost use Rattle.paper.specs.Walk.{to_directory, ended};
 ghost use Rattle.walk.specs.Shown.{begins, chain_at};
-ghost use Rattle.walk.specs.Ends.{end_shown, both_shown};
+ghost use Rattle.walk.specs.Ends.{end_meant, both_of, both_meant};
 
-use crate::chain::{Walked, to_directory, to_last};
-use crate::state::State;
+use crate::chain::{to_directory, to_last};
+use crate::state::{State, Stop};
 use words::begin::Begin;
 
-// The directory and the file, or the number of the link that the walk stopped at.
+// Where one name leads, or two: its directory and its file, or the directory of a new name and the file of an old one.
 #[derive(Clone, Copy)]
-pub enum End {
-    At(State, State),
-    Off { number: u8, link: usize },
+pub struct Ends {
+    pub directory: State,
+    pub file: State,
+}
+
+// The argument, 1 or 2, whose walk stopped, and why.
+#[derive(Clone, Copy, PartialEq, Eq)]
+pub struct BothStop {
+    pub place: u32,
+    pub stop: Stop,
 }
 
 // "an old name to its file"
-pub fn to_end(table: &[u8], line: &[u8], p: usize, begin: Begin, user: u32) -> End
-    ensures { result ≡ end_shown (ended boxed table.now (begins user begin) (chain_at line.now p begin)) }
+#[tactic(auto, unfolding(paper::specs::Walk::ended))]
+pub fn to_end(table: &[u8], line: &[u8], p: usize, begin: Begin, user: u32) -> Result<Ends, Stop>
+    ensures { end_meant result ≡ ended boxed table.now (begins user begin) (chain_at line.now p begin) }
 {
-    let first = to_directory(table, line, p, begin, user);
-    match first {
-        Walked::Stopped { number, link } => End::Off { number, link },
-        Walked::Reached(d) => {
-            let last = to_last(table, line, p, begin, d);
-            match last {
-                Walked::Stopped { number, link } => End::Off { number, link },
-                Walked::Reached(f) => End::At(d, f),
-            }
-        }
-    }
-}
-
-// The file of an old name and the directory of a new one, or the number, the argument and the link that a walk stopped at.
-#[derive(Clone, Copy)]
-pub enum Both {
-    At(State, State),
-    Off { number: u8, place: u32, link: usize },
+    let directory = to_directory(table, line, p, begin, user)?;
+    let file = to_last(table, line, p, begin, directory)?;
+    Ok(Ends { directory, file })
 }
 
 // "the arguments are walked left to right", "a new name only to its directory"
@@ -49,27 +42,17 @@ pub fn to_both(
     to: Begin,
     new: usize,
     user: u32,
-) -> Both
-    ensures { result ≡ both_shown (ended boxed table.now (begins user from) (chain_at line.now old from))
+) -> Result<Ends, BothStop>
+    ensures { both_meant result ≡ both_of (ended boxed table.now (begins user from) (chain_at line.now old from))
         (to_directory boxed table.now 1 (begins user to) (chain_at line.now new to)) }
 {
-    let end = to_end(table, line, old, from, user);
-    match end {
-        End::Off { number, link } => Both::Off {
-            number,
-            place: 1,
-            link,
-        },
-        End::At(_, file) => {
-            let walked = to_directory(table, line, new, to, user);
-            match walked {
-                Walked::Stopped { number, link } => Both::Off {
-                    number,
-                    place: 2,
-                    link,
-                },
-                Walked::Reached(directory) => Both::At(file, directory),
-            }
-        }
-    }
+    let ends = to_end(table, line, old, from, user).map_err(|stop| BothStop { place: 1, stop })?;
+    let directory = to_directory(table, line, new, to, user).map_err(|stop| BothStop {
+        place: 2,
+        stop,
+    })?;
+    Ok(Ends {
+        directory,
+        file: ends.file,
+    })
 }

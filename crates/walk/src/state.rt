@@ -2,15 +2,17 @@
 ghost use Rattle.std.specs.Prelude.{◌≡◌};
 ghost use Rattle.paper.specs.Layout.{boxed};
 ghost use Rattle.paper.specs.Walk.{start, applies, look, enter, follow};
-ghost use Rattle.walk.specs.Shown.{meant, shown, step_shown};
+ghost use Rattle.walk.specs.Shown.{meant, shown, walked_meant, step_at};
 
+use answers::number::Number;
 use records::bytes::Room;
 use records::code::Code;
 use records::entry::{Holder, entry_code, heading_named};
 use records::heading::{heading_code, is_directory};
-use scans::{Found, find};
+use scans::find;
 
 // Where the next name is looked up; the entry last followed, or 65,535 for none; the code that applies there.
+// An `Option` of the entry would be no plainer: `enter` and whoever has the end of a walk would ask again for what is there.
 #[derive(Clone, Copy)]
 pub struct State {
     pub holder: Holder,
@@ -18,14 +20,15 @@ pub struct State {
     pub code: Code,
 }
 
-// The next state, or number 11, 12 or 13.
-#[derive(Clone, Copy)]
-pub enum Step {
-    On(State),
-    Off(u8),
+// Why a walk stopped, and the link that it stopped at, from 1.
+#[derive(Clone, Copy, PartialEq, Eq)]
+pub struct Stop {
+    pub number: Number,
+    pub link: usize,
 }
 
 // "What applies to a file is the union of its heading's code and the code of the one entry last followed"
+#[tactic(auto, unfolding(paper::specs::Walk::applies))]
 fn applies(table: &[u8], entry: Room) -> Code
     ensures { result.0 ≡ applies table.now entry.0 }
 {
@@ -44,62 +47,61 @@ impl State {
         State {
             holder: Holder {
                 heading: Room(Holder::BASE),
-                user: user,
+                user,
             },
             entry: Room(State::NONE),
             code: Code(0),
         }
     }
 
-    // The entry that bears the name here.
-    pub fn look(self, table: &[u8], name: &[u8]) -> Step
-        ensures { result ≡ step_shown (look boxed table.now (meant self) name.now) }
+    // The entry that bears the name of this link here.
+    #[tactic(auto, unfolding(paper::specs::Walk::look))]
+    pub fn look(self, table: &[u8], name: &[u8], link: usize) -> Result<State, Stop>
+        ensures { walked_meant result ≡ step_at link (look boxed table.now (meant self) name.now) }
     {
-        let holder = self.holder;
-        let found = find(table, holder, name);
-        let Found::At(entry) = found else {
-            return Step::Off(11);
+        let Some(entry) = find(table, self.holder, name) else {
+            return Err(Stop {
+                number: Number::NotThere,
+                link,
+            });
         };
         let code = applies(table, entry);
-        Step::On(State {
-            holder: holder,
-            entry: entry,
-            code: code,
+        Ok(State {
+            entry,
+            code,
+            ..self
         })
     }
 
     // Into the directory that the entry last followed names.
-    pub fn enter(self, table: &[u8]) -> Step
-        ensures { result ≡ step_shown (enter table.now (meant self)) }
+    #[tactic(auto, unfolding(paper::specs::Walk::enter))]
+    pub fn enter(self, table: &[u8], link: usize) -> Result<State, Stop>
+        ensures { walked_meant result ≡ step_at link (enter table.now (meant self)) }
     {
-        let entry = self.entry;
-        let code = self.code;
-        let heading = heading_named(table, entry);
+        let heading = heading_named(table, self.entry);
         if !is_directory(table, heading) {
-            return Step::Off(12);
+            return Err(Stop {
+                number: Number::NoDirectory,
+                link,
+            });
         }
-        if code.inhibits_read() {
-            return Step::Off(13);
+        if self.code.inhibits_read() {
+            return Err(Stop {
+                number: Number::ReadInhibited,
+                link,
+            });
         }
-        let holder = Holder {
-            heading: heading,
-            user: 0,
-        };
-        Step::On(State {
-            holder: holder,
-            entry: entry,
-            code: code,
+        Ok(State {
+            holder: Holder { heading, user: 0 },
+            ..self
         })
     }
 
     // A link before the last.
-    pub fn follow(self, table: &[u8], name: &[u8]) -> Step
-        ensures { result ≡ step_shown (follow boxed table.now (meant self) name.now) }
+    #[tactic(auto, unfolding(paper::specs::Walk::follow))]
+    pub fn follow(self, table: &[u8], name: &[u8], link: usize) -> Result<State, Stop>
+        ensures { walked_meant result ≡ step_at link (follow boxed table.now (meant self) name.now) }
     {
-        let step = self.look(table, name);
-        let Step::On(state) = step else {
-            return step;
-        };
-        state.enter(table)
+        self.look(table, name, link)?.enter(table, link)
     }
 }

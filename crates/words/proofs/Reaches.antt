@@ -3,14 +3,14 @@
 use mathlib.Core.Bool.{Bool, true, false, ◌&&◌, cond}
 use mathlib.Core.List.{List, [], ◌∷◌}
 use mathlib.Core.Logic.{◌⊎◌, inl, inr}
-use mathlib.Core.Path.{◌≡◌, refl, sym, ◌∙◌}
+use mathlib.Core.Path.{◌≡◌, refl, ap}
 use Prim.Native.Nat.{ℕ, suc, ◌+◌, ◌≤◌, ◌<◌}
 use native.Mathlib.Omega.{arith}
-use native.Mathlib.Nat.{add-zero, zero-add}
+use native.Mathlib.Nat.{add-zero}
+use Rattle.std.proofs.lemmas.List.Folds.{length-prefix_len}
+use Rattle.std.specs.List.{take_while, prefix_len, list_all}
 use lib.ListN.{length, get_or, drop, drop_of_length-le, length-drop}
 use lib.Seq.{drop-cons}
-use lib.Dec.{eqb, eqb-zero-suc, eqb-suc-suc}
-use borrow.Author.Tests.{eqb-true, eqb-false, eq-eqb, ne_eqb}
 use Rattle.paper.specs.Name.{all}
 use Rattle.words.specs.Place.{lead, reach}
 use Rattle.laws.proofs.Tests.{truth}
@@ -78,28 +78,23 @@ module _ (test : ℕ → Bool) (line : List ℕ) where
       go (inl l) = reach-stop (reach test line p) (reach-stopped p l)
       go (inr l) = reach-end (reach test line p) l
 
--- every byte passes where the leading bytes that pass are all of them
-pub all-reach : (test : ℕ → Bool) (s : List ℕ) → all test s ≡ eqb (reach test s 0) (length s)
-unfolding reach lead all
-all-reach test s = rw zero-add (by s)
+-- a reach ends past the bytes at the front that pass
+pub reach_taken : (test : ℕ → Bool) (line : List ℕ) (p : ℕ) → reach test line p ≡ p + length (take_while test (drop p line))
+unfolding reach lead
+reach_taken test line p = rw (length-prefix_len test (drop p line)) (ap (λ (n : ℕ). p + n) (go (drop p line)))
   where
-    by : (s : List ℕ) → all test s ≡ eqb (lead test s) (length s)
-    by [] = refl
-    by (b ∷ s) = go (test b) (by s)
+    go : (s : List ℕ) → lead test s ≡ prefix_len test s
+    go [] = refl
+    go (b ∷ s) = by (test b) (go s)
       where
-        go : (t : Bool) → all test s ≡ eqb (lead test s) (length s) → (t && all test s) ≡ eqb (cond t (suc (lead test s)) 0) (suc (length s))
-        go true r = rw eqb-suc-suc r
-        go false r = sym (eqb-zero-suc (length s))
+        by : (t : Bool) → lead test s ≡ prefix_len test s → cond t (suc (lead test s)) 0 ≡ cond t (1 + prefix_len test s) 0
+        by true e = omega arith
+        by false e = refl
 
--- .. and from p on
-pub all-reach-from : (test : ℕ → Bool) (s : List ℕ) (p : ℕ) → p ≤ length s → all test (drop p s) ≡ eqb (reach test s p) (length s)
-unfolding reach
-all-reach-from test s p l =
-    rw (all-reach test (drop p s), zero-add) (go (lead test (drop p s)) (length (drop p s)) (length s) (omega (arith, length-drop p s)))
-  where
-    go : (a b n : ℕ) → n ≡ p + b → eqb a b ≡ eqb (p + a) n
-    go a b n e = by (truth (eqb a b))
-      where
-        by : (eqb a b ≡ true) ⊎ (eqb a b ≡ false) → eqb a b ≡ eqb (p + a) n
-        by (inl f) = f ∙ sym (eq-eqb (p + a) n (omega (arith, eqb-true a b f)))
-        by (inr f) = f ∙ sym (ne_eqb (p + a) n (λ (g : p + a ≡ n). eqb-false a b f (omega arith)))
+-- every byte passes
+pub all_list : (test : ℕ → Bool) (s : List ℕ) → all test s ≡ list_all test s
+unfolding all
+all_list test [] = refl
+all_list test (b ∷ s) = ap (λ (t : Bool). test b && t) (all_list test s)
+
+pub ruleset reaches = (reach-le, reach-inside, reach-end)

@@ -7,6 +7,7 @@ use mathlib.Core.Path.{◌≡◌, refl, sym, ap, ◌∙◌}
 use Prim.Native.Nat.{ℕ, zero, suc, ◌+◌, ◌≤◌, ◌<◌}
 use native.Mathlib.Omega.{arith}
 use lib.ListN.{length, get_or}
+use Rattle.std.specs.Prelude.{min}
 use Rattle.paper.specs.Line.{Spot, is_blank, is_colon, grow, names_in, Word, solid, words, word}
 use Rattle.words.specs.Place.{reach, is_plain, name_end, gap_end, joined, next_name, closed_from, pieces, head, tail, names_from, word_at, rest_from, words_from, start_of, next_word}
 use Rattle.laws.proofs.Tests.{truth}
@@ -64,7 +65,8 @@ module _ (line : List ℕ) where
       one : (p : ℕ) → p < length line → ((q : ℕ) → p < q → From (rest_from line q)) → From (rest_from line p)
       one p l r = rw (rest-step line p) (go (truth (joined line p)))
         where
-          go : (joined line p ≡ true) ⊎ (joined line p ≡ false) → From (cond (joined line p) (rest_from line (next_name line p)) (words_from line (gap_end line p)))
+          go : (joined line p ≡ true) ⊎ (joined line p ≡ false)
+              → From (cond (joined line p) (rest_from line (next_name line p)) (words_from line (gap_end line p)))
           go (inl e) = rw e (r (next_name line p) (next-later line p))
           go (inr e) = rw e (from-words (gap_end line p) (reach-inside is_blank line (name_end line p) (reach-inside is_plain line p (omega arith))))
 
@@ -175,7 +177,17 @@ module _ (line : List ℕ) where
   unfolding next_word
   next_last p l e =
       rw (rest-step line p, e)
-      (words-start (gap_end line p) (reach-inside is_blank line (name_end line p) (reach-inside is_plain line p l)) ∙ reach-again is_blank line (name_end line p))
+      (words-start (gap_end line p) (reach-inside is_blank line (name_end line p) (reach-inside is_plain line p l))
+      ∙ reach-again is_blank line (name_end line p))
+
+  pub next-here : (p : ℕ) → joined line p ≡ false → next_word line p ≡ min (gap_end line p) (length line)
+  next-here p e = go (side p (suc (length line)))
+    where
+      go : (p < suc (length line)) ⊎ (suc (length line) ≤ p) → next_word line p ≡ min (gap_end line p) (length line)
+      go (inl l) =
+          let h = reach-inside is_blank line (name_end line p) (reach-inside is_plain line p (omega arith)) in
+          rw (next_last p (omega arith) e) (omega arith)
+      go (inr l) = rw (next-over p (omega arith)) (omega (arith, reach-le is_plain line p, reach-le is_blank line (name_end line p)))
 
   gap-later : (p : ℕ) → p < length line → joined line p ≡ false → p < gap_end line p
   gap-later p l e = go (truth (is_plain (get_or line p 0))) (truth (is_blank (get_or line p 0)))

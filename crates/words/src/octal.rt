@@ -1,70 +1,53 @@
 // The numbers of RDS, and what digits make.
-ghost use Rattle.std.specs.Prelude.{◌≡◌, [], ◌∷◌, drop};
+ghost use Rattle.std.specs.Prelude.{◌≡◌, [], ◌∷◌};
 ghost use Rattle.paper.specs.Name.{counting};
 ghost use Rattle.paper.specs.Octal.{digits, octal};
 ghost use Rattle.words.specs.Shown.{shown_octal};
 ghost use Rattle.words.specs.SixDigits.{SixDigits};
 
-use crate::class::{Class, end_of};
+use crate::class::is_octal;
 use records::name::are_same;
 
-// A number, or a dash or nothing.
-#[derive(Clone, Copy)]
-pub enum Part {
-    Given(u32),
-    NotGiven,
-}
+// What is no number: neither octal digits nor a dash.
+#[derive(Clone, Copy, PartialEq, Eq)]
+pub struct NoNumber;
 
-// An argument is a number, given or not given, or none.
-#[derive(Clone, Copy)]
-pub enum Octal {
-    Number(Part),
-    NoNumber,
-}
+const BASE: u32 = 8;
 
-impl Octal {
-    const BASE: u32 = 8;
+// The most digits that a number has.
+const MOST_DIGITS: usize = 6;
 
-    // The most digits that a number has.
-    const MOST_DIGITS: usize = 6;
-}
-
-// What the digits from this place on make in a base, six of them at most.
-pub(crate) fn number_from(base: u32, n: &[u8], from: usize) -> u32
-    requires { SixDigits base (drop from n.now) }
-    ensures { result ≡ counting base 0 (drop from n.now) }
+// What digits make in a base, six of them at most.
+pub(crate) fn number_of(base: u32, digits: &[u8]) -> u32
+    requires { SixDigits base digits.now }
+    ensures { result ≡ counting base 0 digits.now }
 {
     let mut k = 0;
-    let mut i = from;
-    while i < n.len() {
-        k = k * base + (n[i] - b'0') as u32;
-        i += 1;
+    for b in digits {
+        k = k * base + u32::from(*b - b'0');
     }
     k
 }
 
 // The number that a name is, if it is no dash: one to six octal digits.
-fn digits_of(n: &[u8]) -> Octal
+#[tactic(auto, using(crate::proofs::Octals::digits_tests))]
+fn digits_of(n: &[u8]) -> Result<Option<u32>, NoNumber>
     ensures { result ≡ shown_octal (digits n.now) }
 {
-    if n.len() < 1 {
-        return Octal::NoNumber;
+    match n.len() {
+        1..=MOST_DIGITS if n.iter().all(|b| is_octal(*b)) => Ok(Some(number_of(BASE, n))),
+        _ => Err(NoNumber),
     }
-    if Octal::MOST_DIGITS < n.len() {
-        return Octal::NoNumber;
-    }
-    if end_of(Class::Octal, n, 0) != n.len() {
-        return Octal::NoNumber;
-    }
-    Octal::Number(Part::Given(number_from(Octal::BASE, n, 0)))
 }
 
 // The number that a name is: one dash gives none.
-pub fn octal_of(w: &[u8]) -> Octal
+#[tactic(auto, unfolding(paper::specs::Octal::octal))]
+pub fn octal_of(w: &[u8]) -> Result<Option<u32>, NoNumber>
     ensures { result ≡ shown_octal (octal (w.now ∷ [])) }
 {
     if are_same(w, b"-") {
-        return Octal::Number(Part::NotGiven);
+        Ok(None)
+    } else {
+        digits_of(w)
     }
-    digits_of(w)
 }

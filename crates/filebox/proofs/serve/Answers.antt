@@ -1,43 +1,32 @@
 use mathlib.Core.Bool.{true}
-use mathlib.Core.Path.{refl}
 use native.Mathlib.Omega.{arith}
-use Rattle.filebox.proofs.Steps.{came-none, came-over}
+use Rattle.filebox.specs.Shows.{Came}
+use Rattle.filebox.proofs.Steps.{came-none, came-more, came-over}
 use Rattle.filebox.proofs.serve.Goals as goal
+use Rattle.filebox.proofs.serve.Goals.{else-loop-test, then-loop-test+then-n-eq0}
 
-pub new-held-requires : goal.new-held-requires
-new-held-requires c = tt
+pub loop-init : goal.loop-init
+loop-init c =
+    let a = c.args in
+    let m = a.memory.now in
+    came-none m.table m.index m.line m.text m.reply c.new-held.result true (omega arith) (omega arith) c.new-held.ensures
 
-pub loop-reads-init : goal.loop-reads-init
-loop-reads-init c =
-    let a = c.args in (
-      came-none a.table.now a.index.now a.line.now a.text.now a.reply.now c.new-held.result true c.requires.0 c.requires.1 c.new-held.ensures,
-      refl,
-      refl,
-      refl,
-      refl,
-      refl,
-    )
-
-pub loop-reads-smaller : goal.loop-reads-smaller
-loop-reads-smaller c =
-    c.read_some-next.ensures.1
-
-pub loop-reads-preserved : goal.loop-reads-preserved
-loop-reads-preserved c =
-    let a = c.args in (
-      c.read_some-next.ensures.0.came a.table.now a.index.now a.reply.now c.loop-reads.invariant.0,
-      omega arith,
-      omega arith,
-      omega arith,
-      omega arith,
-      omega arith,
-    )
-
-pub finish-requires : goal.finish-requires
-finish-requires c = tt
+pub loop-preserved : goal.loop-preserved
+loop-preserved c =
+    let l = c.loop in
+    let n = l.memory in
+    came-more _ _ _ _ n.table n.index n.line n.text n.reply l.held _ _ _ _ _ _ c.feed-held.ensures l.invariant
 
 pub returns : goal.returns
 returns c =
-    let a = c.args in
-    came-over a.table.now a.index.now a.reply.now c.loop-reads.table c.loop-reads.index c.loop-reads.line c.loop-reads.text c.loop-reads.reply c.loop-reads.held _ _ _ _ c.loop-reads.invariant.0
-    c.finish.ensures
+    let b = c.args.memory.now in
+    let l = c.loop in
+    let n = l.memory in
+    let e = c.loop-test in
+    let m = e.memory in
+    let came : Came b.table b.index b.reply m.table m.index m.line m.text m.reply e.held = elim e.branch [
+      | else-loop-test w ↦ rw (w.memory-is, w.held-is) l.invariant
+      | then-loop-test+then-n-eq0 w ↦
+          rw (w.memory-is, w.held-is) (came-more _ _ _ _ n.table n.index n.line n.text n.reply l.held _ _ _ _ _ _ w.feed-held.ensures l.invariant)
+    ] in
+    came-over b.table b.index b.reply m.table m.index m.line m.text m.reply e.held _ _ _ _ _ _ came c.finish.ensures

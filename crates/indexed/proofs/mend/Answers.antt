@@ -1,35 +1,45 @@
 -- A list of another length: 1 or 2 as the mend without a store tells, or 26. Of the right length: the mend is `elephant`'s, and the list is repaired
 -- where it is done.
-use mathlib.Core.Logic.{inl, inr, ◌≢◌}
-use mathlib.Core.Path.{◌≡◌}
+use mathlib.Core.Logic.{◌≢◌}
+use mathlib.Core.Path.{◌∙◌}
 use native.Mathlib.Omega.{arith}
-use lib.ListN.{length}
-use Rattle.paper.specs.Table.{rooms}
-use Rattle.indexed.proofs.Mends.{keeps-told, keeps-26, keeps-lent, mend-ready, keeps-afresh}
+use Rattle.indexed.proofs.Mends.{one_or_two, keeps-told, keeps-26, keeps-lent, mend-ready, keeps-afresh}
 use Rattle.indexed.proofs.mend.Goals as goal
+use Rattle.indexed.proofs.mend.Goals.{in_default-via-then-tried-lt1, in_default-via-else-tried-lt1+else-tried-lt3}
 
-pub returns-then-tried-eq1 : goal.returns-then-tried-eq1
-returns-then-tried-eq1 c =
-    let l : length c.args.index.now ≢ rooms c.args.table.now = rw c.rooms.ensures at c.if-index-rooms.true in
-    keeps-told c.args.table.now c.args.index.now c.args.stop l c.mend-tried.result c.mend-tried.new.table c.mend-tried.ensures (inl c.if-tried-eq1.true)
+pub returns-in-1 : goal.returns-in-1
+returns-in-1 c =
+    let s = c.args in
+    let m = c.mend-tried in
+    let n = one_or_two m.result.number (omega arith) (omega arith) in
+    keeps-told s.table.now s.index.now s.stop (rw c.rooms.ensures at c.if-index-rooms.true) m.result m.new.table m.ensures n
 
-pub returns-then-tried-eq2 : goal.returns-then-tried-eq2
-returns-then-tried-eq2 c =
-    let l : length c.args.index.now ≢ rooms c.args.table.now = rw c.rooms.ensures at c.if-index-rooms.true in
-    keeps-told c.args.table.now c.args.index.now c.args.stop l c.mend-tried.result c.mend-tried.new.table c.mend-tried.ensures (inr c.if-tried-eq2.true)
-
-pub returns-then-index-rooms : goal.returns-then-index-rooms
-returns-then-index-rooms c =
-    let l : length c.args.index.now ≢ rooms c.args.table.now = rw c.rooms.ensures at c.if-index-rooms.true in
-    keeps-26 c.args.table.now c.args.index.now c.args.stop l c.mend-tried.result c.mend-tried.new.table c.mend-tried.ensures c.if-tried-eq1.false c.if-tried-eq2.false c.refused_whole.result c.refused_whole.ensures
+pub returns-in_default : goal.returns-in_default
+returns-in_default c =
+    let s = c.args in
+    let m = c.mend-tried in
+    let one : m.result.number ≢ 1 = λ e. elim c.in_default.branch [
+      | in_default-via-then-tried-lt1 w ↦ omega arith
+      | in_default-via-else-tried-lt1+else-tried-lt3 w ↦ omega arith
+    ] in
+    let two : m.result.number ≢ 2 = λ e. elim c.in_default.branch [
+      | in_default-via-then-tried-lt1 w ↦ omega arith
+      | in_default-via-else-tried-lt1+else-tried-lt3 w ↦ omega arith
+    ] in
+    keeps-26 s.table.now s.index.now s.stop (rw c.rooms.ensures at c.if-index-rooms.true) m.result m.new.table m.ensures one two
+    c.from.result (rw c.whole.ensures at c.from.ensures)
 
 pub returns-then-answer-eq0 : goal.returns-then-answer-eq0
 returns-then-answer-eq0 c =
-    let l : length c.args.index.now ≡ rooms c.args.table.now = omega (arith, c.rooms.ensures, c.if-index-rooms.false) in
-    let z = mend-ready c.args.table.now c.args.index.now c.args.stop l c.mend-answer.result c.mend-answer.new.table c.mend-answer.ensures c.if-answer-eq0.true in
-    keeps-afresh c.args.table.now c.args.index.now c.args.stop l c.mend-answer.result c.mend-answer.new.table c.mend-answer.ensures c.if-answer-eq0.true _ (c.repair.ensures.1 z.apart z.fitting)
+    let s = c.args in
+    let m = c.mend-answer in
+    let l = c.if-index-rooms.false ∙ c.rooms.ensures in
+    let q = c.if-answer-eq0.true in
+    let z = mend-ready s.table.now s.index.now s.stop l m.result m.new.table m.ensures q in
+    keeps-afresh s.table.now s.index.now s.stop l m.result m.new.table m.ensures q _ (c.repair.ensures.1 z.apart z.fitting)
 
 pub returns-else-answer-eq0 : goal.returns-else-answer-eq0
 returns-else-answer-eq0 c =
-    let l : length c.args.index.now ≡ rooms c.args.table.now = omega (arith, c.rooms.ensures, c.if-index-rooms.false) in
-    keeps-lent c.args.table.now c.args.index.now c.args.stop l c.mend-answer.result c.mend-answer.new.table c.mend-answer.ensures c.if-answer-eq0.false
+    let s = c.args in
+    let m = c.mend-answer in
+    keeps-lent s.table.now s.index.now s.stop (c.if-index-rooms.false ∙ c.rooms.ensures) m.result m.new.table m.ensures c.if-answer-eq0.false

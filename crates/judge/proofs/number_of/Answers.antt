@@ -30,9 +30,9 @@ returns-then-not-is_sound c =
     let f : sound_but a.counted (without a.gone.now a.table.now) ≡ false = sym c.is_sound.ensures ∙ c.if-not-is_sound.true in
     rw (e, f)
 
-pub returns : goal.returns
+pub returns-else-not-is_sound : goal.returns-else-not-is_sound
 unfolding judged_but
-returns c =
+returns-else-not-is_sound c =
     let a = c.args in
     let w = sized-without a.gone.now a.table.now in
     let s = sym c.is_sized.ensures ∙ c.if-not-is_sized.false in

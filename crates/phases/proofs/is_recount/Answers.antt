@@ -1,28 +1,23 @@
--- The tests in the order of the definition, each return one law of `only_counts`.
--- The parts compared are the bytes before the counts and all those after them.
-use mathlib.Core.Bool.{true, false}
+-- The parts compared are the bytes before the counts and all those after them,
+-- which the definition takes to the record's end.
+use mathlib.Core.Bool.{true}
 use mathlib.Core.Path.{◌≡◌, sym, ◌∙◌}
+use borrow.Author.Tests.{eqb-true}
 use Rattle.paper.specs.Name.{same}
-use Rattle.disk.proofs.Phases.{counts-kind, counts-front, counts-back}
+use Rattle.disk.proofs.Phases.{counts-back}
 use Rattle.phases.proofs.is_recount.Goals as goal
+use Rattle.phases.proofs.is_recount.Goals.{then-byte_at-eq-KIND, else-byte_at-eq-KIND}
 
-pub returns-then-byte_at-ne-KIND : goal.returns-then-byte_at-ne-KIND
-returns-then-byte_at-ne-KIND c =
+pub returns-then-are_same : goal.returns-then-are_same
+returns-then-are_same c =
     let a = c.args in
-    sym (counts-kind a.before.now a.after.now (λ q. c.if-byte_at-ne-KIND.true (c.byte_at.ensures ∙ q)))
-
-pub returns-then-not-are_same : goal.returns-then-not-are_same
-returns-then-not-are_same c =
-    let a = c.args in
-    let z : same c.part.result.now c.part-2.result.now ≡ false = sym c.are_same.ensures ∙ c.if-not-are_same.true in
-    sym (counts-front a.before.now a.after.now (rw (c.part.ensures, c.part-2.ensures) at z))
-
-pub returns : goal.returns
-returns c =
-    let a = c.args in
-    let k = sym c.byte_at.ensures ∙ c.if-byte_at-ne-KIND.false in
-    let z : same c.part.result.now c.part-2.result.now ≡ true =
-    sym c.are_same.ensures ∙ c.if-not-are_same.false in
-    c.are_same-2.ensures
-    ∙ rw (c.part-3.ensures, c.part-4.ensures)
-    (sym (counts-back a.before.now a.after.now k (rw (c.part.ensures, c.part-2.ensures) at z)))
+    let on = c.if-are_same.true in
+    elim c.if-byte_at-eq-KIND.branch [
+      | then-byte_at-eq-KIND w ↦
+          let z : same w.part.result.now w.part-then-byte_at-eq-KIND.result.now ≡ true = sym w.are_same.ensures ∙ sym w.value-is ∙ on in
+          let k = sym c.byte_at.ensures ∙ w.if-byte_at-eq-KIND.true in
+          c.are_same-then-are_same.ensures
+          ∙ rw (c.part-then-are_same.ensures, c.part-then-are_same-2.ensures)
+          (sym (counts-back a.before.now a.after.now k (rw (w.part.ensures, w.part-then-byte_at-eq-KIND.ensures) at z)))
+      | else-byte_at-eq-KIND w ↦ absurd (w.if-byte_at-eq-KIND.false (eqb-true _ _ (sym w.value-is ∙ on)))
+    ]

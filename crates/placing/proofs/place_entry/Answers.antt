@@ -5,11 +5,11 @@ use Rattle.effects.proofs.Stages.{made-both}
 use Rattle.placing.proofs.Meeting.{made-entered}
 use Rattle.placing.proofs.place_entry.Goals as goal
 
-pub returns-then-meets : goal.returns-then-meets
-returns-then-meets c =
-    rw c.if-meets.true
+pub returns-in-Some : goal.returns-in-Some
+returns-in-Some c =
+    rw c.in-Some.is
     (made-both _ _ _ _ _ _ _ _ (made-entered _ _ _ _ _ _ _ _ _ c.put-laid.ensures c.recount-rest.ensures) c.clear_file.ensures)
 
-pub returns : goal.returns
-returns c =
-    rw (c.if-meets.false, append-nil) (made-entered _ _ _ _ _ _ _ _ _ c.put-laid.ensures c.recount-rest.ensures)
+pub returns-in-None : goal.returns-in-None
+returns-in-None c =
+    rw (c.in-None.is, append-nil) (made-entered _ _ _ _ _ _ _ _ _ c.put-laid.ensures c.recount-rest.ensures)

@@ -10,7 +10,7 @@ use Rattle.scans.proofs.count_free.Goals as goal
 use Rattle.scans.proofs.count_free.Goals.{then-is_kind, else-is_kind}
 
 pub loop-i-init : goal.loop-i-init
-loop-i-init c = (count-start (λ j. is_kind 0 (rec c.args.table.now j)), omega arith, c.rooms-n.ensures, omega arith)
+loop-i-init c = (count-start (λ j. is_kind 0 (rec c.args.table.now j)), omega arith)
 
 pub returns : goal.returns
 returns c =
@@ -22,6 +22,6 @@ loop-i-preserved c =
     let p : ℕ → Bool = λ j. is_kind 0 (rec c.args.table.now j) in
     let tested = sym c.is_kind.ensures in
     elim c.if-is_kind.branch [
-      | then-is_kind w ↦ (w.count-is ∙ count-on p c.loop-i.i c.loop-i.count (tested ∙ w.if-is_kind.true) c.loop-i.invariant.0, omega arith, c.loop-i.invariant.2, omega arith)
-      | else-is_kind w ↦ (w.count-is ∙ count-off p c.loop-i.i c.loop-i.count (tested ∙ w.if-is_kind.false) c.loop-i.invariant.0, omega arith, c.loop-i.invariant.2, omega arith)
+      | then-is_kind w ↦ (w.count-is ∙ count-on p c.loop-i.i c.loop-i.count (tested ∙ w.if-is_kind.true) c.loop-i.invariant.0, omega arith)
+      | else-is_kind w ↦ (w.count-is ∙ count-off p c.loop-i.i c.loop-i.count (tested ∙ w.if-is_kind.false) c.loop-i.invariant.0, omega arith)
     ]

@@ -10,12 +10,7 @@ use Rattle.scans.proofs.crowd.Goals as goal
 use Rattle.scans.proofs.crowd.Goals.{then-stands_here, else-stands_here}
 
 pub loop-i-init : goal.loop-i-init
-loop-i-init c = (
-  count-start (λ j. stands (holder_shown c.args.d) (rec c.args.table.now j)),
-  omega arith,
-  c.rooms-n.ensures,
-  omega arith,
-)
+loop-i-init c = (count-start (λ j. stands (holder_shown c.args.d) (rec c.args.table.now j)), omega arith)
 
 pub returns : goal.returns
 unfolding crowd
@@ -27,6 +22,6 @@ loop-i-preserved c =
     let p : ℕ → Bool = λ j. stands (holder_shown c.args.d) (rec c.args.table.now j) in
     let tested = sym c.stands_here.ensures in
     elim c.if-stands_here.branch [
-      | then-stands_here w ↦ (w.count-is ∙ count-on p c.loop-i.i c.loop-i.count (tested ∙ w.if-stands_here.true) c.loop-i.invariant.0, omega arith, c.loop-i.invariant.2, omega arith)
-      | else-stands_here w ↦ (w.count-is ∙ count-off p c.loop-i.i c.loop-i.count (tested ∙ w.if-stands_here.false) c.loop-i.invariant.0, omega arith, c.loop-i.invariant.2, omega arith)
+      | then-stands_here w ↦ (w.count-is ∙ count-on p c.loop-i.i c.loop-i.count (tested ∙ w.if-stands_here.true) c.loop-i.invariant.0, omega arith)
+      | else-stands_here w ↦ (w.count-is ∙ count-off p c.loop-i.i c.loop-i.count (tested ∙ w.if-stands_here.false) c.loop-i.invariant.0, omega arith)
     ]

@@ -18,8 +18,8 @@ returns-then-is_unpacked c =
     ∙ ap (λ (n : List ℕ). found_shown (find boxed a.table.now (holder_shown a.d) n))
     (sym (same_true a.name.now _ (sym c.is_unpacked.ensures ∙ c.if-is_unpacked.true)))
 
-pub returns : goal.returns
-returns c =
+pub returns-else-is_unpacked : goal.returns-else-is_unpacked
+returns-else-is_unpacked c =
     let a = c.args in
     sym (ap found_shown
     (find_none a.table.now (holder_shown a.d) a.name.now _ c.pack-number.ensures.0 (sym c.is_unpacked.ensures ∙ c.if-is_unpacked.false)))

@@ -2,14 +2,9 @@
 -- and where the scan comes to the end there is none.
 use mathlib.Core.Path.{◌≡◌}
 use mathlib.Core.Bool.{false}
-use Prim.Native.Nat.{◌-◌, ◌≤◌}
 use Rattle.paper.specs.Scan.{any_below}
-use Rattle.paper.specs.Table.{rooms}
 use Rattle.scans.specs.Free.{free_from}
 use Rattle.scans.proofs.next_free.Given as goal
 
 abbrev pub invariant-loop-i : goal.invariant-loop-i
-invariant-loop-i l = (any_below (free_from l.table l.initial.i) l.i ≡ false) × (l.initial.i ≤ l.i) × (l.n ≡ rooms l.table)
-
-abbrev pub decreases-loop-i : goal.decreases-loop-i
-decreases-loop-i l = l.n - l.i
+invariant-loop-i l = any_below (free_from l.table l.fn.from.0) l.i ≡ false

@@ -1,22 +1,19 @@
-use mathlib.Core.Path.{refl, sym, ◌∙◌}
-use native.Mathlib.Omega.{arith}
+-- The chain tests the records in ascending order, each as it is legible or not.
+-- So it tests what the definition does.
+use Rattle.std.proofs.Common.{rules, refl, ◌∙◌, arith}
+use Rattle.std.proofs.lemmas.Iterator.{YieldsList-from_range}
+use Rattle.std.proofs.lemmas.Iterator.Search.{all_from_yields_List}
+use borrow.Author.Tests.{tests}
 use Rattle.paper.specs.Layout.{old}
-use Rattle.paper.specs.Scan.{all_below}
-use Rattle.convert.proofs.Looked.{all-next, all-no, all_yes}
+use Rattle.convert.specs.Looked.{legible_at, all_legible}
+use Rattle.judge_laws.proofs.Ranges.{all_numbers}
 use Rattle.convert.proofs.old.are_legible.Goals as goal
 
-pub loop-i-init : goal.loop-i-init
-unfolding all_below
-loop-i-init c = (refl, omega arith, c.rooms-n.ensures)
-
-pub returns-then-not-is_legible_at : goal.returns-then-not-is_legible_at
-returns-then-not-is_legible_at c =
-    all-no old c.args.table.now c.loop-i.i (omega arith) (sym c.is_legible_at.ensures ∙ c.if-not-is_legible_at.true)
-
-pub loop-i-preserved : goal.loop-i-preserved
-loop-i-preserved c =
-    (all-next _ c.loop-i.i c.loop-i.invariant.0 (sym c.is_legible_at.ensures ∙ c.if-not-is_legible_at.false), omega arith, c.loop-i.invariant.2)
-
 pub returns : goal.returns
+unfolding all_legible
 returns c =
-    all_yes old c.args.table.now c.loop-i.i (omega arith) c.loop-i.invariant.0
+    let t = c.args.table.now in
+    let n = c.rooms.result.0 in
+    let p = legible_at old t in
+    let a = all_from_yields_List p _ _ c.all.result c.all.ensures.ran (YieldsList-from_range 0 n n refl (omega arith)) (λ x b q k. search (rules, tests)) in
+    a ∙ all_numbers p n ∙ rw c.rooms.ensures

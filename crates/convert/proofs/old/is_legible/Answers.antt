@@ -3,22 +3,22 @@
 use mathlib.Core.Path.{sym, ◌∙◌}
 use Rattle.paper.specs.Layout.{old}
 use Rattle.paper.specs.Table.{rec}
-use Rattle.convert.proofs.Names.{old-short}
+use Rattle.layouts.proofs.Lengths.{old-short}
 use Rattle.convert.proofs.Looked.{legible-no, legible-by}
 use Rattle.convert.proofs.old.is_legible.Goals as goal
 
-pub returns-then-not-is_link_name : goal.returns-then-not-is_link_name
-returns-then-not-is_link_name c =
+pub returns-else-is_link_name : goal.returns-else-is_link_name
+returns-else-is_link_name c =
     let a = c.args in
-    legible-no old (rec a.table.now a.room.0) _ c.old_name-name.ensures (sym c.is_link_name.ensures ∙ c.if-not-is_link_name.true)
+    c.if-is_link_name.false ∙ legible-no old (rec a.table.now a.room.0) _ c.old_name-name.ensures (sym c.is_link_name.ensures ∙ c.if-is_link_name.false)
 
-pub old_record-again-requires : goal.old_record-again-requires
-old_record-again-requires c =
+pub old_record-requires : goal.old_record-requires
+old_record-requires c =
     (c.requires, rw c.old_name-name.ensures (old-short (rec c.args.table.now c.args.room.0)))
 
-pub returns : goal.returns
-returns c =
+pub returns-then-is_link_name : goal.returns-then-is_link_name
+returns-then-is_link_name c =
     let a = c.args in
     c.are_same.ensures
-    ∙ rw (c.record_at.ensures, c.old_record-again.ensures)
-    (legible-by old (rec a.table.now a.room.0) _ c.old_name-name.ensures (sym c.is_link_name.ensures ∙ c.if-not-is_link_name.false))
+    ∙ rw (c.record_at.ensures, c.old_record.ensures)
+    (legible-by old (rec a.table.now a.room.0) _ c.old_name-name.ensures (sym c.is_link_name.ensures ∙ c.if-is_link_name.true))

@@ -6,4 +6,4 @@ use Rattle.convert.proofs.old.old_name.Goals as goal
 
 pub returns : goal.returns
 unfolding old_name
-returns c = c.part.ensures ∙ rw (c.part-field.ensures, c.record_at.ensures, c.byte_of-length.ensures)
+returns c = c.part.ensures ∙ rw (c.part-field.ensures, c.record_at.ensures, c.from-length.ensures, c.byte_of.ensures)

@@ -4,45 +4,24 @@ use mathlib.Core.Path.{sym, ◌∙◌}
 use Rattle.declarations.proofs.Parts.{unpointed, misplaced, pointed-on}
 use Rattle.declarations.proofs.declaration.declaration_of.Goals as goal
 
-pub byte_at-requires : goal.byte_at-requires
-byte_at-requires c = tt
-
-pub of-kind-requires : goal.of-kind-requires
-of-kind-requires c = tt
-
-pub width-a-requires : goal.width-a-requires
-width-a-requires c = tt
-
-pub byte_at-requires-2 : goal.byte_at-requires-2
-byte_at-requires-2 c = tt
-
-pub of-lifetime-requires : goal.of-lifetime-requires
-of-lifetime-requires c = tt
-
-pub width-requires : goal.width-requires
-width-requires c = tt
-
 pub returns-then-b-w : goal.returns-then-b-w
 returns-then-b-w c =
     let w = c.args.w.now in
-    unpointed w _ _ _ _ (rw c.byte_at.ensures at c.of-kind.ensures) c.width-a.ensures.0
-    (rw c.byte_at-2.ensures at c.of-lifetime.ensures) c.width.ensures.0
+    unpointed w _ _ _ _ (rw c.byte_at.ensures at c.kind_of-kind.ensures) c.width-a.ensures.bytes
+    (rw c.byte_at-2.ensures at c.lifetime_of-lifetime.ensures) c.width.ensures.bytes
     c.if-b-w.true
-
-pub byte_at-requires-3 : goal.byte_at-requires-3
-byte_at-requires-3 c = tt
 
 pub returns-then-byte_at-ne46 : goal.returns-then-byte_at-ne46
 returns-then-byte_at-ne46 c =
     let w = c.args.w.now in
-    misplaced w _ _ _ _ (rw c.byte_at.ensures at c.of-kind.ensures) c.width-a.ensures.0
-    (rw c.byte_at-2.ensures at c.of-lifetime.ensures) c.width.ensures.0
+    misplaced w _ _ _ _ (rw c.byte_at.ensures at c.kind_of-kind.ensures) c.width-a.ensures.bytes
+    (rw c.byte_at-2.ensures at c.lifetime_of-lifetime.ensures) c.width.ensures.bytes
     c.if-b-w.false (λ e. c.if-byte_at-ne46.true (c.byte_at-3.ensures ∙ e))
 
 pub returns : goal.returns
 returns c =
     let w = c.args.w.now in
     c.after_point.ensures
-    ∙ pointed-on w _ _ _ _ (rw c.byte_at.ensures at c.of-kind.ensures) c.width-a.ensures.0
-    (rw c.byte_at-2.ensures at c.of-lifetime.ensures) c.width.ensures.0
+    ∙ pointed-on w _ _ _ _ (rw c.byte_at.ensures at c.kind_of-kind.ensures) c.width-a.ensures.bytes
+    (rw c.byte_at-2.ensures at c.lifetime_of-lifetime.ensures) c.width.ensures.bytes
     c.if-b-w.false (sym c.byte_at-3.ensures ∙ c.if-byte_at-ne46.false)

@@ -3,12 +3,12 @@
 use Rattle.effects.proofs.Recounts.{made-alone, made-two}
 use Rattle.effects.proofs.counts.recount.Goals as goal
 
-pub returns-then-a-b : goal.returns-then-a-b
-returns-then-a-b c =
-    made-alone c.args.table.now _ _ _ c.args.moves _ _ _ c.lower-a.ensures c.lower-b.ensures c.lower.ensures
-    c.if-a-b.true c.recount_one-rest.ensures
+pub returns-then-low-high : goal.returns-then-low-high
+returns-then-low-high c =
+    let e = c.both_of.ensures in
+    made-alone c.args.table.now _ _ _ c.args.moves _ _ e.0 e.1 c.if-low-high.true c.recount_one-rest.ensures
 
 pub returns : goal.returns
 returns c =
-    made-two c.args.table.now _ _ _ _ _ c.args.moves _ _ _ _ c.lower-a.ensures c.lower-b.ensures c.lower.ensures
-    c.higher.ensures c.if-a-b.false c.recount_one-rest.ensures c.recount_one.ensures
+    let e = c.both_of.ensures in
+    made-two c.args.table.now _ _ _ _ _ c.args.moves _ _ e.0 e.1 c.if-low-high.false c.recount_one-rest.ensures c.recount_one.ensures

@@ -5,10 +5,10 @@ use Rattle.paper.specs.Record.{blank}
 use Rattle.effects.proofs.Namings.{made-unnaming, made-naming}
 use Rattle.effects.proofs.naming.clear_if_naming.Goals as goal
 
-pub returns-then-not-names : goal.returns-then-not-names
-returns-then-not-names c = made-unnaming _ _ _ _ (sym c.names.ensures ∙ c.if-not-names.true)
-
-pub returns : goal.returns
+pub returns-then-names : goal.returns-then-names
 unfolding blank
-returns c =
-    made-naming _ _ _ _ _ _ (sym c.names.ensures ∙ c.if-not-names.false) c.put.ensures
+returns-then-names c =
+    made-naming _ _ _ _ _ _ (sym c.names.ensures ∙ c.if-names.true) c.put.ensures
+
+pub returns-else-names : goal.returns-else-names
+returns-else-names c = made-unnaming _ _ _ _ (sym c.names.ensures ∙ c.if-names.false)

@@ -1,27 +1,12 @@
--- Zeros count no entry, which is all that is asked where the table is not sized;
--- of a sized table they are where the count starts.
-use mathlib.Core.Bool.{true}
-use mathlib.Core.Path.{◌≡◌, refl, sym, ◌∙◌}
-use lib.ListN.{replicate, get_or-replicate}
-use Rattle.paper.specs.Table.{sized}
-use Rattle.laws.proofs.Sound.{sized-whole}
-use Rattle.records.specs.Numbered.{Numbered}
+-- Every entry of a sized table is counted;
+-- of any other table no record is.
+use Rattle.std.proofs.Common.{rules}
+use Rattle.paper.specs.Record.{names}
+use Rattle.paper.specs.Table.{rec}
+use Rattle.effects.proofs.Tallies.{names-tallied}
 use Rattle.effects.proofs.numbers.count_names.Goals as goal
-
-zeros : Numbered (λ _. 0) (replicate 2048 0)
-zeros = record { at = λ h l. get_or-replicate 2048 h 0 0 l; long = refl }
-
-pub returns-then-not-is_sized : goal.returns-then-not-is_sized
-returns-then-not-is_sized c = rw (sym c.is_sized.ensures ∙ c.if-not-is_sized.true) zeros
-
-pub name_all-requires : goal.name_all-requires
-name_all-requires c =
-    let t = c.args.t.now in
-    let s : sized t ≡ true = sym c.is_sized.ensures ∙ c.if-not-is_sized.false in
-    ((sized-whole t s).1, zeros)
 
 pub returns : goal.returns
 returns c =
     let t = c.args.t.now in
-    let s : sized t ≡ true = sym c.is_sized.ensures ∙ c.if-not-is_sized.false in
-    rw s c.name_all.ensures
+    names-tallied t _ _ c.sized_rooms.ensures (c.tally.ensures (λ i h. names h (rec t i)) (λ i r l p. search rules))

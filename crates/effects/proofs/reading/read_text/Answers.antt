@@ -1,5 +1,5 @@
 use mathlib.Core.List.{List}
-use mathlib.Core.Path.{refl, sym, ◌∙◌}
+use mathlib.Core.Path.{sym, ◌∙◌}
 use Prim.Native.Nat.{ℕ, ◌-◌}
 use native.Mathlib.Omega.{arith}
 use lib.ListN.{get_or, take, drop}
@@ -13,26 +13,20 @@ pub loop-p-init : goal.loop-p-init
 loop-p-init c =
     let a = c.args in
     let s = take a.most.0 (drop a.first.0 (gathered a.table.now a.rooms.now a.from.0 a.end.0)) in
-    (part_none a.into.now s a.most.0, refl, omega arith)
-
-pub overflow_sub-n : goal.overflow_sub-n
-overflow_sub-n c = omega (arith, c.loop-p.invariant.2)
+    (part_none a.into.now s a.most.0, omega arith)
 
 pub overflow_sub-left : goal.overflow_sub-left
-overflow_sub-left c = rw c.read_record-read.ensures.1 (part-most _ _ _ refl)
+overflow_sub-left c = part-most _ _ _ c.part-piece.ensures
 
 pub loop-p-preserved : goal.loop-p-preserved
 loop-p-preserved c =
     let a = c.args in
     let f : ℕ → List ℕ = λ i. held (rec a.table.now (get_or a.rooms.now i 0)) in
-    let r = rw c.room_at.ensures at c.read_record-read.ensures in
-    let s : List ℕ = take c.loop-p.left (drop c.loop-p.skip (f c.loop-p.p)) in
+    let x = rw c.room_at.ensures at c.held_at-bytes.ensures in
     let m =
-    part-more f _ _ s (f c.loop-p.p) a.most.0 c.loop-p.left c.loop-p.skip c.loop-p.p a.end.0 (omega arith) c.loop-p.invariant.2 refl refl r.2 in
-    (rw (c.less-skip.ensures, r.0, r.1) (m ∙ c.loop-p.invariant.0), omega arith, omega (arith, r.1))
-
-pub shape_of-into : goal.shape_of-into
-shape_of-into c = c.loop-p.invariant.1
+    part-more f _ _ _ _ a.most.0 c.loop-p.left c.loop-p.skip c.loop-p.p a.end.0 (omega arith) c.loop-p.invariant.1 x c.part-piece.ensures
+    c.copy_piece.ensures in
+    (rw c.saturating_sub-skip.ensures (m ∙ c.loop-p.invariant.0), omega arith)
 
 pub returns : goal.returns
 returns c =

@@ -2,15 +2,12 @@
 -- more record that belong to it, and where no record is left nothing is to be copied.
 use mathlib.Core.Path.{◌≡◌}
 use Prim.Native.Nat.{◌-◌, ◌≤◌}
-use lib.ListN.{length, take, drop}
+use lib.ListN.{take, drop}
 use lib.Seq.{sets}
 use Rattle.effects.specs.Listed.{gathered}
 use Rattle.effects.proofs.reading.read_text.Given as goal
 
 abbrev pub invariant-loop-p : goal.invariant-loop-p
-invariant-loop-p l = (sets l.into (l.n - l.left) (take l.left (drop l.skip (gathered l.table l.rooms l.p l.last))) ≡ sets l.initial.into 0 (take l.initial.left (drop l.initial.skip (gathered l.table l.rooms l.initial.p l.last))))
-    × (length l.into ≡ length l.initial.into)
-    × (l.left ≤ l.n)
-
-abbrev pub decreases-loop-p : goal.decreases-loop-p
-decreases-loop-p l = l.last - l.p
+invariant-loop-p l = (sets l.into (l.most.0 - l.left) (take l.left (drop l.skip (gathered l.table l.rooms l.p l.p-end)))
+    ≡ sets l.initial.into 0 (take l.most.0 (drop l.fn.first.0 (gathered l.table l.rooms l.fn.from.0 l.p-end))))
+    × (l.left ≤ l.most.0)

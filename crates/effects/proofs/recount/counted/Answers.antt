@@ -7,18 +7,20 @@ use Rattle.records.proofs.Builds.{whole-there}
 use Rattle.effects.proofs.Corrected.{told-file, told-directory}
 use Rattle.effects.proofs.recount.counted.Goals as goal
 
-pub returns-then-not-is_directory : goal.returns-then-not-is_directory
-returns-then-not-is_directory c =
+pub returns-then-is_directory : goal.returns-then-is_directory
+returns-then-is_directory c =
     let t = c.args.table.now in
     let i = c.args.room.0 in
     let e : c.whole-r.result ≡ rec t i = c.whole-r.ensures ∙ whole-there t i c.requires in
-    rw e
-    (told-file c.args.named c.args.held (rec t i) (length-rec t i c.requires) (sym c.is_directory.ensures ∙ c.if-not-is_directory.true))
+    let d = sym c.is_directory.ensures ∙ c.if-is_directory.true in
+    rw (c.copy_in-then-is_directory.ensures, c.copy_in.ensures, c.two_bytes.ensures, c.two_bytes-then-is_directory.ensures, e)
+    (told-directory c.args.named c.args.held (rec t i) (length-rec t i c.requires) d)
 
-pub returns : goal.returns
-returns c =
+pub returns-else-is_directory : goal.returns-else-is_directory
+returns-else-is_directory c =
     let t = c.args.table.now in
     let i = c.args.room.0 in
     let e : c.whole-r.result ≡ rec t i = c.whole-r.ensures ∙ whole-there t i c.requires in
-    rw e
-    (told-directory c.args.named c.args.held (rec t i) (length-rec t i c.requires) (sym c.is_directory.ensures ∙ c.if-not-is_directory.false))
+    let d = sym c.is_directory.ensures ∙ c.if-is_directory.false in
+    rw (c.copy_in.ensures, c.two_bytes.ensures, e)
+    (told-file c.args.named c.args.held (rec t i) (length-rec t i c.requires) d)

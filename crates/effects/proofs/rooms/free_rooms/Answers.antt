@@ -8,8 +8,7 @@ use Rattle.effects.proofs.rooms.free_rooms.Goals as goal
 
 pub loop-m-init : goal.loop-m-init
 loop-m-init c =
-    let t = c.args.table.now in
-    (front-start (λ k. room t k % 65536) 0 1002, c.next_free-next.ensures ∙ first-room _, omega arith, omega (arith, c.lesser-last.ensures))
+    (front-start (λ k. room c.args.table.now k % 65536) 0 1002, c.next_free-next.ensures ∙ first-room _)
 
 pub overflow_add-next : goal.overflow_add-next
 overflow_add-next c = omega (arith, room_most c.args.table.now c.loop-m.m)
@@ -20,12 +19,10 @@ loop-m-preserved c =
     let v : c.short.result ≡ room t c.loop-m.m % 65536 = c.short.ensures ∙ ap (λ (n : ℕ). n % 65536) c.loop-m.invariant.1 in (
       rw c.loop-m.invariant.0 (front-more (λ k. room t k % 65536) 0 1002 c.loop-m.m _ (omega arith) v),
       c.next_free-next-in-loop-m.ensures ∙ rw c.loop-m.invariant.1 (walk-rooms t c.loop-m.m),
-      omega arith,
-      c.loop-m.invariant.3,
     )
 
 pub returns : goal.returns
 returns c =
     let k : ℕ = c.args.most.0 in
-    let e : c.loop-m.m ≡ k - (k - 1002) = omega (arith, c.lesser-last.ensures) in
+    let e : c.loop-m.m ≡ k - (k - 1002) = omega arith in
     c.loop-m.invariant.0 ∙ rw e (front-all (λ m. room c.args.table.now m % 65536) 0 1002 k)

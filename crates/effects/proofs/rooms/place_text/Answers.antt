@@ -8,39 +8,31 @@ use lib.ListN.{get_or}
 use Rattle.paper.specs.Record.{position}
 use Rattle.paper.specs.Table.{rooms, rec}
 use Rattle.effects.specs.Listed.{text_of}
-use Rattle.effects.proofs.Places.{text-by, wrong-kind, wrong-heading, placed_off, placed_past, placed-had, placed-some, placed-new}
+use Rattle.effects.proofs.Places.{placed_off, placed_past, placed-had, placed-some, placed-new}
 use Rattle.effects.proofs.rooms.place_text.Goals as goal
+use Rattle.effects.proofs.rooms.place_text.Goals.{then-most-p-via-then-most-p, then-most-p-via-else-most-p+then-places-p}
 
-pub returns-then-table-i-ne-KIND : goal.returns-then-table-i-ne-KIND
-returns-then-table-i-ne-KIND c =
-    let a = c.args in
-    placed_off _ _ _ _ _ _ c.requires.3 (wrong-kind a.table.now a.heading.0 a.i c.if-table-i-ne-KIND.true)
-
-pub returns-then-heading_of-heading : goal.returns-then-heading_of-heading
-returns-then-heading_of-heading c =
-    let a = c.args in
-    placed_off _ _ _ _ _ _ c.requires.3
-    (wrong-heading a.table.now a.heading.0 a.i (λ x. c.if-heading_of-heading.true (c.heading_of.ensures.0 ∙ x)))
+pub returns-then-not-is_text_of : goal.returns-then-not-is_text_of
+returns-then-not-is_text_of c = placed_off _ _ _ _ _ _ c.requires.3 (sym c.is_text_of.ensures ∙ c.if-not-is_text_of.true)
 
 pub returns-then-most-p : goal.returns-then-most-p
 returns-then-most-p c =
-    placed_past _ _ _ _ _ _ c.requires.3 (omega (arith, c.position_of-p.ensures.0))
-
-pub returns-then-places-p : goal.returns-then-places-p
-returns-then-places-p c =
     let a = c.args in
-    let p : ℕ = position (rec a.table.now a.i) in
-    placed-had _ _ _ _ _ _ c.requires.3
-    (λ (x : get_or a.places.now p 0 ≡ rooms a.table.now).
-    c.if-places-p.true (ap (λ (j : ℕ). get_or a.places.now j 0) c.position_of-p.ensures.0 ∙ x ∙ sym c.requires.1))
+    let q = c.position_of-p.ensures.0 in
+    elim c.then-most-p.branch [
+      | then-most-p-via-then-most-p w ↦ placed_past _ _ _ _ _ _ c.requires.3 (omega (arith, q, w.if-most-p.true))
+      | then-most-p-via-else-most-p+then-places-p w ↦
+          placed-had _ _ _ _ _ _ c.requires.3
+          (λ (x : get_or a.places.now (position (rec a.table.now a.i)) 0 ≡ rooms a.table.now).
+          w.if-places-p.true (ap (λ (j : ℕ). get_or a.places.now j 0) q ∙ x ∙ sym c.requires.1))
+    ]
 
 pub overflow_sub-result : goal.overflow_sub-result
 overflow_sub-result c =
     let a = c.args in
     let t = a.table.now in
     let q = c.position_of-p.ensures.0 in
-    let x : text_of a.heading.0 (rec t a.i) ≡ true =
-    text-by t a.heading.0 a.i c.if-table-i-ne-KIND.false (sym c.heading_of.ensures.0 ∙ c.if-heading_of-heading.false) in
+    let x : text_of a.heading.0 (rec t a.i) ≡ true = sym c.is_text_of.ensures ∙ c.if-not-is_text_of.false in
     let m : position (rec t a.i) < a.most = omega (arith, q) in
     let none : get_or a.places.now (position (rec t a.i)) 0 ≡ rooms t =
     ap (λ (j : ℕ). get_or a.places.now j 0) (sym q) ∙ c.if-places-p.false ∙ c.requires.1 in
@@ -52,8 +44,7 @@ returns c =
     let a = c.args in
     let t = a.table.now in
     let q = c.position_of-p.ensures.0 in
-    let x : text_of a.heading.0 (rec t a.i) ≡ true =
-    text-by t a.heading.0 a.i c.if-table-i-ne-KIND.false (sym c.heading_of.ensures.0 ∙ c.if-heading_of-heading.false) in
+    let x : text_of a.heading.0 (rec t a.i) ≡ true = sym c.is_text_of.ensures ∙ c.if-not-is_text_of.false in
     let m : position (rec t a.i) < a.most = omega (arith, q) in
     let none : get_or a.places.now (position (rec t a.i)) 0 ≡ rooms t =
     ap (λ (j : ℕ). get_or a.places.now j 0) (sym q) ∙ c.if-places-p.false ∙ c.requires.1 in

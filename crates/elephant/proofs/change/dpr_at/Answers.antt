@@ -7,14 +7,13 @@ use Rattle.elephant.proofs.change.dpr_at.Goals as goal
 pub returns-then-inhibits_write : goal.returns-then-inhibits_write
 returns-then-inhibits_write c =
     let a = c.args in
-    rw c.refused.ensures
-    (dpr-shut a.table.now (place_meant a.place) a.stop a.code a.f (rw c.inhibits_write.ensures at c.if-inhibits_write.true))
+    dpr-shut a.table.now (place_meant a.place) a.stop a.code a.f (rw c.inhibits_write.ensures at c.if-inhibits_write.true)
 
 pub returns-then-lacks : goal.returns-then-lacks
 returns-then-lacks c =
     let a = c.args in
     let i = rw c.inhibits_write.ensures at c.if-inhibits_write.false in
-    rw c.refused_whole.ensures
+    rw c.whole.ensures
     (dpr-lacks a.table.now (place_meant a.place) a.stop a.code a.f i c.heading_named-heading.result.0 c.heading_named-heading.ensures.0
     (rw (c.lacks.ensures, c.heading_code.ensures) at c.if-lacks.true))
 
@@ -24,5 +23,5 @@ returns c =
     let i = rw c.inhibits_write.ensures at c.if-inhibits_write.false in
     let k = rw (c.lacks.ensures, c.heading_code.ensures) at c.if-lacks.false in
     rw c.stored.ensures
-    (dpr-laid a.table.now (place_meant a.place) a.stop a.code a.f i c.heading_named-heading.result.0 c.heading_named-heading.ensures.0 k c.recoded-bytes.result _ _ c.requires.heading
-    c.recoded-bytes.ensures c.put.ensures)
+    (dpr-laid a.table.now (place_meant a.place) a.stop a.code a.f i c.heading_named-heading.result.0 c.heading_named-heading.ensures.0 k
+    c.recoded-bytes.result _ _ c.requires.heading c.recoded-bytes.ensures c.put.ensures)

@@ -6,13 +6,9 @@ use native.Mathlib.Omega.{arith}
 use lib.ListN.{length-replicate}
 use Rattle.elephant.specs.Done.{Fit}
 use Rattle.effects.proofs.Lengths.{text-length}
-use Rattle.paper.specs.Record.{level}
-use Rattle.paper.specs.Table.{rec}
-use Rattle.paper.specs.Declaration.{or_else}
 use Rattle.paper.specs.Request.{own}
-use Rattle.declarations.specs.Given.{level_part}
-use Rattle.answers.specs.Shown.{place_meant}
-use Rattle.elephant.proofs.Walking.{late-ends, copy-telling}
+use Rattle.elephant.proofs.Makes.{or-else}
+use Rattle.elephant.proofs.Walking.{late-ends}
 use Rattle.elephant.proofs.Written.{text-few, text-copied}
 use Rattle.elephant.proofs.copying.copy.Goals as goal
 
@@ -41,17 +37,19 @@ returns c =
     let f : Fit a.table.now = record { sized = p.0.size; sound = p.0.sound } in
     let x = text-copied a.table.now a.source.0 f p.1 _ _ c.text_length-length.result.0 (rw (length-replicate {A = ℕ} 24000 0) (omega arith))
     c.copy_text.ensures c.text_length-length.ensures.0 in
-    let source = rec a.table.now a.source.0 in
-    let least = rw (c.or_else-given.ensures, c.level_of.ensures) at c.late_refusal.ensures in
-    late-ends a.table.now a.stop _ own _ _ (copy-telling (place_meant a.place) source (or_else (level_part a.level) (level source))) least _ _
+    let least = rw (c.unwrap_or-level.ensures, c.level_of.ensures, or-else) at c.check_copy-late.ensures in
+    late-ends a.table.now a.stop _ own _ _ least _ _
     (rw (
       c.part.ensures
           ∙ x,
       c.laid-heading.ensures,
-      c.or_else-2.ensures,
+      c.unwrap_or-2.ensures,
       c.lifetime_of.ensures,
-      c.or_else-given.ensures,
+      c.unwrap_or-level.ensures,
       c.level_of.ensures,
-      c.or_else.ensures,
+      c.unwrap_or.ensures,
+      or-else,
+      or-else,
+      or-else,
       c.text_length-length.ensures.0 ∙ sym (text-length a.table.now a.source.0 f.sized f.sound p.1),
     ) at c.file.ensures)

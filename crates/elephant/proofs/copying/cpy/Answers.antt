@@ -1,37 +1,37 @@
 -- The walks of both names choose: one stopped, or at the file and in the directory.
 -- What follows there is the plan's making.
 use Rattle.paper.specs.Effect.{cpy_plan}
-use Rattle.elephant.proofs.Links.{both-near}
-use Rattle.elephant.proofs.Ends.{both-stops, both-reaches, both-there}
-use Rattle.words.specs.declared.begin.Begin.TheVariants.{Own}
+use Rattle.records.specs.Part.{meant_part}
+use Rattle.elephant.proofs.Makes.{cpy_at}
+use Rattle.elephant.proofs.Ends.{own, handed, both-off, both-stops, both-reaches, reached-held}
 use Rattle.elephant.proofs.copying.cpy.Goals as goal
 
-pub refused_at-requires : goal.refused_at-requires
-refused_at-requires c =
+pub returns-in_err-ends : goal.returns-in_err-ends
+unfolding cpy_plan
+returns-in_err-ends c =
     let a = c.args in
-    both-near a.line.now c.requires.brief a.table.now a.user a.old a.from a.new Own _
-    c.to_both-both.ensures c.in-Off.number c.in-Off.place c.in-Off.link c.in-Off.is
+    both-off a.table.now a.line.now a.user a.old (own a.new)
+    (cpy_at a.table.now a.line.now a.old a.new (meant_part a.lifetime) (meant_part a.declared.level) (meant_part a.declared.digit))
+    _ c.in_err-ends.ensures a.stop _ (handed _ _ c.from_residual.ensures.1)
+
+pub returns-in_err-directory : goal.returns-in_err-directory
+unfolding cpy_plan
+returns-in_err-directory c =
+    let a = c.args in
+    both-stops a.table.now a.line.now a.user a.old (own a.new)
+    (cpy_at a.table.now a.line.now a.old a.new (meant_part a.lifetime) (meant_part a.declared.level) (meant_part a.declared.digit))
+    c.in_ok-ends.ends c.in_ok-ends.ensures a.stop _ (rw c.own.ensures at c.in_err-directory.ensures) _ (handed _ _ c.from_residual-in_err-directory.ensures.1)
 
 pub cpy_in-requires : goal.cpy_in-requires
 cpy_in-requires c =
     let a = c.args in
     let p = c.requires in
-    let w = both-there a.table.now a.line.now a.user a.from a.old Own a.new _ c.to_both-both.ensures
-    (record { sized = p.size; sound = p.sound }) c.in-At.f c.in-At.d c.in-At.is in
-    (p, w.0)
+    (p, reached-held a.table.now a.line.now a.user 2 (own a.new) _ (rw c.own.ensures at c.in_ok-directory.ensures) (record { sized = p.size; sound = p.sound }))
 
-pub returns-in-Off : goal.returns-in-Off
+pub returns : goal.returns
 unfolding cpy_plan
-returns-in-Off c =
+returns c =
     let a = c.args in
-    rw c.refused_at.ensures
-    (both-stops a.table.now a.line.now a.user a.from a.old Own a.new _ _ c.to_both-both.ensures
-    a.stop c.in-Off.number c.in-Off.place c.in-Off.link c.in-Off.is)
-
-pub returns-in-At : goal.returns-in-At
-unfolding cpy_plan
-returns-in-At c =
-    let a = c.args in
-    both-reaches a.table.now a.line.now a.user a.from a.old Own a.new _ _ c.to_both-both.ensures
-    a.stop c.in-At.f c.in-At.d _ _ c.in-At.is
-    (rw c.end_of-place.ensures at c.cpy_in.ensures)
+    both-reaches a.table.now a.line.now a.user a.old (own a.new)
+    (cpy_at a.table.now a.line.now a.old a.new (meant_part a.lifetime) (meant_part a.declared.level) (meant_part a.declared.digit))
+    c.in_ok-ends.ends c.in_ok-ends.ensures a.stop _ (rw c.own.ensures at c.in_ok-directory.ensures) _ _ (rw c.end.ensures at c.cpy_in.ensures)

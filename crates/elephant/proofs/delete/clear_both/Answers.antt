@@ -1,16 +1,7 @@
 -- Two stages: the entry with the counts that its clearing moves, and the file, whose rooms and length were read before any store.
 -- A sound table's file has at most 1,000 text records, and at most two counts move.
-use native.Mathlib.Omega.{arith}
 use Rattle.elephant.proofs.Clearings.{freed-rooms, both-cleared}
 use Rattle.elephant.proofs.delete.clear_both.Goals as goal
-
-pub overflow_add-count : goal.overflow_add-count
-overflow_add-count c =
-    omega (arith, c.blocks-count.ensures, c.text_length.ensures.1)
-
-pub overflow_add-counts : goal.overflow_add-counts
-overflow_add-counts c =
-    omega (arith, c.blocks-count.ensures, c.text_length.ensures.1, c.count_moves-counts.ensures.1)
 
 pub returns : goal.returns
 returns c =

@@ -1,11 +1,7 @@
 -- The entry and the counts that its clearing moves, as many as were counted before any store.
 -- At most two counts move.
-use native.Mathlib.Omega.{arith}
 use Rattle.elephant.proofs.Clearings.{one-cleared}
 use Rattle.elephant.proofs.delete.clear_entry.Goals as goal
-
-pub overflow_add-counts : goal.overflow_add-counts
-overflow_add-counts c = omega (arith, c.count_moves-counts.ensures.1)
 
 pub returns : goal.returns
 returns c =

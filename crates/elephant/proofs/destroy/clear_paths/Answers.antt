@@ -1,27 +1,8 @@
 -- Three stages: the file, the entries that name it, and the counts; what the file has is read before any store.
 -- A sound table's file has at most 1,000 text records, and a heading's count is a number of two bytes.
-use native.Mathlib.Omega.{arith}
 use Rattle.elephant.proofs.Clearings.{freed-rooms}
 use Rattle.elephant.proofs.Destroying.{paths-cleared}
 use Rattle.elephant.proofs.destroy.clear_paths.Goals as goal
-
-pub overflow_add-count : goal.overflow_add-count
-overflow_add-count c =
-    omega (arith, c.blocks-count.ensures, c.text_length.ensures.1)
-
-pub overflow_add-entries : goal.overflow_add-entries
-overflow_add-entries c =
-    omega (arith, c.named_count-entries.ensures.1, c.blocks-count.ensures, c.text_length.ensures.1)
-
-pub overflow_add-counts : goal.overflow_add-counts
-overflow_add-counts c =
-    omega (
-      arith,
-      c.recount_all-counts.ensures.1,
-      c.named_count-entries.ensures.1,
-      c.blocks-count.ensures,
-      c.text_length.ensures.1,
-    )
 
 pub returns : goal.returns
 returns c =

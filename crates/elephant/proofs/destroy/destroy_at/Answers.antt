@@ -1,5 +1,6 @@
 -- Each return is one case of `dst_at`: 14, 18, or the stores.
 -- Whether a directory has entries is read from its heading, whose counts are true.
+use mathlib.Core.Path.{refl}
 use Rattle.answers.specs.Shown.{place_meant}
 use Rattle.elephant.proofs.Destroying.{dst-shut, dst-peopled, dst-destroyed}
 use Rattle.elephant.proofs.destroy.destroy_at.Goals as goal
@@ -7,18 +8,13 @@ use Rattle.elephant.proofs.destroy.destroy_at.Goals as goal
 pub returns-then-inhibits_write : goal.returns-then-inhibits_write
 returns-then-inhibits_write c =
     let a = c.args in
-    dst-shut a.table.now (place_meant a.place) a.left a.f (rw c.inhibits_write.ensures at c.if-inhibits_write.true)
+    dst-shut a.table.now (place_meant a.place) a.left a.f (rw c.inhibits_write.ensures at c.if-inhibits_write.true) _ refl
 
 pub returns-then-is_directory_peopled : goal.returns-then-is_directory_peopled
 returns-then-is_directory_peopled c =
     let a = c.args in
     dst-peopled a.table.now (place_meant a.place) a.left a.f (rw c.inhibits_write.ensures at c.if-inhibits_write.false) c.requires
-    c.heading_named-heading.result.0 c.heading_named-heading.ensures.0 (rw c.is_directory_peopled.ensures at c.if-is_directory_peopled.true)
-
-pub clear_paths-requires : goal.clear_paths-requires
-clear_paths-requires c =
-    let p = c.requires in
-    (p.fit, rw c.heading_named-heading.ensures.0 p.heading, rw c.heading_named-heading.ensures.0 p.kind)
+    c.heading_named-heading.result.0 c.heading_named-heading.ensures.0 (rw c.is_directory_peopled.ensures at c.if-is_directory_peopled.true) _ refl
 
 pub returns : goal.returns
 returns c =

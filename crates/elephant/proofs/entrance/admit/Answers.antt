@@ -5,9 +5,9 @@ use Rattle.elephant.proofs.entrance.admit.Goals as goal
 
 pub cpy-requires : goal.cpy-requires
 cpy-requires c =
-    cpy-ready c.requires c.in-Cpy.from c.in-Cpy.old c.in-Cpy.new c.in-Cpy.life c.in-Cpy.level c.in-Cpy.digit c.in-Cpy.is
+    cpy-ready c.requires c.in-Cpy.begin c.in-Cpy.at c.in-Cpy.new c.in-Cpy.lifetime c.in-Cpy.level c.in-Cpy.digit c.in-Cpy.is
 
 pub returns : goal.returns
 returns c =
-    cpy-done c.requires c.args.reply.now c.args.stop _ _ c.in-Cpy.from c.in-Cpy.old c.in-Cpy.new c.in-Cpy.life c.in-Cpy.level
+    cpy-done c.requires c.args.reply.now c.args.stop _ _ c.in-Cpy.begin c.in-Cpy.at c.in-Cpy.new c.in-Cpy.lifetime c.in-Cpy.level
     c.in-Cpy.digit c.in-Cpy.is c.cpy.ensures

@@ -19,7 +19,7 @@ read-requires c =
 
 pub cpy-requires : goal.cpy-requires
 cpy-requires c =
-    cpy-ready c.requires c.in-Cpy.from c.in-Cpy.old c.in-Cpy.new c.in-Cpy.life c.in-Cpy.level c.in-Cpy.digit c.in-Cpy.is
+    cpy-ready c.requires c.in-Cpy.begin c.in-Cpy.at c.in-Cpy.new c.in-Cpy.lifetime c.in-Cpy.level c.in-Cpy.digit c.in-Cpy.is
 
 pub dup-requires : goal.dup-requires
 dup-requires c =
@@ -29,8 +29,8 @@ pub chn-requires : goal.chn-requires
 chn-requires c =
     (c.requires.fit, chn-ready c.requires c.in-Chn.old c.in-Chn.link c.in-Chn.is, line-short c.requires)
 
-pub overflow_cast-count : goal.overflow_cast-count
-overflow_cast-count c =
+pub overflow_cast-names : goal.overflow_cast-names
+overflow_cast-names c =
     let d = remove-ready c.requires Delete c.in-Del.first c.in-Del.count c.in-Del.is in
     omega (arith, d.2)
 
@@ -39,8 +39,8 @@ remove-requires c =
     let d = remove-ready c.requires Delete c.in-Del.first c.in-Del.count c.in-Del.is in
     (c.requires.fit, d.0, d.1, line-short c.requires)
 
-pub overflow_cast-count-in-Dst : goal.overflow_cast-count-in-Dst
-overflow_cast-count-in-Dst c =
+pub overflow_cast-names-in-Dst : goal.overflow_cast-names-in-Dst
+overflow_cast-names-in-Dst c =
     let d = remove-ready c.requires Destroy c.in-Dst.first c.in-Dst.count c.in-Dst.is in
     omega (arith, d.2)
 
@@ -76,12 +76,12 @@ returns-in-Wrs c =
 
 pub returns-in-Rds : goal.returns-in-Rds
 returns-in-Rds c =
-    rds-done c.requires c.args.reply.now c.args.stop _ _ c.in-Rds.from c.in-Rds.name c.in-Rds.a c.in-Rds.n c.in-Rds.is
+    rds-done c.requires c.args.reply.now c.args.stop _ _ c.in-Rds.begin c.in-Rds.at c.in-Rds.first c.in-Rds.count c.in-Rds.is
     c.read.ensures
 
 pub returns-in-Cpy : goal.returns-in-Cpy
 returns-in-Cpy c =
-    cpy-done c.requires c.args.reply.now c.args.stop _ _ c.in-Cpy.from c.in-Cpy.old c.in-Cpy.new c.in-Cpy.life c.in-Cpy.level
+    cpy-done c.requires c.args.reply.now c.args.stop _ _ c.in-Cpy.begin c.in-Cpy.at c.in-Cpy.new c.in-Cpy.lifetime c.in-Cpy.level
     c.in-Cpy.digit c.in-Cpy.is c.cpy.ensures
 
 pub returns-in-Dup : goal.returns-in-Dup
@@ -107,7 +107,7 @@ returns-in-Dpr c =
 
 pub returns-in-Lst : goal.returns-in-Lst
 returns-in-Lst c =
-    lst-done c.requires c.args.reply.now c.args.stop _ _ c.in-Lst.from c.in-Lst.name c.in-Lst.is c.read-in-Lst.ensures
+    lst-done c.requires c.args.reply.now c.args.stop _ _ c.in-Lst.begin c.in-Lst.at c.in-Lst.is c.read-in-Lst.ensures
 
 pub returns-in-LstBase : goal.returns-in-LstBase
 returns-in-LstBase c =
@@ -115,7 +115,7 @@ returns-in-LstBase c =
 
 pub returns-in-LstTree : goal.returns-in-LstTree
 returns-in-LstTree c =
-    lst-tree-done c.requires c.args.reply.now c.args.stop _ _ c.in-LstTree.from c.in-LstTree.name c.in-LstTree.depth c.in-LstTree.is c.read-in-LstTree.ensures
+    lst-tree-done c.requires c.args.reply.now c.args.stop _ _ c.in-LstTree.begin c.in-LstTree.at c.in-LstTree.depth c.in-LstTree.is c.read-in-LstTree.ensures
 
 pub returns-in-LstBaseTree : goal.returns-in-LstBaseTree
 returns-in-LstBaseTree c =

@@ -1,29 +1,19 @@
 -- The heading is laid out before the walk, and the walk chooses: stopped, or in the directory.
 -- The declared parts have the numbers that the plan gives them.
-use mathlib.Core.Path.{sym, ◌∙◌}
 use native.Mathlib.Omega.{arith}
-use Rattle.words.specs.declared.begin.Begin.TheVariants.{Own}
-use Rattle.elephant.proofs.Links.{walk-near}
-use Rattle.elephant.proofs.Makes.{crd-stops, crd-reaches}
-use Rattle.paper.specs.Effect.{chain_of}
-use Rattle.words.specs.Place.{word_at}
-use Rattle.elephant.proofs.Ends.{walked-held}
+use Rattle.records.specs.Part.{meant_part}
+use Rattle.elephant.proofs.Makes.{crd-stops, crd-reaches, or-else}
+use Rattle.elephant.proofs.Ends.{own, handed, reached-held}
 use Rattle.elephant.proofs.making.crd.Goals as goal
-
-pub refused_at-requires : goal.refused_at-requires
-refused_at-requires c =
-    let a = c.args in
-    walk-near a.line.now c.requires.brief a.table.now a.user a.name Own _ c.to_directory-walked.ensures
-    c.in-Stopped.number c.in-Stopped.link c.in-Stopped.is
 
 pub file_in-requires : goal.file_in-requires
 file_in-requires c =
     let a = c.args in
-    let p = c.requires in (
+    let p = c.requires in
+    let w = rw c.own.ensures at c.in_ok-to_directory.ensures in (
       record { size = p.size; sound = p.sound; short = p.short; few = rw c.part.ensures (omega arith); brief = p.brief },
       record {
-        held = walked-held a.table.now (record { sized = p.size; sound = p.sound }) a.user (chain_of (word_at a.line.now a.name)) c.in-Reached.d
-            (sym c.to_directory-walked.ensures ∙ c.in-Reached.is);
+        held = reached-held a.table.now a.line.now a.user 1 (own a.name) _ w (record { sized = p.size; sound = p.sound });
         type = _;
         lev = _;
         code = _;
@@ -33,17 +23,16 @@ file_in-requires c =
       },
     )
 
-pub returns-in-Stopped : goal.returns-in-Stopped
-returns-in-Stopped c =
+pub returns-in_err-to_directory : goal.returns-in_err-to_directory
+returns-in_err-to_directory c =
     let a = c.args in
-    rw c.refused_at.ensures
-    (crd-stops a.table.now a.line.now a.user a.name a.stop _ _ c.in-Stopped.number c.in-Stopped.link
-    (sym c.to_directory-walked.ensures ∙ c.in-Stopped.is))
+    let w = rw c.own.ensures at c.in_err-to_directory.ensures in
+    crd-stops a.table.now a.line.now a.user a.name a.stop (meant_part a.declared.level) (meant_part a.declared.digit) _ w _
+    (handed _ _ c.from_residual.ensures.1)
 
-pub returns-in-Reached : goal.returns-in-Reached
-returns-in-Reached c =
+pub returns : goal.returns
+returns c =
     let a = c.args in
-    crd-reaches a.table.now a.line.now a.user a.name a.stop _ _ c.in-Reached.d _ _
-    (sym c.to_directory-walked.ensures ∙ c.in-Reached.is)
-    (rw (c.part.ensures, c.laid-heading.ensures, c.or_else-2.ensures, c.or_else.ensures) at
-    c.file_in.ensures)
+    let w = rw c.own.ensures at c.in_ok-to_directory.ensures in
+    crd-reaches a.table.now a.line.now a.user a.name a.stop (meant_part a.declared.level) (meant_part a.declared.digit) _ w _ _
+    (rw (c.part.ensures, c.laid-heading.ensures, c.unwrap_or-2.ensures, c.unwrap_or.ensures, or-else, or-else) at c.file_in.ensures)

@@ -1,15 +1,11 @@
 -- The free records are listed before any store, and the first of them takes the heading, which the entry names.
 -- So the making is the filing of the last name.
-use mathlib.Core.Path.{refl}
 use Prim.Native.Nat.{ℕ, ◌+◌}
 use native.Mathlib.Omega.{arith}
 use Rattle.elephant.specs.Filing.{fresh}
 use Rattle.effects.proofs.Papers.{free-room}
 use Rattle.elephant.proofs.Walking.{free-small, free-length}
 use Rattle.elephant.proofs.making.file.Goals as goal
-
-pub overflow_add-most : goal.overflow_add-most
-overflow_add-most c = omega (arith, c.blocks-most.ensures, c.requires.0.few)
 
 pub slice_bounds-room_at-end : goal.slice_bounds-room_at-end
 slice_bounds-room_at-end c =
@@ -25,20 +21,21 @@ make-requires c =
       size = p.size;
       sound = p.sound;
       free = rw c.blocks-most.ensures at c.free_rooms.ensures;
-      short = rw c.last_name.ensures p.short;
+      short = rw c.last_name-name.ensures p.short;
       few = p.few;
-      small = rw (c.room_at-named.ensures, c.free_rooms.ensures) (free-small t k (omega arith));
+      small = rw (c.room_at.ensures, c.free_rooms.ensures) (free-small t k (omega arith));
       held = h.held;
-      names = fresh h.type h.lev h.code h.life h.size refl h.is
-          (rw (c.room_at-named.ensures, c.free_rooms.ensures) (free-room t k 0 p.size (omega arith) (omega arith)));
+      names = fresh h.type h.lev h.code h.life h.size (rw h.is)
+          (rw (c.room_at.ensures, c.free_rooms.ensures) (free-room t k 0 p.size (omega arith) (omega arith)));
     }
 
 pub returns : goal.returns
 returns c =
     rw (
-      c.end_of.ensures,
-      c.last_name.ensures,
-      c.room_at-named.ensures,
+      c.end.ensures,
+      c.own.ensures,
+      c.last_name-name.ensures,
+      c.room_at.ensures,
       c.free_rooms.ensures,
       free-room c.args.table.now (c.blocks-most.result.0 + 2) 0 c.requires.0.size (omega arith) (omega arith),
     )

@@ -17,7 +17,7 @@ pub returns-then-reply-n : goal.returns-then-reply-n
 returns-then-reply-n c =
     let a = c.args in
     let t = a.table.now in
-    rw c.refused_whole.ensures
+    rw c.whole.ensures
     (wrote-short t a.reply.now (lines boxed t (listed boxed t (is_listed a.which))) [] (omega (arith, c.listed_length-n.ensures)))
 
 pub returns : goal.returns

@@ -8,7 +8,7 @@ pub returns-in_default : goal.returns-in_default
 returns-in_default c =
     let a = c.args in
     let l = c.list_tree.ensures in
-    rw c.refused_whole.ensures
+    rw c.whole.ensures
     (deep-short a.table.now a.reply.now _ c.requires a.which a.depth l.1 (sym c.in_default.is ∙ l.0))
 
 pub returns : goal.returns
@@ -16,4 +16,4 @@ returns c =
     let a = c.args in
     let l = c.list_tree.ensures in
     rw c.granted.ensures
-    (deep_out a.table.now a.reply.now _ c.requires a.which a.depth l.1 c.in-At.n (sym c.in-At.is ∙ l.0))
+    (deep_out a.table.now a.reply.now _ c.requires a.which a.depth l.1 c.in-Some.n (sym c.in-Some.is ∙ l.0))

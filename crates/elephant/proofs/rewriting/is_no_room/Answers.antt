@@ -18,7 +18,3 @@ overflow_add-result c =
       count-frees t,
       count_most (λ i. is_kind 0 (rec t i)) (rooms t),
     )
-
-pub returns : goal.returns
-returns c =
-    rw (c.blocks-2.ensures, c.count_free.ensures, c.blocks-old.ensures, c.text_length.ensures.0)

@@ -1,31 +1,26 @@
 -- The walk stopped, or came to the file, where WRS* is `rewrite_at`.
 -- On a fit table the file is there.
-use Rattle.elephant.proofs.Links.{end-near}
-use Rattle.elephant.proofs.Ends.{end-off, end-at, filed}
-use Rattle.paper.specs.Effect.{rewrite_plan}
-use Rattle.words.specs.declared.begin.Begin.TheVariants.{Own}
+use Rattle.elephant.proofs.Ends.{own, handed, end-off, end-at, filed}
+use Rattle.paper.specs.Effect.{end_of, rewrite_at, rewrite_plan}
+use Rattle.words.specs.Place.{word_at}
 use Rattle.elephant.proofs.rewriting.rewrite.Goals as goal
-
-pub refused_at-requires : goal.refused_at-requires
-refused_at-requires c =
-    let a = c.args in
-    end-near a.line.now c.requires.1 a.table.now a.user a.name Own _ c.to_end-end.ensures c.in-Off.number c.in-Off.link c.in-Off.is
 
 pub rewrite_at-requires : goal.rewrite_at-requires
 rewrite_at-requires c =
     let a = c.args in
-    (filed a.table.now a.line.now a.user a.name Own _ c.to_end-end.ensures c.requires.0 c.in-At.field-0 c.in-At.f c.in-At.is, c.requires.2)
+    (filed a.table.now a.line.now a.user 2 (own a.name) c.in_ok-ends.ends (rw c.own-chain.ensures at c.in_ok-ends.ensures) c.requires.0, c.requires.2)
 
-pub returns-in-Off : goal.returns-in-Off
+pub returns-in_err-ends : goal.returns-in_err-ends
 unfolding rewrite_plan
-returns-in-Off c =
+returns-in_err-ends c =
     let a = c.args in
-    rw c.refused_at.ensures
-    (end-off a.table.now a.line.now a.user a.name Own 2 _ _ c.to_end-end.ensures c.in-Off.number c.in-Off.link c.in-Off.is a.stop)
+    end-off a.table.now a.line.now a.user 2 (own a.name) (λ _ f. rewrite_at a.table.now a.text.now (end_of 2 (word_at a.line.now a.name)) f)
+    _ (rw c.own-chain.ensures at c.in_err-ends.ensures) a.stop _ (handed _ _ c.from_residual.ensures.1)
 
-pub returns-in-At : goal.returns-in-At
+pub returns : goal.returns
 unfolding rewrite_plan
-returns-in-At c =
+returns c =
     let a = c.args in
-    end-at a.table.now a.line.now a.user a.name Own 2 _ _ c.to_end-end.ensures c.in-At.field-0 c.in-At.f c.in-At.is a.stop _ _
-    (rw c.end_of.ensures at c.rewrite_at.ensures)
+    end-at a.table.now a.line.now a.user 2 (own a.name) (λ _ f. rewrite_at a.table.now a.text.now (end_of 2 (word_at a.line.now a.name)) f)
+    c.in_ok-ends.ends (rw c.own-chain.ensures at c.in_ok-ends.ensures) a.stop _ _
+    (rw (c.end.ensures, c.own-chain.ensures) at c.rewrite_at.ensures)

@@ -12,15 +12,13 @@ use Rattle.elephant.proofs.rewriting.rewrite_at.Goals as goal
 pub returns-then-inhibits_write : goal.returns-then-inhibits_write
 returns-then-inhibits_write c =
     let a = c.args in
-    rw c.refused.ensures
-    (rewrite-shut a.table.now a.text.now (place_meant a.place) a.stop a.f
-    (rw c.inhibits_write.ensures at c.if-inhibits_write.true))
+    rewrite-shut a.table.now a.text.now (place_meant a.place) a.stop a.f
+    (rw c.inhibits_write.ensures at c.if-inhibits_write.true)
 
 pub returns-then-not-is_simple : goal.returns-then-not-is_simple
 returns-then-not-is_simple c =
     let a = c.args in
     let i = rw c.inhibits_write.ensures at c.if-inhibits_write.false in
-    rw c.refused-then-not-is_simple.ensures
     (rewrite-wrong a.table.now a.text.now (place_meant a.place) a.stop a.f i c.heading_named-heading.result.0 c.heading_named-heading.ensures.0
     (rw c.is_simple.ensures at (ap not c.if-not-is_simple.true)))
 
@@ -28,7 +26,7 @@ pub returns-then-is_no_room : goal.returns-then-is_no_room
 returns-then-is_no_room c =
     let a = c.args in
     let i = rw c.inhibits_write.ensures at c.if-inhibits_write.false in
-    rw c.refused_whole.ensures
+    rw c.whole.ensures
     (rewrite-short a.table.now a.text.now (place_meant a.place) a.stop a.f i c.heading_named-heading.result.0 c.heading_named-heading.ensures.0
     (rw c.is_simple.ensures at (ap not c.if-not-is_simple.false))
     (rw c.is_no_room.ensures at c.if-is_no_room.true))
@@ -37,26 +35,17 @@ pub returns-then-lifetime_of-eq-LONG : goal.returns-then-lifetime_of-eq-LONG
 returns-then-lifetime_of-eq-LONG c =
     let a = c.args in
     let i = rw c.inhibits_write.ensures at c.if-inhibits_write.false in
-    rw c.refused-then-lifetime_of-eq-LONG.ensures
     (rewrite-long a.table.now a.text.now (place_meant a.place) a.stop a.f i c.heading_named-heading.result.0 c.heading_named-heading.ensures.0
     (rw c.is_simple.ensures at (ap not c.if-not-is_simple.false))
     (rw c.is_no_room.ensures at c.if-is_no_room.false)
     (eq-eqb _ _ (sym c.lifetime_of.ensures ∙ c.if-lifetime_of-eq-LONG.true)))
 
-pub rewrite_text-stores-requires : goal.rewrite_text-stores-requires
-rewrite_text-stores-requires c =
-    let p = c.requires in
-    (p.0.fit, rw c.heading_named-heading.ensures.0 p.0.heading, rw c.heading_named-heading.ensures.0 p.0.kind, p.1)
-
 pub overflow_cast-stores : goal.overflow_cast-stores
 overflow_cast-stores c =
-    let p = c.requires in
-    let a = c.args in
-    omega (
-      arith,
-      c.rewrite_text-stores.ensures.number,
-      rewrite-few a.table.now c.heading_named-heading.result.0 a.text.now p.0.fit (rw c.heading_named-heading.ensures.0 p.0.heading) (rw c.heading_named-heading.ensures.0 p.0.kind) p.1,
-    )
+    let p = c.requires.0 in
+    let h = c.heading_named-heading in
+    let few = rewrite-few c.args.table.now h.result.0 c.args.text.now p.fit (rw h.ensures.0 p.heading) (rw h.ensures.0 p.kind) c.requires.1 in
+    omega (arith, c.rewrite_text-stores.ensures.number, few)
 
 pub returns : goal.returns
 returns c =

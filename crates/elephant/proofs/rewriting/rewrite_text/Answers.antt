@@ -1,16 +1,7 @@
 -- The heading's two records are read before any store, and so are the records of the old text; those of the new text are listed once the old
 -- text is gone. The four stages one after the other are the rewriting.
-use native.Mathlib.Omega.{arith}
 use Rattle.elephant.proofs.Rewrites.{rewrites}
 use Rattle.elephant.proofs.rewriting.rewrite_text.Goals as goal
-
-pub overflow_add-result : goal.overflow_add-result
-overflow_add-result c =
-    omega (arith, c.blocks-most.ensures, c.blocks-count.ensures, c.text_length.ensures.1)
-
-pub overflow_add-result-2 : goal.overflow_add-result-2
-overflow_add-result-2 c =
-    omega (arith, c.blocks-most.ensures, c.blocks-count.ensures, c.text_length.ensures.1)
 
 pub returns : goal.returns
 returns c =

@@ -11,8 +11,8 @@ use Rattle.filebox.proofs.held.keep.Goals as goal
 pub returns-then-n-s : goal.returns-then-n-s
 returns-then-n-s c = (rw (lt-ltb c.args.n (length c.args.s.now) c.if-n-s.true), refl)
 
-pub returns : goal.returns
-returns c =
+pub returns-else-n-s : goal.returns-else-n-s
+returns-else-n-s c =
     let s = c.args.s.now in
     let n = c.args.n in
     let h : length s ≤ n = omega arith in

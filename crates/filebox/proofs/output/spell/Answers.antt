@@ -3,4 +3,4 @@
 use Rattle.filebox.proofs.output.spell.Goals as goal
 
 pub returns : goal.returns
-returns c = c.spell_wide.ensures
+returns c = rw c.from.ensures at c.spell_wide.ensures

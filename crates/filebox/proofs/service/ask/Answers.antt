@@ -7,5 +7,9 @@ use Rattle.filebox.proofs.service.ask.Goals as goal
 pub returns : goal.returns
 returns c =
     let a = c.args in
-    request-tells a.table.now a.index.now a.line.now a.text.now a.reply.now a.held
-    c.first.ensures c.first-2.ensures c.request-answer.ensures c.spell_answer.ensures refl
+    let m = a.memory.now in (
+      request-tells m.table m.index m.line m.text m.reply a.held c.first.ensures c.first-2.ensures c.request-answer.ensures
+          c.spell_answer.ensures refl,
+      refl,
+      refl,
+    )

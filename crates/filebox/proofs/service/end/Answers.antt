@@ -1,33 +1,27 @@
 -- A text that ends is answered, and so is a line that takes none;
 -- a line whose first word is WRS or `WRS*` waits for its text.
-use mathlib.Core.Logic.{inl, inr}
-use mathlib.Core.Path.{refl, sym, ◌∙◌}
+use mathlib.Core.Bool.{true, false}
+use mathlib.Core.Logic.{◌⊎◌, inl, inr}
+use mathlib.Core.Path.{◌≡◌, refl, sym, ◌∙◌}
+use borrow.Author.Tests.{not-true, not-false}
+use Rattle.filebox.specs.FirstWord.{takes}
 use Rattle.filebox.proofs.Steps.{answer-ends, text-asked}
 use Rattle.filebox.proofs.service.end.Goals as goal
-
-pub answer-requires : goal.answer-requires
-answer-requires c = tt
-
-pub returns-then-held : goal.returns-then-held
-returns-then-held c =
-    let a = c.args in
-    answer-ends a.table.now a.index.now a.line.now a.text.now a.reply.now a.held _ _ _ _
-    (inl c.if-held.true) c.answer.ensures
-
-pub takes_text-requires : goal.takes_text-requires
-takes_text-requires c = tt
+use Rattle.filebox.proofs.service.end.Goals.{else-not-held-via-then-not-held+else-takes_text, else-not-held-via-else-not-held}
 
 pub returns-then-takes_text : goal.returns-then-takes_text
 returns-then-takes_text c =
     let a = c.args in
-    text-asked a.table.now a.index.now a.line.now a.text.now a.reply.now a.held _
-    c.if-held.false (sym c.takes_text.ensures ∙ c.if-takes_text.true) refl refl refl refl
+    let m = a.memory.now in
+    text-asked m.table m.index m.line m.text m.reply a.held _
+    (not-true _ c.if-not-held.true) (sym c.takes_text.ensures ∙ c.if-takes_text.true) refl refl refl refl
 
-pub answer-requires-2 : goal.answer-requires-2
-answer-requires-2 c = tt
-
-pub returns : goal.returns
-returns c =
+pub returns-else-not-held : goal.returns-else-not-held
+returns-else-not-held c =
     let a = c.args in
-    answer-ends a.table.now a.index.now a.line.now a.text.now a.reply.now a.held _ _ _ _
-    (inr (sym c.takes_text.ensures ∙ c.if-takes_text.false)) c.answer-2.ensures
+    let m = a.memory.now in
+    let ends : (a.held.asked ≡ true) ⊎ (takes a.held.stage ≡ false) = elim c.else-not-held.branch [
+      | else-not-held-via-then-not-held+else-takes_text w ↦ inr (sym w.takes_text.ensures ∙ w.if-takes_text.false)
+      | else-not-held-via-else-not-held w ↦ inl (not-false _ w.if-not-held.false)
+    ] in
+    answer-ends m.table m.index m.line m.text m.reply a.held _ _ _ _ _ _ ends c.answer.ensures

@@ -1,38 +1,22 @@
-use mathlib.Core.Path.{refl}
-use native.Mathlib.Omega.{arith}
 use lib.Seq.{take_all}
+use native.Mathlib.Omega.{arith}
 use Rattle.filebox.proofs.Steps.{feed-none, feed-more}
 use Rattle.filebox.proofs.service.feed.Goals as goal
 
-pub loop-i-init : goal.loop-i-init
-loop-i-init c =
-    let a = c.args in (
-      feed-none a.input.now a.table.now a.index.now a.line.now a.text.now a.reply.now a.held,
-      omega arith,
-      refl,
-      refl,
-      refl,
-      refl,
-      refl,
-    )
+pub loop-b-init : goal.loop-b-init
+loop-b-init c =
+    let a = c.args in
+    let m = a.memory.now in
+    feed-none a.input.now m.table m.index m.line m.text m.reply a.held
 
-pub step-now-requires : goal.step-now-requires
-step-now-requires c = tt
-
-pub loop-i-preserved : goal.loop-i-preserved
-loop-i-preserved c =
-    let a = c.args in (
-      feed-more a.input.now c.loop-i.i a.table.now a.index.now a.line.now a.text.now a.reply.now a.held
-          c.loop-i.table c.loop-i.index c.loop-i.line c.loop-i.text c.loop-i.reply c.loop-i.now _ _ _ _ _ _ (omega arith) c.loop-i.invariant.0 c.step-now.ensures,
-      omega arith,
-      omega arith,
-      omega arith,
-      omega arith,
-      omega arith,
-      omega arith,
-    )
+pub loop-b-preserved : goal.loop-b-preserved
+loop-b-preserved c =
+    let a = c.args in
+    let m = a.memory.now in
+    let l = c.loop-b in
+    let n = l.memory in
+    feed-more a.input.now l.b-index m.table m.index m.line m.text m.reply a.held
+    n.table n.index n.line n.text n.reply l.now _ _ _ _ _ _ (omega arith) l.invariant c.step-now.ensures
 
 pub returns : goal.returns
-returns c =
-    let a = c.args in
-    rw (← take_all c.loop-i.i a.input.now (omega arith)) c.loop-i.invariant.0
+returns c = rw (← take_all c.loop-b.b-index c.args.input.now (omega arith)) c.loop-b.invariant

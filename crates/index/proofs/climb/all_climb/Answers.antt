@@ -6,40 +6,32 @@ use Rattle.index_laws.proofs.Turns.{climb-on, climb-off, climb-end}
 use Rattle.index.specs.Shown.{rank_shown}
 use Rattle.index.proofs.climb.all_climb.Goals as goal
 
-pub loop-i-init : goal.loop-i-init
+pub loop-number-init : goal.loop-number-init
 unfolding rank_shown
-loop-i-init c = refl
-
-pub wide16-e-requires : goal.wide16-e-requires
-wide16-e-requires c = tt
-
-pub goes_on-requires : goal.goes_on-requires
-goes_on-requires c = tt
+loop-number-init c = refl
 
 pub rank_at-requires : goal.rank_at-requires
-rank_at-requires c =
-    let s = c.args in
-    goes-below (rank s.t.now) (is_entry s.t.now) (rooms s.t.now) c.goes_on.result (rank_shown c.loop-i.low)
-    c.wide16-e.result c.goes_on.ensures c.if-goes_on.true
+rank_at-requires c = goes-below _ _ _ c.goes_on.result _ _ c.goes_on.ensures c.if-not-goes_on.false
 
-pub after-low-requires : goal.after-low-requires
-after-low-requires c = c.rank_at.ensures.1
-
-pub loop-i-preserved : goal.loop-i-preserved
-loop-i-preserved c =
+pub loop-number-preserved : goal.loop-number-preserved
+loop-number-preserved c =
     let s = c.args in
-    rw (c.after-low.ensures, c.rank_at.ensures.0) (climb-on (rank s.t.now) (is_entry s.t.now) (rooms s.t.now)
-    (rank_shown c.loop-i.low) s.x.now c.loop-i.i c.goes_on.result c.wide16-e.result c.loop-i-test.true
-    c.wide16-e.ensures.0 c.goes_on.ensures c.if-goes_on.true ∙ c.loop-i.invariant)
+    let low = rank_shown c.loop-number.low in
+    let i = c.loop-number.number-index in
+    rw (c.after-low.ensures, c.rank_at.ensures.0)
+    (climb-on (rank s.t.now) (is_entry s.t.now) (rooms s.t.now) low s.x.now i c.goes_on.result c.from-e.result
+    c.loop-number-test.true c.from-e.ensures c.goes_on.ensures c.if-not-goes_on.false ∙ c.loop-number.invariant)
 
-pub returns-else-goes_on : goal.returns-else-goes_on
-returns-else-goes_on c =
+pub returns-then-not-goes_on : goal.returns-then-not-goes_on
+returns-then-not-goes_on c =
     let s = c.args in
-    climb-off (rank s.t.now) (is_entry s.t.now) (rooms s.t.now) (rank_shown c.loop-i.low) s.x.now c.loop-i.i c.goes_on.result c.wide16-e.result
-    c.loop-i-test.true c.wide16-e.ensures.0 c.goes_on.ensures c.if-goes_on.false ∙ c.loop-i.invariant
+    let low = rank_shown c.loop-number.low in
+    let i = c.loop-number.number-index in
+    climb-off (rank s.t.now) (is_entry s.t.now) (rooms s.t.now) low s.x.now i c.goes_on.result c.from-e.result
+    c.loop-number-test.true c.from-e.ensures c.goes_on.ensures c.if-not-goes_on.true ∙ c.loop-number.invariant
 
 pub returns : goal.returns
 returns c =
     let s = c.args in
-    climb-end (rank s.t.now) (is_entry s.t.now) (rooms s.t.now) (rank_shown c.loop-i.low) s.x.now c.loop-i.i c.loop-i-test.false ∙
-    c.loop-i.invariant
+    let low = rank_shown c.loop-number.low in
+    climb-end (rank s.t.now) (is_entry s.t.now) (rooms s.t.now) low s.x.now c.loop-number.number-index c.loop-number-test.false ∙ c.loop-number.invariant

@@ -1,5 +1,5 @@
 use mathlib.Core.Bool.{true}
-use mathlib.Core.Path.{◌≡◌, refl, sym, ◌∙◌}
+use mathlib.Core.Path.{◌≡◌, sym, ◌∙◌}
 use native.Mathlib.Omega.{arith}
 use borrow.Author.Count.{below_more, below_none}
 use Rattle.judge_laws.specs.Mask.{without}
@@ -9,7 +9,7 @@ use Rattle.judge_laws.proofs.Crowds.{roomy-all, crowded-one}
 use Rattle.judge.proofs.crowds.crowd_all.Goals as goal
 
 pub loop-i-init : goal.loop-i-init
-loop-i-init c = (c.requires.1, c.requires.2, below_none _, omega arith, refl)
+loop-i-init c = (c.requires.1, c.requires.2, below_none _)
 
 pub crowd_turn-requires : goal.crowd_turn-requires
 crowd_turn-requires c =
@@ -26,7 +26,7 @@ loop-i-preserved c =
     let r : c.crowd_turn.result ≡ true = c.if-not-crowd_turn.false in
     let e : roomy (without c.args.gone.now c.args.t.now) c.loop-i.i ≡ true = sym c.crowd_turn.ensures.0 ∙ r in
     let z = c.crowd_turn.ensures.1 r in
-    (z.0, z.1, below_more _ _ c.loop-i.invariant.2 e, omega arith, refl)
+    (z.0, z.1, below_more _ _ c.loop-i.invariant.2 e)
 
 pub returns : goal.returns
 returns c =

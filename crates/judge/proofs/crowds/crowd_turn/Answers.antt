@@ -22,7 +22,7 @@ returns-then-not-is_entry c =
     let e : roomy t c.args.i ≡ true = rw k in (
       sym e,
       λ f. (
-        chains-other place_of t c.args.head.now c.args.next.now c.args.i c.requires.2 k,
+        chains-other place_of t c.args.buckets.now.head c.args.buckets.now.next c.args.i c.requires.2 k,
         ranked-other t c.args.rank.now c.args.i c.requires.3 k,
       ),
     )
@@ -36,7 +36,7 @@ last_beside-last-requires c =
       omega arith,
       omega arith,
       k,
-      c.wide16.ensures.0 ∙ c.requires.2.heads c.place_of-h.result (omega arith) ∙ ap (λ b. last_in place_of t b c.args.i) b,
+      c.from.ensures ∙ c.requires.2.heads c.place_of-h.result (omega arith) ∙ ap (λ b. last_in place_of t b c.args.i) b,
       c.requires.2.nexts,
     )
 
@@ -66,7 +66,7 @@ returns c =
     let e : roomy t c.args.i ≡ true = rw (k, le-leb (rank_of t c.args.i) (limit (holder (rec t c.args.i))) (rw q (omega arith))) in (
       sym e,
       λ f. (
-        rw (c.place_of-h.ensures.0 ∙ ap place_of (sym q)) (chains-entry place_of t c.args.head.now c.args.next.now c.args.i c.requires.2
+        rw (c.place_of-h.ensures.0 ∙ ap place_of (sym q)) (chains-entry place_of t c.args.buckets.now.head c.args.buckets.now.next c.args.i c.requires.2
             (bucket-below (rec t c.args.i)) (omega arith) k),
         ranked-entry t c.args.rank.now c.args.i c.requires.3 (omega arith) c.rank_of-m.result c.rank_of-m.ensures,
       ),

@@ -22,27 +22,30 @@ pub returns-then-are_beside : goal.returns-then-are_beside
 returns-then-are_beside c =
     let g = c.args.gone.now in
     let t = c.args.t.now in
-    let q = entries-without g t (λ x y. stands (holder x) y) c.args.i (c.loop-c.c - 1) c.requires.0 (omega (arith, c.loop-c.invariant.low)) c.requires.2
-    (c.loop-c.invariant.here (omega arith)).0 in
-    (sym (beside-found (without g t) c.args.i c.loop-c.c c.loop-c.invariant (omega arith) (q ∙ sym c.are_beside.ensures ∙ c.if-are_beside.true)), omega arith)
+    let w = c.loop-c.invariant in
+    let q = entries-without g t (λ x y. stands (holder x) y) c.args.i (c.loop-c.c - 1) c.requires.0 (omega (arith, w.low)) c.requires.2
+    (w.here (omega arith)).0 in
+    (sym (beside-found (without g t) c.args.i c.loop-c.c w (omega arith) (q ∙ sym c.are_beside.ensures ∙ c.if-are_beside.true)), omega arith)
 
 pub loop-c-smaller : goal.loop-c-smaller
 loop-c-smaller c =
     let g = c.args.gone.now in
     let t = c.args.t.now in
-    let q = entries-without g t (λ x y. stands (holder x) y) c.args.i (c.loop-c.c - 1) c.requires.0 (omega (arith, c.loop-c.invariant.low)) c.requires.2
-    (c.loop-c.invariant.here (omega arith)).0 in
-    (beside-on (without g t) c.args.i c.loop-c.c c.loop-c.invariant c.args.next.now c.wide16-c.result (omega arith)
-    (q ∙ sym c.are_beside.ensures ∙ c.if-are_beside.false) c.requires.4 c.wide16-c.ensures.0).1
+    let w = c.loop-c.invariant in
+    let q = entries-without g t (λ x y. stands (holder x) y) c.args.i (c.loop-c.c - 1) c.requires.0 (omega (arith, w.low)) c.requires.2
+    (w.here (omega arith)).0 in
+    (beside-on (without g t) c.args.i c.loop-c.c w c.args.next.now c.from-c.result (omega arith)
+    (q ∙ sym c.are_beside.ensures ∙ c.if-are_beside.false) c.requires.4 c.from-c.ensures).1
 
 pub loop-c-preserved : goal.loop-c-preserved
 loop-c-preserved c =
     let g = c.args.gone.now in
     let t = c.args.t.now in
-    let q = entries-without g t (λ x y. stands (holder x) y) c.args.i (c.loop-c.c - 1) c.requires.0 (omega (arith, c.loop-c.invariant.low)) c.requires.2
-    (c.loop-c.invariant.here (omega arith)).0 in
-    (beside-on (without g t) c.args.i c.loop-c.c c.loop-c.invariant c.args.next.now c.wide16-c.result (omega arith)
-    (q ∙ sym c.are_beside.ensures ∙ c.if-are_beside.false) c.requires.4 c.wide16-c.ensures.0).0
+    let w = c.loop-c.invariant in
+    let q = entries-without g t (λ x y. stands (holder x) y) c.args.i (c.loop-c.c - 1) c.requires.0 (omega (arith, w.low)) c.requires.2
+    (w.here (omega arith)).0 in
+    (beside-on (without g t) c.args.i c.loop-c.c w c.args.next.now c.from-c.result (omega arith)
+    (q ∙ sym c.are_beside.ensures ∙ c.if-are_beside.false) c.requires.4 c.from-c.ensures).0
 
 pub returns : goal.returns
 returns c =

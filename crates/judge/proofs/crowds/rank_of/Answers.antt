@@ -11,8 +11,8 @@ pub returns-then-last-eq0 : goal.returns-then-last-eq0
 returns-then-last-eq0 c =
     sym (rank-first (without c.args.gone.now c.args.t.now) c.args.i c.args.last c.requires.2 c.requires.4 (omega arith))
 
-pub returns : goal.returns
-returns c =
-    ap (λ m. m + 1) c.wide.ensures.0 ∙ sym
+pub returns-else-last-eq0 : goal.returns-else-last-eq0
+returns-else-last-eq0 c =
+    ap (λ m. m + 1) c.from.ensures ∙ sym
     (rank-next (without c.args.gone.now c.args.t.now) c.args.rank.now c.args.i c.args.last c.requires.3 c.requires.2 c.requires.4
     (omega arith))

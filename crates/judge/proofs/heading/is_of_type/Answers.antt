@@ -6,5 +6,5 @@ use Rattle.judge.proofs.heading.is_of_type.Goals as goal
 
 pub returns : goal.returns
 returns c =
-    rw (← c.byte_of.ensures.0, ← c.byte_of-2.ensures.0, c.wide.ensures.0, c.wide-2.ensures.0)
+    rw (← c.byte_of.ensures.0, ← c.byte_of-2.ensures.0, c.from.ensures, c.from-2.ensures)
     (both-eqb c.byte_of.result c.byte_of-2.result 1 c.args.sought c.byte_of.ensures.1 (omega arith))

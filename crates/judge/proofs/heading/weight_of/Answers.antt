@@ -9,9 +9,6 @@ use Rattle.judge_laws.specs.Mask.{without}
 use Rattle.judge_laws.proofs.Mask.{simple-kept}
 use Rattle.judge.proofs.heading.weight_of.Goals as goal
 
-pub is_simple-requires : goal.is_simple-requires
-is_simple-requires c = (omega arith, omega arith, omega arith)
-
 pub returns-then-is_simple : goal.returns-then-is_simple
 returns-then-is_simple c =
     let a = c.args in
@@ -19,6 +16,3 @@ returns-then-is_simple c =
     let s : simple h ≡ true = sym c.is_simple.ensures ∙ c.if-is_simple.true in
     let kept = simple-kept a.gone.now a.t.now (omega arith) a.i s in
     (rw (s, kept, ← c.two_of.ensures.0) c.blocks-then-is_simple.ensures, omega (arith, c.blocks-then-is_simple.ensures, c.two_of.ensures.1))
-
-pub returns : goal.returns
-returns c = (rw (← c.is_simple.ensures, c.if-is_simple.false), omega arith)

@@ -2,21 +2,16 @@
 -- Text is as much as is asked for in a sound table and no more than the records, and sums only grow, so too many slots refute soundness.
 use mathlib.Core.Bool.{true}
 use mathlib.Core.Path.{◌≡◌}
-use Prim.Native.Nat.{ℕ, ◌-◌, ◌≤◌, ◌<◌}
+use Prim.Native.Nat.{ℕ, ◌≤◌, ◌<◌}
 use lib.ListN.{length, get_or}
 use Rattle.judge_laws.specs.Mask.{without}
 use Rattle.judge_laws.specs.Places.{starts}
 use Rattle.paper.specs.Record.{is_kind}
-use Rattle.paper.specs.Table.{rooms, rec}
+use Rattle.paper.specs.Table.{rec}
 use Rattle.judge.proofs.text.lay_out.Given as goal
 
-abbrev pub invariant-loop-i : goal.invariant-loop-i
-invariant-loop-i l = (l.slots ≡ starts (without l.gone l.t) l.i)
+abbrev pub invariant-loop-h : goal.invariant-loop-h
+invariant-loop-h l = (l.slots ≡ starts (without l.gone l.t) l.h)
     × (l.slots ≤ l.n)
-    × (l.i ≤ l.n)
-    × (l.n ≡ rooms l.t)
     × (length l.start ≡ 2048)
-    × ((h : ℕ) → h < l.i → is_kind 1 (rec (without l.gone l.t) h) ≡ true → get_or l.start h 0 ≡ starts (without l.gone l.t) h)
-
-abbrev pub decreases-loop-i : goal.decreases-loop-i
-decreases-loop-i l = l.n - l.i
+    × ((h : ℕ) → h < l.h → is_kind 1 (rec (without l.gone l.t) h) ≡ true → get_or l.start h 0 ≡ starts (without l.gone l.t) h)

@@ -43,8 +43,9 @@ bounds-mark-s c =
     let r = rec t c.args.i in
     let w : Whole t = rw (← (length_without g t)) c.requires.1.whole in
     let b = sym c.is_text_right.ensures ∙ c.if-not-is_text_right.false in
+    let q = and_right (text_as_above 0 r) _ b in
     slot-below g t w c.args.start.now c.args.mark.now c.args.i c.requires.1 c.requires.0 c.requires.2 c.requires.3 c.requires.4
-    c.two_of-h.result c.wide16.result c.two_of-h.ensures.0 c.two_of-p.result c.two_of-p.ensures.0 (and_right (text_as_above 0 r) _ b) c.wide16.ensures.0
+    c.two_of-h.result c.from.result c.two_of-h.ensures.0 c.two_of-p.result c.two_of-p.ensures.0 q c.from.ensures
 
 pub returns-then-mark-s-ne0 : goal.returns-then-mark-s-ne0
 returns-then-mark-s-ne0 c =
@@ -52,9 +53,11 @@ returns-then-mark-s-ne0 c =
     let t = c.args.t.now in
     let r = rec t c.args.i in
     let w : Whole t = rw (← (length_without g t)) c.requires.1.whole in
-    let b = sym c.is_text_right.ensures ∙ c.if-not-is_text_right.false in (
+    let b = sym c.is_text_right.ensures ∙ c.if-not-is_text_right.false in
+    let q = and_right (text_as_above 0 r) _ b in (
       λ f. slot-taken g t w c.args.start.now c.args.mark.now c.args.i c.requires.1 c.requires.0 c.requires.2 c.requires.3 c.requires.4
-          c.two_of-h.result c.wide16.result c.two_of-h.ensures.0 c.two_of-p.result c.two_of-p.ensures.0 (and_right (text_as_above 0 r) _ b) c.wide16.ensures.0 c.if-mark-s-ne0.true,
+          c.two_of-h.result c.from.result c.two_of-h.ensures.0 c.two_of-p.result c.two_of-p.ensures.0 q
+          c.from.ensures c.if-mark-s-ne0.true,
       λ f. absurd (true≢false (sym f)),
     )
 
@@ -65,8 +68,9 @@ bounds-mark-s-2 c =
     let r = rec t c.args.i in
     let w : Whole t = rw (← (length_without g t)) c.requires.1.whole in
     let b = sym c.is_text_right.ensures ∙ c.if-not-is_text_right.false in
+    let q = and_right (text_as_above 0 r) _ b in
     slot-below g t w c.args.start.now c.args.mark.now c.args.i c.requires.1 c.requires.0 c.requires.2 c.requires.3 c.requires.4
-    c.two_of-h.result c.wide16.result c.two_of-h.ensures.0 c.two_of-p.result c.two_of-p.ensures.0 (and_right (text_as_above 0 r) _ b) c.wide16.ensures.0
+    c.two_of-h.result c.from.result c.two_of-h.ensures.0 c.two_of-p.result c.two_of-p.ensures.0 q c.from.ensures
 
 pub returns : goal.returns
 returns c =
@@ -75,11 +79,13 @@ returns c =
     let r = rec t c.args.i in
     let w : Whole t = rw (← (length_without g t)) c.requires.1.whole in
     let b = sym c.is_text_right.ensures ∙ c.if-not-is_text_right.false in
-    let q = text-right g t w c.args.start.now c.args.mark.now c.args.i c.requires.1 c.requires.0 c.requires.2 c.requires.3 c.requires.4 in (
+    let q = and_right (text_as_above 0 r) _ b in
+    let x = text-right g t w c.args.start.now c.args.mark.now c.args.i c.requires.1 c.requires.0 c.requires.2 c.requires.3 c.requires.4 in (
       λ f. absurd (true≢false f),
       λ f. (
-        q ∙ and_left (text_as_above 0 r) _ b,
+        x ∙ and_left (text_as_above 0 r) _ b,
         slot-marked g t w c.args.start.now c.args.mark.now c.args.i c.requires.1 c.requires.0 c.requires.2 c.requires.3 c.requires.4
-            c.two_of-h.result c.wide16.result c.two_of-h.ensures.0 c.two_of-p.result c.two_of-p.ensures.0 (and_right (text_as_above 0 r) _ b) c.wide16.ensures.0 c.if-mark-s-ne0.false,
+            c.two_of-h.result c.from.result c.two_of-h.ensures.0 c.two_of-p.result c.two_of-p.ensures.0 q
+            c.from.ensures c.if-mark-s-ne0.false,
       ),
     )

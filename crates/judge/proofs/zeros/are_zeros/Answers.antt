@@ -5,7 +5,7 @@ use Rattle.judge_laws.proofs.Shapes.{zeros-not, zeros-next}
 use Rattle.judge.proofs.zeros.are_zeros.Goals as goal
 
 pub loop-m-init : goal.loop-m-init
-loop-m-init c = (c.count_zeros-m.ensures.1, omega arith)
+loop-m-init c = c.count_zeros-m.ensures.1
 
 pub returns-then-byte_of-ne0 : goal.returns-then-byte_of-ne0
 returns-then-byte_of-ne0 c =
@@ -14,10 +14,9 @@ returns-then-byte_of-ne0 c =
 
 pub loop-m-preserved : goal.loop-m-preserved
 loop-m-preserved c =
-    let a = c.args in
-    (zeros-next a.j c.loop-m.m (rec a.t.now a.i) c.loop-m.invariant.0 (sym c.byte_of.ensures.0 ∙ c.if-byte_of-ne0.false), omega arith)
+    zeros-next c.args.j c.loop-m.m (rec c.args.t.now c.args.i) c.loop-m.invariant (sym c.byte_of.ensures.0 ∙ c.if-byte_of-ne0.false)
 
 pub returns : goal.returns
 returns c =
     let e : c.loop-m.m ≡ c.args.n = omega arith in
-    sym (rw e at c.loop-m.invariant.0)
+    sym (rw e at c.loop-m.invariant)

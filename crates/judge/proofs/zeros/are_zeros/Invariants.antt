@@ -2,13 +2,9 @@
 -- Where none is left to pass, the test passes.
 use mathlib.Core.Bool.{true}
 use mathlib.Core.Path.{◌≡◌}
-use Prim.Native.Nat.{◌-◌, ◌≤◌}
 use Rattle.paper.specs.Record.{zeros}
 use Rattle.paper.specs.Table.{rec}
 use Rattle.judge.proofs.zeros.are_zeros.Given as goal
 
 abbrev pub invariant-loop-m : goal.invariant-loop-m
-invariant-loop-m l = (zeros l.j l.m (rec l.t l.i) ≡ true) × (l.m ≤ l.n)
-
-abbrev pub decreases-loop-m : goal.decreases-loop-m
-decreases-loop-m l = l.n - l.m
+invariant-loop-m l = zeros l.j l.m (rec l.t l.i) ≡ true

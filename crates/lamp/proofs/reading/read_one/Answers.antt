@@ -1,24 +1,11 @@
 -- The array has as much of the line as the box reads and one byte more, and a longer line gets the same answer.
 -- So the request is the reading of the sheet, with no text and no store to make.
-use mathlib.Core.Path.{sym}
-use native.Mathlib.Omega.{arith}
-use lib.Seq.{length-take-le}
 use Rattle.job.specs.Reading.{rds_line}
 use Rattle.lamp.proofs.Turns.{keeps-read}
 use Rattle.lamp.proofs.reading.read_one.Goals as goal
-
-pub slice_bounds-line-end : goal.slice_bounds-line-end
-slice_bounds-line-end c =
-    let h = c.compose-n.ensures in
-    omega (arith, h.most, h.size)
-
-pub slice_bounds-request-end : goal.slice_bounds-request-end
-slice_bounds-request-end c =
-    let h = c.compose-n.ensures in
-    sym (length-take-le _ _ (omega (arith, h.most, h.size)))
 
 pub returns : goal.returns
 unfolding rds_line
 returns c =
     keeps-read c.args.table.now c.args.index.now c.args.chain.now c.args.back.now c.args.link.now _ c.args.user _ _ _ _
-    c.compose-n.ensures.bytes c.request.ensures
+    c.compose-line.ensures c.request.ensures

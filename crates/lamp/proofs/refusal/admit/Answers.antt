@@ -1,30 +1,58 @@
 -- Each refusal is tried over all sheets; the first that some sheet has is given, with that sheet,
 -- and where none has any the job passes.
-use Rattle.lamp.proofs.Refusals.{refuses-one, refuses-two, refuses-three, refuses-four, refuses-none}
+use Rattle.std.proofs.Common.{rules}
+use Rattle.std.proofs.lemmas.Result.{err_from_is_err_and}
+use Rattle.job.specs.Refusal.{malformed, twice, too_long}
+use Rattle.lamp.proofs.Refusals.{in-order}
 use Rattle.lamp.proofs.refusal.admit.Goals as goal
 
-pub returns-then-malformed-ne0 : goal.returns-then-malformed-ne0
-returns-then-malformed-ne0 c =
-    refuses-one c.args.sheets.now c.args.texts.now c.args.back.now _ c.first_wrong-malformed.ensures c.if-malformed-ne0.true
+pub returns-in_err-refuse : goal.returns-in_err-refuse
+returns-in_err-refuse c =
+    let s = c.args in
+    let p = err_from_is_err_and c.from_residual.result c.from_residual.ensures.1 in
+    let one = c.first_wrong.ensures (malformed s.sheets.now) (λ i b l q. search rules) in
+    rw (p.1, p.2, in-order s.sheets.now s.texts.now s.back.now, ← one, ← c.in_err-refuse.ensures)
 
-pub returns-then-twice-ne0 : goal.returns-then-twice-ne0
-returns-then-twice-ne0 c =
-    refuses-two c.args.sheets.now c.args.texts.now c.args.back.now _ c.first_wrong-malformed.ensures c.if-malformed-ne0.false
-    _ c.first_wrong-twice.ensures c.if-twice-ne0.true
+pub returns-in_err-refuse-2 : goal.returns-in_err-refuse-2
+returns-in_err-refuse-2 c =
+    let s = c.args in
+    let p = err_from_is_err_and c.from_residual-in_err-refuse-2.result c.from_residual-in_err-refuse-2.ensures.1 in
+    let one = c.first_wrong.ensures (malformed s.sheets.now) (λ i b l q. search rules) in
+    let two = c.first_wrong-2.ensures (twice s.sheets.now) (λ i b l q. search rules) in
+    rw (p.1, p.2, in-order s.sheets.now s.texts.now s.back.now, ← one, ← c.in_ok-refuse.ensures, ← two, ← c.in_err-refuse-2.ensures)
 
-pub returns-then-missing-ne0 : goal.returns-then-missing-ne0
-returns-then-missing-ne0 c =
-    refuses-three c.args.sheets.now c.args.texts.now c.args.back.now _ c.first_wrong-malformed.ensures c.if-malformed-ne0.false
-    _ c.first_wrong-twice.ensures c.if-twice-ne0.false _ c.first_missing-missing.ensures c.if-missing-ne0.true
-
-pub returns-then-too_long-ne0 : goal.returns-then-too_long-ne0
-returns-then-too_long-ne0 c =
-    refuses-four c.args.sheets.now c.args.texts.now c.args.back.now _ c.first_wrong-malformed.ensures c.if-malformed-ne0.false
-    _ c.first_wrong-twice.ensures c.if-twice-ne0.false _ c.first_missing-missing.ensures c.if-missing-ne0.false
-    _ c.first_wrong-too_long.ensures c.if-too_long-ne0.true
+pub returns-in_err-refuse-3 : goal.returns-in_err-refuse-3
+returns-in_err-refuse-3 c =
+    let s = c.args in
+    let p = err_from_is_err_and c.from_residual-in_err-refuse-3.result c.from_residual-in_err-refuse-3.ensures.1 in
+    let one = c.first_wrong.ensures (malformed s.sheets.now) (λ i b l q. search rules) in
+    let two = c.first_wrong-2.ensures (twice s.sheets.now) (λ i b l q. search rules) in
+    rw (
+      p.1,
+      p.2,
+      in-order s.sheets.now s.texts.now s.back.now,
+      ← one,
+      ← c.in_ok-refuse.ensures,
+      ← two,
+      ← c.in_ok-refuse-2.ensures,
+      ← c.first_missing.ensures,
+      ← c.in_err-refuse-3.ensures,
+    )
 
 pub returns : goal.returns
 returns c =
-    refuses-none c.args.sheets.now c.args.texts.now c.args.back.now _ c.first_wrong-malformed.ensures c.if-malformed-ne0.false
-    _ c.first_wrong-twice.ensures c.if-twice-ne0.false _ c.first_missing-missing.ensures c.if-missing-ne0.false
-    _ c.first_wrong-too_long.ensures c.if-too_long-ne0.false
+    let s = c.args in
+    let one = c.first_wrong.ensures (malformed s.sheets.now) (λ i b l q. search rules) in
+    let two = c.first_wrong-2.ensures (twice s.sheets.now) (λ i b l q. search rules) in
+    let four = c.first_wrong-3.ensures (too_long s.sheets.now s.back.now) (λ i b l q. search rules) in
+    rw (
+      in-order s.sheets.now s.texts.now s.back.now,
+      ← one,
+      ← c.in_ok-refuse.ensures,
+      ← two,
+      ← c.in_ok-refuse-2.ensures,
+      ← c.first_missing.ensures,
+      ← c.in_ok-refuse-3.ensures,
+      ← four,
+      ← c.refuse-4.ensures,
+    )

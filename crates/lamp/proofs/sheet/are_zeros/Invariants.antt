@@ -2,13 +2,9 @@
 -- The measure is what is left to look at.
 use mathlib.Core.Bool.{true}
 use mathlib.Core.Path.{◌≡◌}
-use Prim.Native.Nat.{◌≤◌, ◌<◌, ◌-◌}
 use Rattle.paper.specs.Record.{zeros}
 use Rattle.paper.specs.Table.{rec}
 use Rattle.lamp.proofs.sheet.are_zeros.Given as goal
 
 abbrev pub invariant-loop-m : goal.invariant-loop-m
-invariant-loop-m l = (zeros l.place l.m (rec l.sheets l.i) ≡ true) × (l.m ≤ l.n) × (l.place < 32) × (l.n < 33)
-
-abbrev pub decreases-loop-m : goal.decreases-loop-m
-decreases-loop-m l = l.n - l.m
+invariant-loop-m l = (zeros l.place l.m (rec l.sheets l.i) ≡ true)

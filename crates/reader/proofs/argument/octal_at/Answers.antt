@@ -9,27 +9,15 @@ use Rattle.words.proofs.Words.{word-names}
 use Rattle.reader.proofs.Numbers.{octal-lone}
 use Rattle.reader.proofs.argument.octal_at.Goals as goal
 
-pub count_words-requires : goal.count_words-requires
-count_words-requires c = tt
-
 pub returns-then-count_words-k : goal.returns-then-count_words-k
 unfolding octal_at
 returns-then-count_words-k c =
     let args = c.args in
     rw (le-ltb args.k (length (words args.line.now)) (rw (← c.count_words.ensures) c.if-count_words-k.true))
 
-pub word_at-requires : goal.word_at-requires
-word_at-requires c = tt
-
-pub lone_word-requires : goal.lone_word-requires
-lone_word-requires c = tt
-
-pub octal_of-requires : goal.octal_of-requires
-octal_of-requires c = tt
-
-pub returns : goal.returns
+pub returns-else-count_words-k : goal.returns-else-count_words-k
 unfolding octal_at
-returns c =
+returns-else-count_words-k c =
     let args = c.args in
     let line = args.line.now in
     rw (lt-ltb args.k (length (words line)) (rw (← c.count_words.ensures) c.if-count_words-k.false))

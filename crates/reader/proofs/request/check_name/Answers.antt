@@ -2,30 +2,6 @@
 -- is called is the one that it has.
 use Rattle.reader.proofs.request.check_name.Goals as goal
 
-pub check_chain-requires : goal.check_chain-requires
-check_chain-requires c = tt
-
-pub check_start-requires : goal.check_start-requires
-check_start-requires c = tt
-
-pub is_take-requires : goal.is_take-requires
-is_take-requires c = tt
-
-pub check_start-requires-in-IllegalTake : goal.check_start-requires-in-IllegalTake
-check_start-requires-in-IllegalTake c = tt
-
-pub is_take_within-requires : goal.is_take_within-requires
-is_take_within-requires c = tt
-
-pub check_start-requires-in-IllegalTakeWithin : goal.check_start-requires-in-IllegalTakeWithin
-check_start-requires-in-IllegalTakeWithin c = tt
-
-pub is_give-requires : goal.is_give-requires
-is_give-requires c = tt
-
-pub check_start-requires-in-IllegalGive : goal.check_start-requires-in-IllegalGive
-check_start-requires-in-IllegalGive c = tt
-
 pub returns-in-Malformed : goal.returns-in-Malformed
 returns-in-Malformed c = rw c.in-Malformed.is c.check_chain.ensures
 

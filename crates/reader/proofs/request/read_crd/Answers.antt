@@ -1,52 +1,32 @@
 -- The count and the names come first, then the declaration;
 -- what is granted has the parts of the declaration that is taken.
-use mathlib.Core.Path.{sym, ◌∙◌}
 use mathlib.Core.List.{◌∷◌}
 use Rattle.paper.specs.Declaration.{fit_crd}
 use Rattle.paper.specs.Line.{word}
 use Rattle.paper.specs.Request.{crd, miscounted, misnamed, declared_at, parts_at, read_crd}
-use Rattle.reader.proofs.Verdicts.{form-refused, form-unfit, form-fit}
+use Rattle.reader.proofs.Verdicts.{form-refused, form-unfit, form-fit, exits}
 use Rattle.reader.proofs.request.read_crd.Goals as goal
 
-pub check_form-requires : goal.check_form-requires
-check_form-requires c = tt
-
-pub returns-in-Refused : goal.returns-in-Refused
+pub returns-in_err-check_form : goal.returns-in_err-check_form
 unfolding read_crd
-returns-in-Refused c =
+returns-in_err-check_form c =
     let line = c.args.line.now in
-    let r = crd (word line 1) (parts_at line 2).level (parts_at line 2).code in
-    let cs = miscounted 1 2 line ∷ misnamed 1 2 line in
-    sym (form-refused r cs 2 fit_crd (declared_at line 2) _ c.check_form.ensures _ c.in-Refused.is)
+    exits _ _ c.from_residual.ensures.1
+    (form-refused _ (miscounted 1 2 line ∷ misnamed 1 2 line) 2 fit_crd (declared_at line 2) c.in_err-check_form.ensures)
 
-pub declared_at-requires : goal.declared_at-requires
-declared_at-requires c = tt
-
-pub taken_by_crd-requires : goal.taken_by_crd-requires
-taken_by_crd-requires c = tt
-
-pub unfit_at-requires : goal.unfit_at-requires
-unfit_at-requires c = tt
-
-pub returns-in_default-taken_by_crd : goal.returns-in_default-taken_by_crd
+pub returns-in_default : goal.returns-in_default
 unfolding read_crd
-returns-in_default-taken_by_crd c =
+returns-in_default c =
     let line = c.args.line.now in
-    let r = crd (word line 1) (parts_at line 2).level (parts_at line 2).code in
-    let cs = miscounted 1 2 line ∷ misnamed 1 2 line in
-    c.unfit_at.ensures
-    ∙ sym (form-unfit r cs 2 fit_crd (declared_at line 2) _ c.check_form.ensures c.in_default.is _ _
-    c.declared_at.ensures c.taken_by_crd.ensures c.in_default-taken_by_crd.is)
-
-pub word_at-requires : goal.word_at-requires
-word_at-requires c = tt
+    let h = rw c.declared_at.ensures at c.in_default.ensures in
+    rw c.whole.ensures
+    (form-unfit _ (miscounted 1 2 line ∷ misnamed 1 2 line) 2 fit_crd (declared_at line 2) _ c.in_ok-check_form.ensures h)
 
 pub returns : goal.returns
 unfolding read_crd
 returns c =
     let line = c.args.line.now in
+    let h = rw c.declared_at.ensures at c.in-Some.ensures in
     let r = crd (word line 1) (parts_at line 2).level (parts_at line 2).code in
-    let cs = miscounted 1 2 line ∷ misnamed 1 2 line in
-    let t = form-fit r cs 2 fit_crd (declared_at line 2) _ c.check_form.ensures c.in_default.is _ _
-    c.declared_at.ensures c.taken_by_crd.ensures _ c.in-Right.is in
-    rw (c.word_at.ensures, t.1) (sym t.0)
+    let t = form-fit r (miscounted 1 2 line ∷ misnamed 1 2 line) 2 fit_crd (declared_at line 2) _ c.in_ok-check_form.ensures _ h in
+    rw (c.word_at.ensures, t.1) t.0

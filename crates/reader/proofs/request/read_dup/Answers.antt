@@ -1,65 +1,32 @@
 -- The count and the names come first, then the declaration; the names are words 1 and 2, found by their places,
 -- and what is granted has the parts of the declaration that is taken.
-use mathlib.Core.Path.{sym, ap, ◌∙◌}
 use Rattle.paper.specs.Declaration.{fit_dup}
-use Rattle.paper.specs.Line.{Word, word}
-use Rattle.paper.specs.Request.{dup, old_from, new_to, declared_at, parts_at, read_dup}
-use Rattle.words.specs.Shown.{begin_shown}
-use Rattle.words.proofs.Words.{word-here}
-use Rattle.reader.specs.declared.request.Fault.TheVariants as faults
-use Rattle.reader.proofs.Verdicts.{both-form, form-refused, form-unfit, form-fit}
+use Rattle.paper.specs.Line.{word}
+use Rattle.paper.specs.Request.{dup, old_from, new_to, parts_at, read_dup}
+use Rattle.reader.specs.declared.request.Fault.TheVariants.{IllegalTakeWithin, IllegalGive}
+use Rattle.reader.proofs.Verdicts.{both-refused, both-unfit, both-fit, exits}
+use Rattle.reader.proofs.Functions.{from-word, to-word}
 use Rattle.reader.proofs.request.read_dup.Goals as goal
 
-pub word_at-old-requires : goal.word_at-old-requires
-word_at-old-requires c = tt
-
-pub word_at-new-requires : goal.word_at-new-requires
-word_at-new-requires c = tt
-
-pub check_both-form-requires : goal.check_both-form-requires
-check_both-form-requires c = tt
-
-pub returns-in-Refused : goal.returns-in-Refused
+pub returns-in_err-check_both : goal.returns-in_err-check_both
 unfolding read_dup
-returns-in-Refused c =
-    let line = c.args.line.now in
-    let r = dup (old_from (word line 1)) (word line 1) (new_to (word line 2)) (word line 2) (parts_at line 3).code in
-    let e = both-form line faults.IllegalTakeWithin faults.IllegalGive _ _ _ c.word_at-old.ensures c.word_at-new.ensures c.check_both-form.ensures in
-    sym (form-refused r _ 3 fit_dup (declared_at line 3) _ e _ c.in-Refused.is)
+returns-in_err-check_both c =
+    exits _ _ c.from_residual.ensures.1
+    (both-refused _ IllegalTakeWithin IllegalGive fit_dup c.args.line.now _ _ c.word_at-old.ensures c.word_at-new.ensures c.in_err-check_both.ensures)
 
-pub declared_at-requires : goal.declared_at-requires
-declared_at-requires c = tt
-
-pub taken_by_dup-requires : goal.taken_by_dup-requires
-taken_by_dup-requires c = tt
-
-pub unfit_at-requires : goal.unfit_at-requires
-unfit_at-requires c = tt
-
-pub returns-in_default-taken_by_dup : goal.returns-in_default-taken_by_dup
+pub returns-in_default : goal.returns-in_default
 unfolding read_dup
-returns-in_default-taken_by_dup c =
-    let line = c.args.line.now in
-    let r = dup (old_from (word line 1)) (word line 1) (new_to (word line 2)) (word line 2) (parts_at line 3).code in
-    let e = both-form line faults.IllegalTakeWithin faults.IllegalGive _ _ _ c.word_at-old.ensures c.word_at-new.ensures c.check_both-form.ensures in
-    c.unfit_at.ensures
-    ∙ sym (form-unfit r _ 3 fit_dup (declared_at line 3) _ e c.in_default.is _ _
-    c.declared_at.ensures c.taken_by_dup.ensures c.in_default-taken_by_dup.is)
-
-pub old_from-requires : goal.old_from-requires
-old_from-requires c = tt
-
-pub new_to-requires : goal.new_to-requires
-new_to-requires c = tt
+returns-in_default c =
+    let h = rw c.declared_at.ensures at c.in_default.ensures in
+    rw c.whole.ensures
+    (both-unfit _ IllegalTakeWithin IllegalGive fit_dup c.args.line.now _ _ c.word_at-old.ensures c.word_at-new.ensures _ c.in_ok-check_both.ensures h)
 
 pub returns : goal.returns
 unfolding read_dup
 returns c =
     let line = c.args.line.now in
     let r = dup (old_from (word line 1)) (word line 1) (new_to (word line 2)) (word line 2) (parts_at line 3).code in
-    let e = both-form line faults.IllegalTakeWithin faults.IllegalGive _ _ _ c.word_at-old.ensures c.word_at-new.ensures c.check_both-form.ensures in
-    let t = form-fit r _ 3 fit_dup (declared_at line 3) _ e c.in_default.is _ _
-    c.declared_at.ensures c.taken_by_dup.ensures _ c.in-Right.is in
-    let from = c.old_from.ensures ∙ ap (λ (w : Word). begin_shown (old_from w)) (word-here line 1 _ c.word_at-old.ensures) in
-    let to = c.new_to.ensures ∙ ap (λ (w : Word). begin_shown (new_to w)) (word-here line 2 _ c.word_at-new.ensures) in
-    rw (from, to, c.word_at-new.ensures, c.word_at-old.ensures, t.1) (sym t.0)
+    let h = rw c.declared_at.ensures at c.in-Some.ensures in
+    let t = both-fit r IllegalTakeWithin IllegalGive fit_dup line _ _ c.word_at-old.ensures c.word_at-new.ensures _ c.in_ok-check_both.ensures _ h in
+    let from = from-word line _ _ c.word_at-old.ensures c.old_from.ensures in
+    rw (from, to-word line _ _ c.word_at-new.ensures c.new_to.ensures, c.word_at-new.ensures, c.word_at-old.ensures, t.1) t.0

@@ -1,37 +1,56 @@
--- A lone point is known by its place,
--- and decides which of the two is read.
-use mathlib.Core.List.{[]}
-use mathlib.Core.Path.{◌∙◌}
+-- A lone point is known by its place, and decides which checks come first; then comes the digit: its number goes
+-- into the request, and where there is none the answer is 9.
 use Rattle.paper.specs.Request.{read_tree}
-use Rattle.reader.specs.Asked.{tree_name, tree_base}
-use Rattle.reader.proofs.Functions.{word-lone}
+use Rattle.words.proofs.Words.{word-names}
+use Rattle.reader.proofs.Verdicts.{read-refused, read-passed, old-form, needed-ok, needed-err, exits}
+use Rattle.reader.proofs.Functions.{lone-point, from-word}
 use Rattle.reader.proofs.request.read_tree.Goals as goal
 
-pub word_at-requires : goal.word_at-requires
-word_at-requires c = tt
+pub returns-in_err-check_count : goal.returns-in_err-check_count
+unfolding read_tree
+returns-in_err-check_count c =
+    let line = c.args.line.now in
+    let f = lone-point line _ _ _ c.word_at-p.ensures c.lone_word.ensures c.if-are_same.ensures in
+    rw f (exits _ _ c.from_residual.ensures.1 (read-refused _ _ c.in_err-check_count.ensures))
 
-pub lone_word-requires : goal.lone_word-requires
-lone_word-requires c = tt
-
-pub are_same-requires : goal.are_same-requires
-are_same-requires c = tt
-
-pub read_tree_base-requires : goal.read_tree_base-requires
-read_tree_base-requires c = tt
+pub returns-in_err-depth : goal.returns-in_err-depth
+unfolding read_tree
+returns-in_err-depth c =
+    let line = c.args.line.now in
+    let f = lone-point line _ _ _ c.word_at-p.ensures c.lone_word.ensures c.if-are_same.ensures in
+    let d = rw (c.depth_at.ensures, c.word_at.ensures, ← word-names line 2, c.whole.ensures) at c.in_err-depth.ensures.value in
+    rw f (exits _ _ c.from_residual-in_err-depth.ensures.1 (read-passed _ _ c.in_ok-check_count.ensures (needed-err _ _ _ _ d)))
 
 pub returns-then-are_same : goal.returns-then-are_same
-unfolding read_tree tree_base
+unfolding read_tree
 returns-then-are_same c =
     let line = c.args.line.now in
-    let f = word-lone line 1 _ c.word_at.ensures _ c.lone_word.ensures 46 [] _ c.are_same.ensures ∙ c.if-are_same.true in
-    rw f c.read_tree_base.ensures
+    let f = lone-point line _ _ _ c.word_at-p.ensures c.lone_word.ensures c.if-are_same.ensures in
+    let d = rw (c.depth_at.ensures, c.word_at.ensures, ← word-names line 2) at c.in_ok-depth.ensures.value in
+    rw f (read-passed _ _ c.in_ok-check_count.ensures (needed-ok _ _ _ _ _ d))
 
-pub read_tree_name-requires : goal.read_tree_name-requires
-read_tree_name-requires c = tt
+pub returns-in_err-check_old : goal.returns-in_err-check_old
+unfolding read_tree
+returns-in_err-check_old c =
+    let line = c.args.line.now in
+    let f = lone-point line _ _ _ c.word_at-p.ensures c.lone_word.ensures c.if-are_same.ensures in
+    let e = old-form 2 2 line _ _ c.word_at-p.ensures c.in_err-check_old.ensures in
+    rw f (exits _ _ c.from_residual-in_err-check_old.ensures.1 (read-refused _ _ e))
+
+pub returns-in_err-depth-2 : goal.returns-in_err-depth-2
+unfolding read_tree
+returns-in_err-depth-2 c =
+    let line = c.args.line.now in
+    let f = lone-point line _ _ _ c.word_at-p.ensures c.lone_word.ensures c.if-are_same.ensures in
+    let e = old-form 2 2 line _ _ c.word_at-p.ensures c.in_ok-check_old.ensures in
+    let d = rw (c.depth_at-2.ensures, c.word_at-2.ensures, ← word-names line 2, c.whole-2.ensures) at c.in_err-depth-2.ensures.value in
+    rw f (exits _ _ c.from_residual-in_err-depth-2.ensures.1 (read-passed _ _ e (needed-err _ _ _ _ d)))
 
 pub returns : goal.returns
-unfolding read_tree tree_name
+unfolding read_tree
 returns c =
     let line = c.args.line.now in
-    let f = word-lone line 1 _ c.word_at.ensures _ c.lone_word.ensures 46 [] _ c.are_same.ensures ∙ c.if-are_same.false in
-    rw f c.read_tree_name.ensures
+    let f = lone-point line _ _ _ c.word_at-p.ensures c.lone_word.ensures c.if-are_same.ensures in
+    let e = old-form 2 2 line _ _ c.word_at-p.ensures c.in_ok-check_old.ensures in
+    let d = rw (c.depth_at-2.ensures, c.word_at-2.ensures, ← word-names line 2) at c.in_ok-depth-2.ensures.value in
+    rw (f, from-word line _ _ c.word_at-p.ensures c.old_from.ensures, c.word_at-p.ensures) (read-passed _ _ e (needed-ok _ _ _ _ _ d))

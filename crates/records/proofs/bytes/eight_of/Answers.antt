@@ -10,4 +10,4 @@ pub returns-then-place-ge-SIZE : goal.returns-then-place-ge-SIZE
 returns-then-place-ge-SIZE c = sym (record-past 8 _ _ _ (omega arith))
 
 pub returns : goal.returns
-returns c = rw (number-halves, ← c.four_of-low.ensures, ← c.four_of-high.ensures)
+returns c = rw (c.from-low.ensures, c.from-high.ensures, number-halves, ← c.four_of.ensures, ← c.four_of-2.ensures)

@@ -10,4 +10,4 @@ pub returns-then-place-ge-SIZE : goal.returns-then-place-ge-SIZE
 returns-then-place-ge-SIZE c = sym (record-past 4 _ _ _ (omega arith))
 
 pub returns : goal.returns
-returns c = rw (number-four, ← c.two_of-low.ensures, ← c.two_of-high.ensures)
+returns c = rw (c.from-low.ensures, c.from-high.ensures, number-four, ← c.two_of.ensures, ← c.two_of-2.ensures)

@@ -9,4 +9,4 @@ pub returns-then-place-ge-SIZE : goal.returns-then-place-ge-SIZE
 returns-then-place-ge-SIZE c = sym (record-past 3 _ _ _ (omega arith))
 
 pub returns : goal.returns
-returns c = rw (number_more, ← c.byte_of-low.ensures, ← c.two_of-rest.ensures)
+returns c = rw (c.from-low.ensures, c.from-rest.ensures, number_more, ← c.byte_of.ensures, ← c.two_of.ensures)

@@ -10,4 +10,4 @@ pub returns-then-place-ge-SIZE : goal.returns-then-place-ge-SIZE
 returns-then-place-ge-SIZE c = sym (record-past 2 _ _ _ (omega arith))
 
 pub returns : goal.returns
-returns c = rw (number-two, ← c.byte_of-low.ensures, ← c.byte_of-high.ensures)
+returns c = rw (c.from_le_bytes.ensures, number-two, ← c.byte_of-low.ensures, ← c.byte_of-high.ensures)

@@ -1,18 +1,9 @@
-use mathlib.Core.Path.{refl}
-use native.Mathlib.Omega.{arith}
-use lib.ListN.{length-set}
-use Rattle.records.proofs.Packed.{bytes-turn, bytes-end}
+-- The library's bytes of a number are the paper's:
+-- dividing by 256 again and again is dividing once by its powers.
+use native.Mathlib.Nat.{div-div-eq-div-mul}
+use Rattle.paper.specs.Number.{bytes_of}
 use Rattle.records.proofs.packing.bytes_of.Goals as goal
 
-pub loop-j-init : goal.loop-j-init
-loop-j-init c = (refl, refl, omega arith)
-
-pub loop-j-preserved : goal.loop-j-preserved
-loop-j-preserved c =
-    let v = c.loop-j in
-    (bytes-turn v.r _ v.rest v.j v.invariant.1 v.invariant.0 (omega arith), rw length-set v.invariant.1, omega arith)
-
 pub returns : goal.returns
-returns c =
-    let v = c.loop-j in
-    bytes-end v.r _ v.rest v.j v.invariant.1 v.invariant.0 (omega arith)
+unfolding bytes_of
+returns c = simp div-div-eq-div-mul c.to_le_bytes.ensures

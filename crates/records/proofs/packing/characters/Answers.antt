@@ -8,7 +8,7 @@ use Rattle.records.proofs.packing.characters.Goals as goal
 
 pub loop-k-init : goal.loop-k-init
 unfolding characters
-loop-k-init c = (refl, sym (div-one _), refl, omega arith)
+loop-k-init c = (refl, sym (div-one _), refl)
 
 pub overflow_add-r : goal.overflow_add-r
 overflow_add-r c = omega (arith, c.last_code.ensures.1)
@@ -21,7 +21,6 @@ loop-k-preserved c =
       characters-turn v.r x v.rest v.k (omega arith) (omega arith) v.invariant.1 d.result v.invariant.2 d.ensures.0 v.invariant.0,
       c.shifted_out-rest.ensures ∙ rest-turn v.r x v.rest v.k (omega arith) (omega arith) v.invariant.1,
       rw length-set v.invariant.2,
-      omega arith,
     )
 
 pub returns : goal.returns

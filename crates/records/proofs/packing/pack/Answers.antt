@@ -7,7 +7,7 @@ use Rattle.records.proofs.Packed.{pack-turn, pack-fits, pack-room, pack-end}
 use Rattle.records.proofs.packing.pack.Goals as goal
 
 pub loop-j-init : goal.loop-j-init
-loop-j-init c = (omega arith, omega arith, omega arith)
+loop-j-init c = (omega arith, omega arith)
 
 pub shifted_in-x-requires : goal.shifted_in-x-requires
 shifted_in-x-requires c =
@@ -23,7 +23,6 @@ loop-j-preserved c =
       rw c.shifted_in-x.ensures
           (pack-turn a.name.now v.x o.result _ v.j (omega arith) (o.ensures.0 ∙ ap (λ (z : ℕ). code_of z) b.ensures) v.invariant.0),
       rw c.shifted_in-x.ensures (pack-fits v.x o.result v.j v.invariant.1 o.ensures.1),
-      omega arith,
     )
 
 pub returns : goal.returns

@@ -6,7 +6,7 @@ use Rattle.records.proofs.packing.unpack.Goals as goal
 pub returns : goal.returns
 returns c =
     let x = c.args.x in (
-      rw (c.characters-characters.ensures, c.unpacked_length-length.ensures.0) (unpacked-first x),
-      c.unpacked_length-length.ensures.1,
-      rw c.characters-characters.ensures (length-characters 10 x),
+      rw (c.characters.ensures, c.unpacked_length.ensures.0) (unpacked-first x),
+      c.unpacked_length.ensures.1,
+      rw c.characters.ensures (length-characters 10 x),
     )

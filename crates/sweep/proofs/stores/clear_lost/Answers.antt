@@ -13,6 +13,7 @@ returns c =
     let t = c.args.table.now in
     let e : rooms c.clear_marked-entries.new.table ≡ rooms t = omega arith in
     let f : rooms c.clear_marked-headings.new.table ≡ rooms t = omega arith in (
-      counted-both _ _ _ _ _ _ _ _ _ c.clear_marked-entries.ensures.0 (counted-both _ _ _ _ _ _ _ _ _ (rw e at c.clear_marked-headings.ensures.0) (rw f at c.clear_marked.ensures.0)),
+      counted-both _ _ _ _ _ _ _ _ _ c.clear_marked-entries.ensures.0
+          (counted-both _ _ _ _ _ _ _ _ _ (rw e at c.clear_marked-headings.ensures.0) (rw f at c.clear_marked.ensures.0)),
       omega arith,
     )

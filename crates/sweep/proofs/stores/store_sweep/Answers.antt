@@ -6,4 +6,4 @@ use Rattle.sweep.proofs.stores.store_sweep.Goals as goal
 pub returns : goal.returns
 returns c =
     let r = c.clear_and_correct.ensures in
-    (rw (stores-by-marks c.args.table.now c.mark_lost.new.lost c.mark_lost.ensures) at r.0, r.1)
+    (rw (stores-by-marks c.args.table.now c.mark_lost.new.reached.queue c.mark_lost.ensures) at r.0, r.1)

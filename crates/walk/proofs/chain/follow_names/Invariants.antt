@@ -10,7 +10,9 @@ use Rattle.walk.specs.Shown.{meant}
 use Rattle.walk.proofs.chain.follow_names.Given as goal
 
 abbrev pub invariant-loop-q : goal.invariant-loop-q
-invariant-loop-q l = (to_directory boxed l.table l.k (meant l.state) (names_from l.line l.i) ≡ to_directory boxed l.table l.link (meant l.initial.state) (names_from l.line l.p)) × (l.k ≤ l.i + 2)
+invariant-loop-q l =
+    let whole = to_directory boxed l.table l.link (meant l.initial.state) (names_from l.line l.p) in
+    (to_directory boxed l.table l.k (meant l.state) (names_from l.line l.i) ≡ whole) × (l.k ≤ l.i + 2)
 
 abbrev pub decreases-loop-q : goal.decreases-loop-q
 decreases-loop-q l = length l.line - l.i

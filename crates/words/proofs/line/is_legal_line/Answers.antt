@@ -1,21 +1,15 @@
--- A line of at most 256 bytes is legal where the reach of
--- its class ends at the end, as `all-reach` says.
-use lib.ListN.{length}
-use borrow.Author.Tests.{le-leb, lt-leb}
-use Rattle.paper.specs.Line.{in_line, legal_line}
-use Rattle.words.proofs.Reaches.{all-reach}
+-- The length is tested,
+-- then every byte is of the class.
 use native.Mathlib.Omega.{arith}
+use Rattle.std.proofs.Common.{rules}
+use Rattle.std.proofs.lemmas.Iterator.{YieldsList-from_slice}
+use Rattle.std.proofs.lemmas.Iterator.Search.{all_from_yields_List}
+use borrow.Author.Tests.{tests}
+use Rattle.paper.specs.Line.{in_line}
+use Rattle.words.proofs.Names.{line_tests}
 use Rattle.words.proofs.line.is_legal_line.Goals as goal
 
-pub end_of-requires : goal.end_of-requires
-end_of-requires c = tt
-
 pub returns-then-line-le-MOST : goal.returns-then-line-le-MOST
-unfolding legal_line
 returns-then-line-le-MOST c =
-    let line = c.args.line.now in
-    rw (le-leb (length line) 256 (omega arith), all-reach in_line line, c.end_of.ensures)
-
-pub returns : goal.returns
-unfolding legal_line
-returns c = rw (lt-leb (length c.args.line.now) 256 (omega arith))
+    let a = all_from_yields_List in_line _ _ c.all.result c.all.ensures.ran (YieldsList-from_slice c.args.line.now cc) (λ x b q k. search (rules, tests)) in
+    grind (arith, line_tests)

@@ -6,8 +6,8 @@ use lib.ListN.{length}
 use Rattle.words.specs.Place.{next_word}
 use Rattle.words.proofs.line.next_word.Given as goal
 
-abbrev pub invariant-loop-i : goal.invariant-loop-i
-invariant-loop-i l = next_word l.line l.i ≡ next_word l.line l.p
+abbrev pub invariant-loop-q : goal.invariant-loop-q
+invariant-loop-q l = next_word l.line l.i ≡ next_word l.line l.p
 
-abbrev pub decreases-loop-i : goal.decreases-loop-i
-decreases-loop-i l = length l.line - l.i
+abbrev pub decreases-loop-q : goal.decreases-loop-q
+decreases-loop-q l = length l.line - l.i

@@ -1,45 +1,26 @@
--- The length is tested, then the digits are all of their class where the reach
--- from the first of them ends at the end; the number is what they make.
+-- The length is tested, then every byte is an octal digit;
+-- the number is what they make.
 use mathlib.Core.Path.{sym, ◌∙◌}
-use lib.ListN.{length}
-use borrow.Author.Tests.{le-leb, lt-leb, eq-eqb, ne_eqb}
-use Rattle.paper.specs.Octal.{in_octal, digits}
-use Rattle.words.specs.Place.{reach}
-use Rattle.words.proofs.Reaches.{all-reach}
-use Rattle.words.proofs.Octals.{octal-six-digits}
 use native.Mathlib.Omega.{arith}
+use Rattle.std.proofs.Common.{rules}
+use Rattle.std.proofs.lemmas.Iterator.{YieldsList-from_slice}
+use Rattle.std.proofs.lemmas.Iterator.Search.{all_from_yields_List}
+use borrow.Author.Tests.{tests}
+use Rattle.paper.specs.Octal.{in_octal}
+use Rattle.words.proofs.Octals.{digits_tests, octal-six-digits}
 use Rattle.words.proofs.octal.digits_of.Goals as goal
 
-pub returns-then-n-lt1 : goal.returns-then-n-lt1
-unfolding digits
-returns-then-n-lt1 c = rw (lt-leb 1 (length c.args.n.now) (omega arith))
+pub number_of-requires : goal.number_of-requires
+number_of-requires c =
+    let a = all_from_yields_List in_octal _ _ c.all.result c.all.ensures.ran (YieldsList-from_slice c.args.n.now cc) (λ x b q k. search (rules, tests)) in
+    octal-six-digits c.args.n.now (sym a ∙ c.if-all.true) (omega arith)
 
-pub returns-then-n-gt-MOST_DIGITS : goal.returns-then-n-gt-MOST_DIGITS
-unfolding digits
-returns-then-n-gt-MOST_DIGITS c =
-    let n = c.args.n.now in
-    rw (le-leb 1 (length n) (omega arith), lt-leb (length n) 6 (omega arith))
+pub returns-in-1-to-6 : goal.returns-in-1-to-6
+returns-in-1-to-6 c =
+    let a = all_from_yields_List in_octal _ _ c.all.result c.all.ensures.ran (YieldsList-from_slice c.args.n.now cc) (λ x b q k. search (rules, tests)) in
+    grind (arith, digits_tests)
 
-pub end_of-requires : goal.end_of-requires
-end_of-requires c = tt
-
-pub returns-then-end_of-n : goal.returns-then-end_of-n
-unfolding digits
-returns-then-end_of-n c =
-    let n = c.args.n.now in
-    let e = c.end_of.ensures in
-    rw (le-leb 1 (length n) (omega arith), le-leb (length n) 6 (omega arith), all-reach in_octal n, ← e)
-    (rw (ne_eqb c.end_of.result (length n) c.if-end_of-n.true))
-
-pub number_from-requires : goal.number_from-requires
-number_from-requires c =
-    let n = c.args.n.now in
-    let e = all-reach in_octal n ∙ eq-eqb (reach in_octal n 0) (length n) (sym c.end_of.ensures ∙ c.if-end_of-n.false) in
-    octal-six-digits n e (omega arith)
-
-pub returns : goal.returns
-unfolding digits
-returns c =
-    let n = c.args.n.now in
-    let e = all-reach in_octal n ∙ eq-eqb (reach in_octal n 0) (length n) (sym c.end_of.ensures ∙ c.if-end_of-n.false) in
-    rw (le-leb 1 (length n) (omega arith), le-leb (length n) 6 (omega arith), e, c.number_from.ensures)
+pub returns-in_default-2 : goal.returns-in_default-2
+returns-in_default-2 c =
+    let a = all_from_yields_List in_octal _ _ c.all.result c.all.ensures.ran (YieldsList-from_slice c.args.n.now cc) (λ x b q k. search (rules, tests)) in
+    grind (arith, digits_tests)

@@ -1,31 +1,14 @@
--- A name is the four letters of LST* or of WRS*, or of another length and no function,
--- or of three letters and the function of these.
-use mathlib.Core.List.{List, [], ◌∷◌}
-use mathlib.Core.Path.{sym, ap, ◌∙◌}
-use Prim.Native.Nat.{ℕ}
-use Rattle.reader.specs.Asked.{function_of}
-use Rattle.reader.proofs.Functions.{letters, tree-letters, rewrite-letters, no-function}
+-- By its length and its letters a name is a function's or none's, which the check finds by the lemma `by_letters`
+-- but for a first letter that starts no name, and for a D that no name has before the next letter.
+use native.Mathlib.Omega.{arith}
+use Rattle.reader.proofs.Functions.{no_three, no_d, no_four}
 use Rattle.reader.proofs.function.Function.of.Goals as goal
 
-pub are_same-requires : goal.are_same-requires
-are_same-requires c = tt
+pub returns-in_default-14 : goal.returns-in_default-14
+returns-in_default-14 c = no_d c.args.name.now (omega arith) (omega arith) (omega arith) (omega arith) (omega arith) (omega arith)
 
-pub returns-then-are_same : goal.returns-then-are_same
-returns-then-are_same c = sym (tree-letters _ (sym c.are_same.ensures ∙ c.if-are_same.true))
+pub returns-in_default-17 : goal.returns-in_default-17
+returns-in_default-17 c = no_three c.args.name.now (omega arith) (omega arith) (omega arith) (omega arith) (omega arith) (omega arith)
 
-pub are_same-requires-2 : goal.are_same-requires-2
-are_same-requires-2 c = tt
-
-pub returns-then-are_same-2 : goal.returns-then-are_same-2
-returns-then-are_same-2 c = sym (rewrite-letters _ (sym c.are_same-2.ensures ∙ c.if-are_same-2.true))
-
-pub returns-then-name-ne-LETTERS : goal.returns-then-name-ne-LETTERS
-returns-then-name-ne-LETTERS c =
-    sym (no-function _ (sym c.are_same.ensures ∙ c.if-are_same.false) (sym c.are_same-2.ensures ∙ c.if-are_same-2.false) c.if-name-ne-LETTERS.true)
-
-pub of_letters-requires : goal.of_letters-requires
-of_letters-requires c = tt
-
-pub returns : goal.returns
-returns c =
-    c.of_letters.ensures ∙ ap (λ (n : List ℕ). function_of (n ∷ [])) (sym (letters _ c.if-name-ne-LETTERS.false))
+pub returns-in_default-24 : goal.returns-in_default-24
+returns-in_default-24 c = no_four c.args.name.now (omega arith) (omega arith) (omega arith)
