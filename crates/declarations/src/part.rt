@@ -8,6 +8,8 @@ use records::heading::Heading;
 // The number that a part gives, if it is given.
 pub type Part = Option<u8>;
 
+// Each part by a match on its byte: four alphabets.
+
 #[tactic(auto, unfolding(paper::specs::Declaration::type_letter))]
 pub(crate) fn kind_of(b: u8) -> Part
     ensures { result ≡ shown_part (type_letter b) }

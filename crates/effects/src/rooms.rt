@@ -8,7 +8,7 @@ use records::entry::Entry;
 use records::text::{Text, heading_of, position_of};
 use scans::next_free;
 
-// A record's number in two bytes.
+// A record's number in two bytes. A remainder, as its definition says: no conversion from `usize` takes every number.
 fn short(i: usize) -> u16
     ensures { result ≡ i % 65536 }
 {
@@ -68,8 +68,8 @@ fn place_text(
     left - 1
 }
 
-// The text records of a heading at the first positions, so many, and one past the last at the others; no record is read past those that
-// are found, and none of a table of no fit size.
+// The text records of a heading at the first positions, so many, and one past the last at the others, as in `text_rooms`; no record is read past
+// those that are found, and none of a table of no fit size.
 pub fn text_rooms(table: &[u8], heading: Room, most: Room, places: &mut [u16; Text::MOST])
     ensures { places.new ≡ text_rooms table.now heading.0 most.0 }
 {

@@ -15,7 +15,8 @@ use answers::{Answer, Place, Refusal};
 use walk::end::Ends;
 use words::line::next_word;
 
-// What is done to each name: DEL takes an entry out, DST every path to its file.
+// What is done to each name: DEL takes an entry out, DST every path to its file. An enum and no closure: its plan, its place and its request are
+// told apart by it too.
 #[derive(Clone, Copy)]
 pub(crate) enum Removal {
     Delete,

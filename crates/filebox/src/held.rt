@@ -21,7 +21,7 @@ pub(crate) struct Held {
     // how many bytes of the line are held, and what its first word is
     pub line: usize,
     pub stage: Stage,
-    // whether the line is ended and its text is being read, and how many bytes of the text are held
+    // whether the line is ended and its text is being read, and how many bytes of the text are held: 0 where it is not, so none is absent
     pub asked: bool,
     pub text: usize,
     // whether every answer was written

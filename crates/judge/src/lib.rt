@@ -31,8 +31,8 @@ use crate::twins::Buckets;
 use records::bytes::{Room, is_sized};
 use records::entry::Entry;
 
-// Whether a sized table is sound without the records that go, its counts judged or not. No user can have too many base files where there
-// are few in all.
+// Whether a sized table is sound without the records that go, its counts judged or not: a flag, which goes on to `sound_but` as it is. No
+// user can have too many base files where there are few in all.
 fn is_sound(table: &[u8], gone: &[u8; Room::MOST], counted: bool) -> bool
     requires { sized table.now ≡ true }
     ensures { result ≡ sound_but counted (without gone.now table.now) }

@@ -38,7 +38,8 @@ impl Codes {
 
     const Z: usize = b'Z' as usize - 32;
 
-    // The name of the number x: the blanks at its end are padding.
+    // The name of the number x: the blanks at its end are padding. A `while`: it ends at the first code that is no blank, and
+    // divides by its place in no list.
     fn without_blanks(x: usize) -> Codes
         requires { (0 < x) × (x < 2 ^ 60) }
         ensures { (spelled result.count result.value ≡ unpacked x) × (0 < result.count) × (result.count ≤ 10) }

@@ -32,6 +32,7 @@ pub struct Lost {
 #[derive(Clone, Copy)]
 pub struct Meets {
     pub room: Room,
+    // no value stands beside it: the record is the entry's or a free one
     pub displaced: bool,
     pub lost: Option<Lost>,
     pub moves: Moves,

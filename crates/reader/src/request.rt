@@ -460,7 +460,7 @@ fn read_dpr(line: &[u8]) -> Result<Request, Refusal>
     })
 }
 
-// DEL of so many names or, if it destroys, DST of them.
+// DEL of so many names or, if it destroys, DST of them. A flag as in `removing`: a closure that makes the request would need its relation to both.
 fn removal(destroys: bool, first: usize, count: usize) -> Request
     ensures { result ≡ removed destroys first count }
 {

@@ -166,7 +166,8 @@ fn put_lines(rt: &impl Print, text: &[u8]) -> io::Result<()> {
     Ok(())
 }
 
-// Reads until the buffer is full, the input ends or cannot be read: how many bytes were read.
+// Reads until the buffer is full, the input ends or cannot be read: how many bytes were read. A `while`: one read may bring
+// any part of what is left.
 fn read_full(input: &mut impl Read, buf: &mut [u8]) -> usize
     ensures { result ≤ length buf.new }
 {

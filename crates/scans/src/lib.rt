@@ -22,6 +22,7 @@ fn is_kind(table: &[u8], i: usize, kind: u8) -> bool
     table[i * Room::SIZE] == kind
 }
 
+// Whether it is an entry that stands there, and one that bears a name there: two tests of `records::entry` after the kind's.
 #[tactic(auto, unfolding(paper::specs::Entry::stands))]
 fn stands_here(table: &[u8], i: usize, d: Holder) -> bool
     requires { i < rooms table.now }

@@ -96,7 +96,8 @@ fn clear_turn(
     needed + 1
 }
 
-// The records with this mark are cleared by record number, as far as the stop number allows; how many stores are needed with them.
+// The records with this mark are cleared by record number, as far as the stop number allows; how many stores are needed with them. The marks are
+// `Lost` as two bytes: they stand in the memory of the queue.
 fn clear_marked(
     table: &mut [u8],
     lost: &[u16; Room::MOST],

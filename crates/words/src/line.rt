@@ -1,4 +1,4 @@
-// Words and names of a line, by the places where they start.
+// Words and names of a line, by the places where they start: a request carries those places, so line and place are two parameters.
 ghost use Rattle.std.specs.Prelude.{◌≡◌, length};
 ghost use Rattle.paper.specs.Line.{word, words, legal_line};
 ghost use Rattle.words.specs.Place.{cut, gap_end, lone_of, names_from, next_word};
@@ -91,7 +91,7 @@ pub fn word_at(line: &[u8], k: usize) -> usize
     p
 }
 
-// How many words the line has.
+// How many words the line has. A `while`: it goes from word to word, and what it counts is not the place.
 #[tactic(auto, using(crate::proofs::Names::word_counts))]
 pub fn count_words(line: &[u8]) -> usize
     ensures { result ≡ length (words line.now) }
