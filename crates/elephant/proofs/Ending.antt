@@ -7,7 +7,7 @@ use Prim.Native.Nat.{ℕ, ◌+◌, ◌≤◌, ◌<◌}
 use native.Mathlib.Omega.{arith}
 use lib.ListN.{get_or, length, length-append}
 use borrow.Author.Tests.{ltb-false}
-use Rattle.std.specs.Prelude.{Option, Some, None, Result, Ok, Err}
+use Rattle.std.specs.Prelude.{Option, Some, None, is_some, Result, Ok, Err}
 use Rattle.paper.specs.Scan as F
 use Rattle.paper.specs.Record.{heading_record}
 use Rattle.paper.specs.Layout.{boxed}
@@ -37,7 +37,7 @@ use Rattle.answers.specs.Shown.{place_meant, refusal_meant, told, verdict_shown,
 use Rattle.answers.specs.declared.Answer.{Answer}
 use Rattle.answers.specs.declared.Refusal.{Refusal}
 use Rattle.placing.specs.Placing.{met, entry_checks, lost_texts, lost_stores, entry_stores}
-use Rattle.placing.specs.declared.Lost.{Lost}
+use Rattle.placing.specs.declared.File.{File}
 use Rattle.placing.specs.declared.Meets.{Meets}
 use Rattle.elephant.specs.Done.{Did}
 use Rattle.elephant.specs.Filing.{file_count, file_stores, first_of, needed_by, rest_by, stores_by, making_of, taken_by, late_checks, all_checks, ending, Names, fresh, standing, Ready}
@@ -71,7 +71,7 @@ entry_length t m entry r = go m.lost
     counts : length (count_stores u m.moves) ≡ count_moves (rooms t) m.moves
     counts = count-length u m.moves ∙ ap (λ (n : ℕ). count_moves n m.moves) (rooms-lay t m.room.0 entry)
 
-    go : (f : Option Lost) → length (puts m.room.0 entry ∷ (count_stores u m.moves ++ lost_stores f r)) ≡ count_moves (rooms t) m.moves + rest_by f
+    go : (f : Option File) → length (puts m.room.0 entry ∷ (count_stores u m.moves ++ lost_stores f r)) ≡ count_moves (rooms t) m.moves + rest_by f
     go (Some f) =
         rw (length-append (count_stores u m.moves) (clear_stores f.heading.0 r f.count.0), counts, clear-stores-length f.heading.0 r f.count.0)
         (omega arith)
@@ -99,9 +99,9 @@ late-alike cs (Err f) e = sym (refused-by (verdict cs) (refusal_meant f) e)
 
 -- 16 to 19 and what refuses after them, where the link is not taken: by the refusal of 17 to 19
 module _ (t : List ℕ) (to : Begin) (place : Place) (d : Holder) (m : Meets) (n : ℕ) (late : Result (Unit {0}) Refusal)
-    (x : taken_by to m.displaced ≡ false) where
+    (x : taken_by to (is_some m.displaced) ≡ false) where
   not_taken : verdict (all_checks t to place d m n late) ≡ verdict (entry_checks t place d m n ++ late_checks late)
-  not_taken = first_passes (check (taken_by to m.displaced) 16 place) _ x
+  not_taken = first_passes (check (taken_by to (is_some m.displaced)) 16 place) _ x
 
   pub told-first : (h : Refusal) → Err (refusal_meant h) ≡ verdict_shown (verdict (entry_checks t place d m n)) → (r : Result (Unit {0}) Refusal)
       → r ≡ Err h → told r ≡ verdict_shown (verdict (all_checks t to place d m n late))
@@ -118,12 +118,12 @@ module _ (t : List ℕ) (to : Begin) (place : Place) (d : Holder) (m : Meets) (n
 -- ---- the plan
 
 -- what is displaced, and the free records needed, by where the name was found
-is-displaced : (t : List ℕ) (f : F.Found) (d : Holder) (k free : ℕ) → is_found f ≡ (met t (found_shown f) d k free).displaced
+is-displaced : (t : List ℕ) (f : F.Found) (d : Holder) (k free : ℕ) → is_found f ≡ is_some (met t (found_shown f) d k free).displaced
 is-displaced t (F.at e) d k free = refl
 is-displaced t F.nowhere d k free = refl
 
 needed-by : (t : List ℕ) (m : Making) (f : F.Found) (d : Holder) (k free : ℕ)
-    → needed m f ≡ needed_by (length m.first) (met t (found_shown f) d k free).displaced
+    → needed m f ≡ needed_by (length m.first) (is_some (met t (found_shown f) d k free).displaced)
 needed-by t m (F.at e) d k free = refl
 needed-by t m F.nowhere d k free = refl
 
@@ -178,7 +178,7 @@ module _
   abbrev checks : List Check
   checks = full_up boxed t making ∷ still_peopled place (displacing t (borne boxed t making) making.entry) ∷ no_room boxed t making ∷ late_checks late
 
-  checks-met : checks ≡ entry_checks t place d meets (needed_by (file_count heading text) meets.displaced) ++ late_checks late
+  checks-met : checks ≡ entry_checks t place d meets (needed_by (file_count heading text) (is_some meets.displaced)) ++ late_checks late
   checks-met =
       ap (λ (b : Bool).
       check (not (is_found (borne boxed t making)) && b) 17 place ∷ still_peopled place (displacing t (borne boxed t making) making.entry)
@@ -194,18 +194,18 @@ module _
 
   -- 16 before them
   taken-met : verdict (link_taken boxed t (begin_meant m.to) making ++ checks)
-      ≡ verdict (all_checks t m.to place d meets (needed_by (file_count heading text) meets.displaced) late)
+      ≡ verdict (all_checks t m.to place d meets (needed_by (file_count heading text) (is_some meets.displaced)) late)
   unfolding verdict
   taken-met = go m.to
     where
       go : (b : Begin) → verdict (link_taken boxed t (begin_meant b) making ++ checks)
-          ≡ verdict (all_checks t b place d meets (needed_by (file_count heading text) meets.displaced) late)
-      go Own = rw (and-false meets.displaced) (ap verdict checks-met)
-      go (Take n) = rw (and-false meets.displaced) (ap verdict checks-met)
+          ≡ verdict (all_checks t b place d meets (needed_by (file_count heading text) (is_some meets.displaced)) late)
+      go Own = rw (and-false (is_some meets.displaced)) (ap verdict checks-met)
+      go (Take n) = rw (and-false (is_some meets.displaced)) (ap verdict checks-met)
       go (Give n) =
-          rw (and-true meets.displaced)
+          rw (and-true (is_some meets.displaced))
           (ap (λ (b : Bool). verdict (check b 16 place ∷ checks)) (is-displaced t (borne boxed t making) d m.named.0 free)
-          ∙ ap (λ (cs : List Check). verdict (check meets.displaced 16 place ∷ cs)) checks-met)
+          ∙ ap (λ (cs : List Check). verdict (check (is_some meets.displaced) 16 place ∷ cs)) checks-met)
 
   -- the stores before the entry, where there is room for them
   before : length making.first ≤ length (frees t) → Before t making.first m.named.0
@@ -222,13 +222,13 @@ module _
       go (standing e q) = rw e (before-none t c m.named.0 q)
 
   -- .. and for the entry, where it displaces none
-  module _ (l : needed_by (file_count heading text) meets.displaced ≤ length (frees t)) where
+  module _ (l : needed_by (file_count heading text) (is_some meets.displaced) ≤ length (frees t)) where
     enough : length making.first ≤ length (frees t)
-    enough = rw first-length (omega (arith, needed-least (file_count heading text) meets.displaced))
+    enough = rw first-length (omega (arith, needed-least (file_count heading text) (is_some meets.displaced)))
 
     left : borne boxed t making ≡ F.nowhere → length making.first < length (frees t)
     left e =
-        let q : meets.displaced ≡ false = sym (is-displaced t (borne boxed t making) d m.named.0 free) ∙ ap is_found e in
+        let q : is_some meets.displaced ≡ false = sym (is-displaced t (borne boxed t making) d m.named.0 free) ∙ ap is_found e in
         rw first-length (omega (arith, rw q at l))
 
     stores-met : (texts : List ℕ) → placing t making (borne boxed t making)
@@ -252,7 +252,7 @@ module _
 
   module _ (k : ℕ) (x : Meets) (e : x ≡ meets) where
     abbrev all : List Check
-    all = all_checks t m.to place d x (needed_by (file_count heading text) x.displaced) late
+    all = all_checks t m.to place d x (needed_by (file_count heading text) (is_some x.displaced)) late
 
     pub ends-refused : (h : Refusal) → Err (refusal_meant h) ≡ verdict_shown (verdict all) → (s : Result Answer Refusal) → s ≡ Err h
         → Did t k planned (answer_of s) t
@@ -264,17 +264,17 @@ module _
 
     pub ends-stored : (o : Unit {0}) → Ok o ≡ verdict_shown (verdict all) → (u entry texts : List ℕ) (l : ℕ) → entry ≡ making.entry
         → Made t u k l (file_stores heading r text ++ entry_stores (run t (file_stores heading r text)) x entry (lost_texts t x.lost texts))
-        → Did t k planned (shown (stored (stores_by (rooms t) (file_count heading text) x) k x.displaced)) u
+        → Did t k planned (shown (stored (stores_by (rooms t) (file_count heading text) x) k (is_some x.displaced))) u
     unfolding ending
     ends-stored o h u entry texts l y made =
         let z : verdict all ≡ passed = passed-by (verdict all) o h in
         let v : verdict ends.checks ≡ passed = rw (taken-met, ← e) z in
-        let fits : needed_by (file_count heading text) meets.displaced ≤ length (frees t) = ltb-false _ _ (rw e at (passes-all _ z).1.1.1.0) in
+        let fits : needed_by (file_count heading text) (is_some meets.displaced) ≤ length (frees t) = ltb-false _ _ (rw e at (passes-all _ z).1.1.1.0) in
         let files : List Store = file_stores heading r text in
         let rest : List Store = entry_stores (run t files) x entry (lost_texts t x.lost texts) in
         let s : ends.stores ≡ files ++ rest = rw (y, e) (stores-met fits texts) in
         let n : length ends.stores ≡ stores_by (rooms t) (file_count heading text) x =
         ap length s
         ∙ rw (length-append, stores-length heading r text, entry_length (run t files) x entry (lost_texts t x.lost texts), rooms-run t files) in
-        let b : ends.displaced ≡ x.displaced = rw e (is-displaced t (borne boxed t making) d m.named.0 free) in
+        let b : ends.displaced ≡ is_some x.displaced = rw e (is-displaced t (borne boxed t making) d m.named.0 free) in
         rw (← n, ← b) (did-stored t u k l ends v refl (rw s made))

@@ -1,5 +1,5 @@
 -- A new entry and, before it, the stores of a new file if it names one: how many, and the plan that they are.
-use Rattle.std.specs.Prelude.{Bool, true, false, ◌&&◌, Option, Some, None, Result, Ok, Err, List, [], ◌∷◌, ◌++◌, ◌≡◌, ℕ, ◌+◌, ◌≤◌, ◌<◌, ltb, get_or, length}
+use Rattle.std.specs.Prelude.{Bool, true, false, ◌&&◌, Option, Some, None, is_some, Result, Ok, Err, List, [], ◌∷◌, ◌++◌, ◌≡◌, ℕ, ◌+◌, ◌≤◌, ◌<◌, ltb, get_or, length}
 use Rattle.paper.specs.Record.{byte, level, marked, heading_record}
 use Rattle.paper.specs.Layout.{boxed}
 use Rattle.paper.specs.Table.{sized, rec, room}
@@ -25,7 +25,7 @@ use Rattle.answers.specs.Number.{number_of}
 use Rattle.answers.specs.Shown.{place_meant}
 use Rattle.records.specs.Shown.{holder_shown}
 use Rattle.placing.specs.Placing.{Held, entry_checks}
-use Rattle.placing.specs.declared.Lost.{Lost}
+use Rattle.placing.specs.declared.File.{File}
 use Rattle.placing.specs.declared.Meets.{Meets}
 use Rattle.answers.specs.declared.Refusal.{Refusal}
 use Rattle.elephant.specs.declared.filing.Making as code
@@ -50,7 +50,7 @@ needed_by first true = first
 needed_by first false = first + 1
 
 -- how many stores there are in all, in a table of n records: the counts' among them
-abbrev pub rest_by : Option Lost → ℕ
+abbrev pub rest_by : Option File → ℕ
 rest_by (Some f) = f.count.0 + 2
 rest_by None = 1
 
@@ -89,7 +89,7 @@ late_checks (Err f) = check true (number_of f.number) (place_meant f.place) ∷ 
 
 -- 16 to 19, by what is met, and what refuses after them
 abbrev pub all_checks : List ℕ → Begin → Place → Holder → Meets → ℕ → Result (Unit {0}) Refusal → List Check
-all_checks t to place d m n late = check (taken_by to m.displaced) 16 place ∷ entry_checks t place d m n ++ late_checks late
+all_checks t to place d m n late = check (taken_by to (is_some m.displaced)) 16 place ∷ entry_checks t place d m n ++ late_checks late
 
 -- a new entry's plan after the checks 13, 14 and 15, with those after 19
 unfoldable pub ending : List ℕ → asked.Begin → Making → List Check → Planned

@@ -81,7 +81,7 @@ fn check(
     ensures { told result ≡ verdict_shown (verdict
         (all_checks table.now to (place_meant place) (holder_shown holder) meets needed late)) }
 {
-    if is_taken(to, meets.displaced) {
+    if is_taken(to, meets.displaced.is_some()) {
         return Err(Refusal {
             number: Number::Borne,
             place,
@@ -136,7 +136,8 @@ pub(crate) fn make(
     let first = count_file(heading, text);
     let found = find(table, holder, name);
     let meets = meet(table, found, holder, making.named, room_at(rooms, first));
-    let needs = needed(first, meets.displaced);
+    let displaced = meets.displaced.is_some();
+    let needs = needed(first, displaced);
     check(table, making.to, holder, meets, needs, making.place, late)?;
     let entry = Entry {
         code: making.code,
@@ -149,5 +150,5 @@ pub(crate) fn make(
     lost_texts(table, meets, &mut texts);
     let rest = put_file(table, heading, rooms, text, stop as usize);
     place_entry(table, entry, meets, &texts, rest);
-    Ok(Answer::stored(stores, stop, meets.displaced))
+    Ok(Answer::stored(stores, stop, displaced))
 }

@@ -38,8 +38,8 @@ use Rattle.effects.specs.Counts.{count_stores}
 use Rattle.effects.specs.declared.counts.Moves.{Moves}
 use Rattle.effects.proofs.Stages.{made-onto}
 use Rattle.effects.proofs.Papers.{file-freed}
-use Rattle.placing.specs.Placing.{last_by, lost_by, instead, gone, met, Held, full_by, peopled_by, losing_by, lost_texts, lost_stores, entry_stores}
-use Rattle.placing.specs.declared.Lost.{Lost}
+use Rattle.placing.specs.Placing.{last_by, lost_by, file_of, instead, gone, met, Held, full_by, peopled_by, losing_by, lost_texts, lost_stores, entry_stores}
+use Rattle.placing.specs.declared.File.{File}
 use Rattle.placing.proofs.Holding.{Before}
 use Rattle.placing.proofs.Entering.{eqb-turn, names-entry, over-enters, over-counts, free-counts, cleared-counts}
 
@@ -63,21 +63,17 @@ some n =
     by_cases (ℕ_discrete n 0) (λ (e : n ≡ 0). rw e)
     (λ (e : n ≢ 0). rw (ne_eqb n 0 e, lt-ltb 0 n (omega arith)))
 
--- the file of heading h
-abbrev file : List ℕ → ℕ → Lost
-file t h = record { heading = record { 0 = h }; count = record { 0 = blocks_of t h } }
-
 -- what is asked of a file that is lost where a test holds
-losing-where : (t : List ℕ) (b : Bool) (x : Lost) → losing_by t (cond b (Some x) None) ≡ (b && peopled_by t x.heading.0)
+losing-where : (t : List ℕ) (b : Bool) (x : File) → losing_by t (cond b (Some x) None) ≡ (b && peopled_by t x.heading.0)
 losing-where t true x = refl
 losing-where t false x = refl
 
-few-where : (b : Bool) (x : Lost) → x.count.0 ≤ 1000 → IfSome (cond b (Some x) None) (λ f. f.count.0 ≤ 1000)
+few-where : (b : Bool) (x : File) → x.count.0 ≤ 1000 → IfSome (cond b (Some x) None) (λ f. f.count.0 ≤ 1000)
 few-where true x l = l
 few-where false x l = tt
 
 -- .. and what is cleared of it
-stores-where : (t : List ℕ) (b : Bool) (x : Lost) (texts : List ℕ)
+stores-where : (t : List ℕ) (b : Bool) (x : File) (texts : List ℕ)
     → lost_stores (cond b (Some x) None) (lost_texts t (cond b (Some x) None) texts)
     ≡ cond b (clear_stores x.heading.0 (text_rooms t x.heading.0 x.count.0) x.count.0) []
 stores-where t true x texts = refl
@@ -156,7 +152,7 @@ module _ (t : List ℕ) (fit : sized t ≡ true) (right : sound boxed t ≡ true
     displaced-loses (F.at e) free q =
         ap (λ (b : Bool). b && (directory (rec t (heading_named (rec t e))) && peopled t (heading_named (rec t e)))) (lost-met e q)
         ∙ ap (λ (b : Bool). lost_by t (heading_named (rec t e)) k && b) (peopled-met (heading_named (rec t e)))
-        ∙ sym (losing-where t (lost_by t (heading_named (rec t e)) k) (file t (heading_named (rec t e))))
+        ∙ sym (losing-where t (lost_by t (heading_named (rec t e)) k) (file_of t (heading_named (rec t e))))
     displaced-loses F.nowhere free q = refl
 
     -- the stores, with what is met: where nothing is displaced there is a free record left for the entry
@@ -177,7 +173,7 @@ module _ (t : List ℕ) (fit : sized t ≡ true) (right : sound boxed t ≡ true
           file-freed t named fit (found-few hd n e q),
         )
         (in-turn first counts _ (puts e r)
-        ∙ ap (λ (ss : List Store). first ++ puts e r ∷ (counts ++ ss)) (sym (stores-where t (lost_by t named k) (file t named) texts)))
+        ∙ ap (λ (ss : List Store). first ++ puts e r ∷ (counts ++ ss)) (sym (stores-where t (lost_by t named k) (file_of t named) texts)))
     placed-settled m z b h F.nowhere q l texts =
         let first : List Store = m.first in
         let e : ℕ = room t (length first) in
@@ -186,5 +182,5 @@ module _ (t : List ℕ) (fit : sized t ≡ true) (right : sound boxed t ≡ true
 
     -- few text records are cleared
     pub met-few : (f : F.Found) (free : ℕ) → find boxed t hd n ≡ f → IfSome (met t (found_shown f) hd k free).lost (λ x. x.count.0 ≤ 1000)
-    met-few (F.at e) free q = few-where (lost_by t (heading_named (rec t e)) k) (file t (heading_named (rec t e))) (found-few hd n e q)
+    met-few (F.at e) free q = few-where (lost_by t (heading_named (rec t e)) k) (file_of t (heading_named (rec t e))) (found-few hd n e q)
     met-few F.nowhere free q = tt

@@ -1,6 +1,6 @@
 -- A new entry at its end: what it meets, the number that refuses it there, and its stores. What it meets is read once, before any
 -- store, the counts from the headings; on a sound table these are the paper's own (`Meeting`: `full-met`, `displaced-loses`, `placed-settled`).
-use Rattle.std.specs.Prelude.{Bool, true, false, ◌&&◌, not, cond, Option, Some, None, List, [], ◌∷◌, ◌++◌, ◌⊎◌, ◌≡◌, ℕ, eqb, leb, ltb, length}
+use Rattle.std.specs.Prelude.{Bool, true, false, ◌&&◌, not, cond, Option, Some, None, is_some, List, [], ◌∷◌, ◌++◌, ◌⊎◌, ◌≡◌, ℕ, eqb, leb, ltb, length}
 use Rattle.paper.specs.Record.{heading_named, directory}
 use Rattle.paper.specs.Table.{rec, lay, frees}
 use Rattle.paper.specs.Check.{Place, whole, Check, check}
@@ -13,7 +13,7 @@ use Rattle.effects.specs.Listed.{text_rooms}
 use Rattle.effects.specs.Stage.{clear_stores}
 use Rattle.effects.specs.Counts.{count_stores}
 use Rattle.effects.specs.declared.counts.Moves.{Moves}
-use Rattle.placing.specs.declared.Lost.{Lost}
+use Rattle.placing.specs.declared.File.{File}
 use Rattle.placing.specs.declared.Meets.{Meets}
 
 -- no other entry names the file of heading h: its count is 1
@@ -25,9 +25,13 @@ last_by t h = eqb (named_count (rec t h)) 1
 abbrev pub lost_by : List ℕ → ℕ → ℕ → Bool
 lost_by t h k = not (eqb k h) && last_by t h
 
--- .. that file, with its count of text records
-abbrev pub lost_file : List ℕ → ℕ → ℕ → Option Lost
-lost_file t h k = cond (lost_by t h k) (Some (record { heading = record { 0 = h }; count = record { 0 = blocks_of t h } })) None
+-- the file of heading h, with its count of text records
+abbrev pub file_of : List ℕ → ℕ → File
+file_of t h = record { heading = record { 0 = h }; count = record { 0 = blocks_of t h } }
+
+-- .. if it is lost
+abbrev pub lost_file : List ℕ → ℕ → ℕ → Option File
+lost_file t h k = cond (lost_by t h k) (Some (file_of t h)) None
 
 -- the counts that move: "the file named, the file displaced", and "the holder" where nothing is displaced
 abbrev pub come : ℕ → ℕ → Moves
@@ -40,17 +44,18 @@ instead h k = record { named = Some (record { 0 = k }); lost = Some (record { 0 
 abbrev pub gone : ℕ → ℕ → Moves
 gone d h = record { named = None; lost = Some (record { 0 = h }); more = None; less = Some (record { 0 = d }) }
 
--- "An entry already bearing the new name is overwritten in place (displaced)", its file lost or not; else the new entry, which names heading
--- k in d, takes the free record and nothing is lost. The paper's `borne`, and where its `placing` puts the entry
+-- "An entry already bearing the new name is overwritten in place (displaced)", its file lost or not, with that file's heading and count of
+-- text records; else the new entry, which names heading k in d, takes the free record and nothing is lost. The paper's `borne`, and where its
+-- `placing` puts the entry
 abbrev pub met : List ℕ → Option Room → Holder → ℕ → ℕ → Meets
 met t (Some e) d k free =
     record {
       room = e;
-      displaced = true;
+      displaced = Some (file_of t (heading_named (rec t e.0)));
       lost = lost_file t (heading_named (rec t e.0)) k;
       moves = instead (heading_named (rec t e.0)) k;
     }
-met t None d k free = record { room = record { 0 = free }; displaced = false; lost = None; moves = come d.heading k }
+met t None d k free = record { room = record { 0 = free }; displaced = None; lost = None; moves = come d.heading k }
 
 -- what a new entry is to stand in: a base list, or a directory of the table
 abbrev pub Held : List ℕ → Holder → Type 0
@@ -65,7 +70,7 @@ abbrev pub peopled_by : List ℕ → ℕ → Bool
 peopled_by t h = directory (rec t h) && ltb 0 (held_count (rec t h))
 
 -- 18, "file losing its last entry is a directory with entries": the paper's `displacing`, by the file that is lost
-abbrev pub losing_by : List ℕ → Option Lost → Bool
+abbrev pub losing_by : List ℕ → Option File → Bool
 losing_by t (Some f) = peopled_by t f.heading.0
 losing_by t None = false
 
@@ -73,18 +78,18 @@ losing_by t None = false
 -- needs". The paper's `full_up`, `still_peopled` and `no_room`, by what is met
 abbrev pub entry_checks : List ℕ → Place → Holder → Meets → ℕ → List Check
 entry_checks t place d m needed =
-    check (not m.displaced && full_by t d) 17 place
+    check (not (is_some m.displaced) && full_by t d) 17 place
     ∷ check (losing_by t m.lost) 18 place
     ∷ check (ltb (length (frees t)) needed) 19 (whole 0)
     ∷ []
 
 -- the text records of the file that is lost, by position, in the list r; where no file is lost the list stays
-abbrev pub lost_texts : List ℕ → Option Lost → List ℕ → List ℕ
+abbrev pub lost_texts : List ℕ → Option File → List ℕ → List ℕ
 lost_texts t (Some f) r = text_rooms t f.heading.0 f.count.0
 lost_texts t None r = r
 
 -- .. and that file cleared, its text records listed in r
-abbrev pub lost_stores : Option Lost → List ℕ → List Store
+abbrev pub lost_stores : Option File → List ℕ → List Store
 lost_stores (Some f) r = clear_stores f.heading.0 r f.count.0
 lost_stores None r = []
 

@@ -6,7 +6,7 @@ ghost use Rattle.paper.specs.Check.{verdict};
 ghost use Rattle.records.specs.Shown.{holder_shown};
 ghost use Rattle.answers.specs.Shown.{place_meant, told, verdict_shown};
 ghost use Rattle.effects.specs.Stage.{Made};
-ghost use Rattle.placing.specs.Placing.{last_by, lost_file, met, full_by, peopled_by, losing_by, entry_checks, lost_texts, entry_stores};
+ghost use Rattle.placing.specs.Placing.{last_by, file_of, lost_file, met, full_by, peopled_by, losing_by, entry_checks, lost_texts, entry_stores};
 
 use answers::number::Number;
 use answers::{Place, Refusal};
@@ -20,21 +20,20 @@ use records::heading::{held_count, is_directory, named_count, text_length};
 use records::text::Text;
 use scans::{has_fewer_free, is_full};
 
-// A file that is lost: its heading, and how many text records it has.
+// A file: its heading, and how many text records it has.
 #[derive(Clone, Copy)]
-pub struct Lost {
+pub struct File {
     pub heading: Room,
     pub count: Room,
 }
 
-// What a new entry meets: the record it goes to; whether an entry that bears its name is displaced there; the file that is lost with
-// that entry, if one is; and the headings whose counts move.
+// What a new entry meets: the record it goes to; the file of the entry that bears its name, if one is displaced there, and the same file if it
+// is lost with that entry; and the headings whose counts move.
 #[derive(Clone, Copy)]
 pub struct Meets {
     pub room: Room,
-    // no value stands beside it: the record is the entry's or a free one
-    pub displaced: bool,
-    pub lost: Option<Lost>,
+    pub displaced: Option<File>,
+    pub lost: Option<File>,
     pub moves: Moves,
 }
 
@@ -45,15 +44,22 @@ pub fn is_last(table: &[u8], heading: Room) -> bool
     named_count(table, heading).0 == 1
 }
 
-// The file of a heading, where no entry names it once one that names another heading is laid in its entry's place.
-fn lost_file(table: &[u8], heading: Room, named: Room) -> Option<Lost>
+// The file of a heading.
+fn file_of(table: &[u8], heading: Room) -> File
+    ensures { result ≡ file_of table.now heading.0 }
+{
+    let count = blocks(text_length(table, heading));
+    File { heading, count }
+}
+
+// .. where no entry names it once one that names another heading is laid in its entry's place.
+fn lost_file(table: &[u8], heading: Room, named: Room) -> Option<File>
     ensures { result ≡ lost_file table.now heading.0 named.0 }
 {
     if named.0 == heading.0 || !is_last(table, heading) {
         return None;
     }
-    let count = blocks(text_length(table, heading));
-    Some(Lost { heading, count })
+    Some(file_of(table, heading))
 }
 
 // What an entry in this place that names a heading meets, where its name was found or a free record taken.
@@ -63,7 +69,7 @@ pub fn meet(table: &[u8], found: Option<Room>, holder: Holder, named: Room, free
     let Some(room) = found else {
         return Meets {
             room: free,
-            displaced: false,
+            displaced: None,
             lost: None,
             moves: Moves {
                 named: Some(named),
@@ -76,7 +82,7 @@ pub fn meet(table: &[u8], found: Option<Room>, holder: Holder, named: Room, free
     let heading = heading_named(table, room);
     Meets {
         room,
-        displaced: true,
+        displaced: Some(file_of(table, heading)),
         lost: lost_file(table, heading, named),
         moves: Moves {
             named: Some(named),
@@ -133,7 +139,7 @@ pub fn check_entry(
 ) -> Result<(), Refusal>
     ensures { told result ≡ verdict_shown (verdict (entry_checks table.now (place_meant place) (holder_shown holder) meets needed)) }
 {
-    if is_full_up(table, holder, meets.displaced) {
+    if is_full_up(table, holder, meets.displaced.is_some()) {
         return Err(Refusal {
             number: Number::Full,
             place,

@@ -19,7 +19,7 @@ returns-in_err-check c =
     ends-refused a.table.now a.rooms.now a.name.now a.text.now a.making a.heading a.late c.requires c.room_at.result.0
     (rw c.count_file-first.ensures at c.room_at.ensures) a.stop
     c.meet-meets.result (rw c.find-found.ensures at c.meet-meets.ensures) _
-    (rw (c.needed-needs.ensures, c.count_file-first.ensures) at c.in_err-check.ensures) _ (handed _ _ c.from_residual.ensures.1)
+    (rw (c.needed-needs.ensures, c.count_file-first.ensures, c.is_some-displaced.ensures) at c.in_err-check.ensures) _ (handed _ _ c.from_residual.ensures.1)
 
 pub count_stores-stores-requires : goal.count_stores-stores-requires
 count_stores-stores-requires c = (
@@ -33,11 +33,11 @@ pub returns : goal.returns
 returns c =
     let a = c.args in
     let meets = c.meet-meets.result in
-    rw (c.stored.ensures, c.count_stores-stores.ensures, c.count_file-first.ensures)
+    rw (c.stored.ensures, c.is_some-displaced.ensures, c.count_stores-stores.ensures, c.count_file-first.ensures)
     (ends-stored a.table.now a.rooms.now a.name.now a.text.now a.making a.heading a.late c.requires c.room_at.result.0
     (rw c.count_file-first.ensures at c.room_at.ensures) a.stop
     meets (rw c.find-found.ensures at c.meet-meets.ensures) _
-    (rw (c.needed-needs.ensures, c.count_file-first.ensures) at c.in_ok-check.ensures)
+    (rw (c.needed-needs.ensures, c.count_file-first.ensures, c.is_some-displaced.ensures) at c.in_ok-check.ensures)
     c.place_entry.new.table c.laid-entry.result _ c.place_entry.result
     (rw (take_all 10 a.name.now c.requires.short) at c.laid-entry.ensures)
     (made-onto _ _ _ _ _ _ _ (λ u. entry_stores u meets c.laid-entry.result (lost_texts a.table.now meets.lost _))
