@@ -1,4 +1,4 @@
--- What `number_from` requires: digits, six at most, in a base from one to ten.
+-- What `number_of` requires: digits, six at most, in a base from one to ten.
 use Rattle.std.specs.Prelude.{true, List, ◌≡◌, ℕ, ◌≤◌, length}
 use Rattle.paper.specs.Name.{all, in_number}
 

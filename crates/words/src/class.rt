@@ -44,16 +44,26 @@ fn is_plain(b: u8) -> bool
     !matches!(b, b' ' | b':')
 }
 
-// Where the name at p ends: at a blank, a colon or the line's end.
+// Where the name at p ends: at a blank, a colon or the line's end. No `skip(p)`: it steps over the bytes before p, one by one.
 pub(crate) fn name_end(line: &[u8], p: usize) -> usize
     ensures { result ≡ name_end line.now p }
 {
-    p + line.iter().skip(p).take_while(|b| is_plain(**b)).count()
+    for i in p..line.len() {
+        if !is_plain(line[i]) {
+            return i;
+        }
+    }
+    p.max(line.len())
 }
 
 // Where the blanks from p on end.
 pub(crate) fn past_blanks(line: &[u8], p: usize) -> usize
     ensures { result ≡ reach is_blank line.now p }
 {
-    p + line.iter().skip(p).take_while(|b| **b == b' ').count()
+    for i in p..line.len() {
+        if line[i] != b' ' {
+            return i;
+        }
+    }
+    p.max(line.len())
 }
