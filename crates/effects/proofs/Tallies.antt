@@ -1,12 +1,13 @@
 -- Records counted: one more record is one more for the one that it is counted for, and leaves every other count.
 -- So after the last record each count is of those that the test says.
-use mathlib.Core.Bool.{Bool, true, false, cond}
+use mathlib.Core.Bool.{Bool, true, false, ◌&&◌, cond}
 use mathlib.Core.List.{List}
 use mathlib.Core.Logic.{◌≢◌, ◌⊎◌, inl, inr, by_cases}
 use mathlib.Core.Path.{◌≡◌, refl, sym, ◌∙◌}
 use Prim.Native.Nat.{ℕ, ◌+◌, ◌≤◌, ◌<◌, min}
 use native.Mathlib.Omega.{arith}
 use native.Mathlib.Decide.{ℕ_discrete, dec_lt}
+use lib.Dec.{eqb}
 use lib.ListN.{get_or, set, length, replicate, get_or-replicate, get_or-eq_default, length-replicate}
 use lib.Seq.{get_or-set_same, get_or-set_other}
 use borrow.Author.Tests.{eq-eqb, ne_eqb}
@@ -22,7 +23,7 @@ use Rattle.effects.proofs.Places.{sized-most}
 use Rattle.records.specs.Numbered.{Numbered}
 use Rattle.records.specs.declared.bytes.Room.{Room}
 use Rattle.records.proofs.Numbered.{numbered-same, numbered_more}
-use Rattle.effects.specs.Tally.{Tells}
+use Rattle.effects.specs.Tally.{Tells, namings_left}
 
 module _ (is : ℕ → ℕ → Bool) where
   abbrev pub counts : ℕ → ℕ → ℕ
@@ -58,13 +59,17 @@ few-none n h =
     (λ (l : h < n). rw (get_or-replicate {A = ℕ} n h 0 0 l) (omega arith))
     (λ (l : ¬ (h < n)). rw (get_or-eq_default {A = ℕ} (replicate n 0) 0 {n = h} (rw length-replicate (omega arith))) (omega arith))
 
+-- of a table that is not sized no record is counted
+pub none-counted : Numbered (λ _. 0) (replicate 2048 0)
+none-counted = record { at = λ h l. get_or-replicate 2048 h 0 0 l; long = refl }
+
 -- the records of a sized table, which are at most 2,048; of any other, none
 module _ (t a : List ℕ) (n : ℕ) (e : n ≡ cond (sized t) (rooms t) 0) where
-  pub names-tallied : Numbered (counts (λ i h. names h (rec t i)) (min n 2048)) a → Numbered (cond (sized t) (namings t) (λ _. 0)) a
-  unfolding namings count_below
-  names-tallied x = go (truth (sized t))
+  all-tallied : (is : ℕ → ℕ → Bool) → Numbered (counts is (min n 2048)) a → Numbered (cond (sized t) (counts is (rooms t)) (λ _. 0)) a
+  unfolding count_below
+  all-tallied is x = go (truth (sized t))
     where
-      go : (sized t ≡ true) ⊎ (sized t ≡ false) → Numbered (cond (sized t) (namings t) (λ _. 0)) a
+      go : (sized t ≡ true) ⊎ (sized t ≡ false) → Numbered (cond (sized t) (counts is (rooms t)) (λ _. 0)) a
       go (inl s) =
           let m : rooms t ≤ 2048 = sized-most t s in
           let k : n ≡ rooms t = rw s at e in
@@ -72,15 +77,16 @@ module _ (t a : List ℕ) (n : ℕ) (e : n ≡ cond (sized t) (rooms t) 0) where
           rw s (rw q at x)
       go (inr s) = rw s (rw (rw s at e) at x)
 
+  pub names-tallied : Numbered (counts (λ i h. names h (rec t i)) (min n 2048)) a → Numbered (cond (sized t) (namings t) (λ _. 0)) a
+  unfolding namings
+  names-tallied = all-tallied (λ i h. names h (rec t i))
+
+  pub left-tallied : (gone : List ℕ) → Numbered (counts (λ i h. names h (rec t i) && eqb (get_or gone i 0) 0) (min n 2048)) a
+      → Numbered (cond (sized t) (namings_left gone t) (λ _. 0)) a
+  unfolding namings_left
+  left-tallied gone = all-tallied (λ i h. names h (rec t i) && eqb (get_or gone i 0) 0)
+
   pub holds-tallied : Numbered (counts (λ i d. stands (in_directory d) (rec t i)) (min n 2048)) a
       → Numbered (cond (sized t) (holdings t) (λ _. 0)) a
-  unfolding crowd count_below
-  holds-tallied x = go (truth (sized t))
-    where
-      go : (sized t ≡ true) ⊎ (sized t ≡ false) → Numbered (cond (sized t) (holdings t) (λ _. 0)) a
-      go (inl s) =
-          let m : rooms t ≤ 2048 = sized-most t s in
-          let k : n ≡ rooms t = rw s at e in
-          let q : min n 2048 ≡ rooms t = omega arith in
-          rw s (rw q at x)
-      go (inr s) = rw s (rw (rw s at e) at x)
+  unfolding crowd
+  holds-tallied = all-tallied (λ i d. stands (in_directory d) (rec t i))

@@ -1,24 +1,28 @@
 // Entries counted: how many name each record, and how many stand in each directory.
-ghost use Rattle.std.specs.Prelude.{◌≡◌, cond, ℕ, Bool, min};
+ghost use Rattle.std.specs.Prelude.{◌≡◌, ◌&&◌, cond, ℕ, Bool, eqb, get_or};
 ghost use Rattle.paper.specs.Count.{namings, holdings};
 ghost use Rattle.paper.specs.Entry.{in_directory, stands};
 ghost use Rattle.paper.specs.Record.{names};
 ghost use Rattle.paper.specs.Scan.{count_below};
 ghost use Rattle.paper.specs.Table.{sized, rooms, rec};
 ghost use Rattle.records.specs.Numbered.{Numbered};
-ghost use Rattle.effects.specs.Tally.{Says, Tells};
+ghost use Rattle.effects.specs.Tally.{Says, Tells, namings_left};
 
 use records::bytes::{Room, is_sized, kind_of, rooms, three_of};
 use records::entry::{Entry, heading_named, holder_of};
 
-// How many of the first records, so many, `of` counts for each record that a table may have.
-pub fn tally<F: Fn(Room) -> Option<Room>>(most: Room, counts: &mut [u16; Room::MOST], of: F)
+// How many of the records of a table, if it is sized, `of` counts for each record that a table may have. It goes up to the table's own number of
+// records, so that what `of` reads of one needs no test whether it is there.
+fn tally<F: Fn(Room) -> Option<Room>>(t: &[u8], counts: &mut [u16; Room::MOST], of: F)
     requires { F.IsAlwaysCallable of }
-    ensures { (is : ℕ → ℕ → Bool) → Says (F.post of) is (min most.0 2048)
-        → Numbered (λ h. count_below (λ i. is i h) (min most.0 2048)) counts.new }
+    ensures { (is : ℕ → ℕ → Bool) → Says (F.post of) is (rooms t.now)
+        → Numbered (cond (sized t.now) (λ h. count_below (λ i. is i h) (rooms t.now)) (λ _. 0)) counts.new }
 {
     *counts = [0u16; Room::MOST];
-    for i in 0..most.0.min(Room::MOST) {
+    if !is_sized(t) {
+        return;
+    }
+    for i in 0..rooms(t).0 {
         let Some(room) = of(Room(i)) else {
             continue;
         };
@@ -39,6 +43,17 @@ fn named_by(t: &[u8], room: Room) -> Option<Room>
     }
 }
 
+// The record that a record names, if it is an entry that bears no mark.
+fn named_left(t: &[u8], gone: &[u8; Room::MOST], room: Room) -> Option<Room>
+    ensures { Tells result (λ h. names h (rec t.now room.0) && eqb (get_or gone.now room.0 0) 0) }
+{
+    if room.0 < Room::MOST && gone[room.0] != 0 {
+        None
+    } else {
+        named_by(t, room)
+    }
+}
+
 // The directory that a record stands in, if it is an entry and no base file's.
 #[tactic(auto, unfolding(paper::specs::Entry::stands))]
 fn held_by(t: &[u8], room: Room) -> Option<Room>
@@ -51,23 +66,23 @@ fn held_by(t: &[u8], room: Room) -> Option<Room>
     }
 }
 
-// How many records a table has, if it is sized.
-fn sized_rooms(t: &[u8]) -> Room
-    ensures { result.0 ≡ cond (sized t.now) (rooms t.now) 0 }
-{
-    if is_sized(t) { rooms(t) } else { Room(0) }
-}
-
 // How many entries name each record; of a table that is not sized none are counted.
 pub fn count_names(t: &[u8], named: &mut [u16; Room::MOST])
     ensures { Numbered (cond (sized t.now) (namings t.now) (λ _. 0)) named.new }
 {
-    tally(sized_rooms(t), named, |room| named_by(t, room));
+    tally(t, named, |room| named_by(t, room));
+}
+
+// How many of the entries that bear no mark in `gone` name each record; of a table that is not sized none are counted.
+pub fn count_names_left(t: &[u8], gone: &[u8; Room::MOST], named: &mut [u16; Room::MOST])
+    ensures { Numbered (cond (sized t.now) (namings_left gone.now t.now) (λ _. 0)) named.new }
+{
+    tally(t, named, |room| named_left(t, gone, room));
 }
 
 // How many entries stand in each directory; of a table that is not sized none are counted.
 pub fn count_holds(t: &[u8], held: &mut [u16; Room::MOST])
     ensures { Numbered (cond (sized t.now) (holdings t.now) (λ _. 0)) held.new }
 {
-    tally(sized_rooms(t), held, |room| held_by(t, room));
+    tally(t, held, |room| held_by(t, room));
 }

@@ -5,8 +5,20 @@ ghost use Rattle.effects.specs.Listed.{gathered};
 
 use crate::rooms::room_at;
 use records::bytes::{Bytes, Room, part};
-use records::store::copy_in;
 use records::text::{Text, held_at};
+
+// A piece that is no whole block. A byte at a time, and no `copy_in`: of a length that is not known it calls `memmove` here, and the archive for C
+// asks the C library for `memcpy` and `memset` alone.
+fn copy_short(into: &mut [u8], at: usize, piece: &[u8])
+    ensures { into.new ≡ sets into.old at piece.now }
+{
+    if at < into.len() {
+        let fit = part(piece, 0, Bytes(into.len() - at));
+        for (j, byte) in fit.iter().enumerate() {
+            into[at + j] = *byte;
+        }
+    }
+}
 
 // A piece of a text copied into others from a place on, as much as fits; a whole block is a few moves of the machine.
 fn copy_piece(into: &mut [u8], at: usize, piece: &[u8])
@@ -15,7 +27,7 @@ fn copy_piece(into: &mut [u8], at: usize, piece: &[u8])
     if piece.len() == Text::MOST_HELD && Text::MOST_HELD <= into.len().saturating_sub(at) {
         into[at..at + Text::MOST_HELD].copy_from_slice(&piece[..Text::MOST_HELD]);
     } else {
-        copy_in(into, at, piece);
+        copy_short(into, at, piece);
     }
 }
 

@@ -4,10 +4,9 @@ use mathlib.Core.Bool.{Bool, true, false, ◌&&◌, not, cond}
 use mathlib.Core.List.{List, [], ◌∷◌, ◌++◌}
 use mathlib.Core.Logic.{◌≢◌, by_cases}
 use mathlib.Core.Path.{◌≡◌, sym, ◌∙◌}
-use Prim.Native.Nat.{ℕ, ◌+◌, ◌<◌, ◌≤◌, min}
+use Prim.Native.Nat.{ℕ, ◌+◌, ◌<◌, ◌≤◌}
 use lib.Dec.{eqb}
 use Rattle.paper.specs.Count.{namings}
-use Rattle.paper.specs.Scan.{count_below}
 use mathlib.Core.Path.{refl}
 use native.Mathlib.Omega.{arith}
 use native.Mathlib.Decide.{dec_lt}
@@ -20,10 +19,12 @@ use Rattle.paper.specs.Table.{sized, rooms, rec}
 use Rattle.judge_laws.specs.Mask.{stays, without}
 use Rattle.judge_laws.proofs.Mask.{rooms-without, whole-without, rec-stays}
 use Rattle.judge_laws.proofs.Tests.{and-past-right}
+use Rattle.laws.proofs.Counts.{count-cong}
 use Rattle.laws.proofs.Lay.{Whole, rec-past, within}
-use Rattle.laws.proofs.Sound.{sized-whole}
 use Rattle.laws.proofs.Tests.{and_left, and_right, and-no-right}
 use Rattle.records.specs.Numbered.{Numbered}
+use Rattle.records.proofs.Numbered.{numbered-same}
+use Rattle.effects.specs.Tally.{namings_left}
 use Rattle.mending.specs.Found.{ordered, Found, stepped}
 use Rattle.mending.specs.declared.Step.{Step}
 use Rattle.mending.specs.declared.Step.TheVariants.{Entries, Headings, Text}
@@ -86,14 +87,21 @@ module _ (gone t : List ℕ) (i : ℕ) (w : Whole t) where
   asked-stays Text named e =
       and_right (is_kind 3 (rec t i)) _ (sym (kind-left 3 (omega arith)) ∙ and_left (is_kind 3 (rec (without gone t) i)) _ e)
 
--- names counted
-pub names-numbered : (gone t a : List ℕ) → sized t ≡ true
-    → Numbered (λ h. count_below (λ i. names h (rec (without gone t) i)) (min (rooms t) 2048)) a → Numbered (namings (without gone t)) a
-unfolding namings
+-- names counted: an entry that is left names what it named, and what is cleared names none
+names-left : (gone t : List ℕ) (h i : ℕ) → i < rooms t → (names h (rec t i) && stays gone i) ≡ names h (rec (without gone t) i)
+unfolding blank
+names-left gone t h i l = rw (rec-without gone t i l) (go (stays gone i))
+  where
+    go : (b : Bool) → (names h (rec t i) && b) ≡ names h (cond (not b) blank (rec t i))
+    go true = and-past-right (names h (rec t i)) true refl
+    go false = and-no-right (names h (rec t i)) false refl
+
+pub names-numbered : (gone t a : List ℕ) → sized t ≡ true → Numbered (cond (sized t) (namings_left gone t) (λ _. 0)) a
+    → Numbered (namings (without gone t)) a
+unfolding namings namings_left
 names-numbered gone t a s x =
-    let w = sized-whole t s in
-    let e : min (rooms t) 2048 ≡ rooms (without gone t) = omega (arith, rooms-without gone t, w.1) in
-    rw e at x
+    numbered-same (namings_left gone t) (namings (without gone t)) a (rw s at x)
+    (λ h l. rw (rooms-without gone t) (count-cong _ _ (rooms t) (λ i b. sym (names-left gone t h i b))))
 
 -- ---- a turn of a step
 

@@ -1,11 +1,17 @@
-use mathlib.Core.Path.{◌≡◌, refl, ◌∙◌}
-use Prim.Native.Nat.{min}
+-- Each record of a sized table is asked in turn, and is one more for the record that it is counted for;
+-- a table that is not sized leaves every count 0.
+use mathlib.Core.Path.{◌≡◌, refl, sym, ◌∙◌}
 use native.Mathlib.Omega.{arith}
 use borrow.Author.Tests.{ne_eqb}
 use Rattle.std.proofs.Common.{Some, None}
-use Rattle.effects.proofs.Tallies.{tally-none, tally-past, tally-one, few-more, few-none}
+use Rattle.paper.specs.Table.{rooms}
+use Rattle.effects.proofs.Places.{sized-most}
+use Rattle.effects.proofs.Tallies.{none-counted, tally-none, tally-past, tally-one, few-more, few-none}
 use Rattle.effects.proofs.numbers.tally.Goals as goal
 use Rattle.effects.proofs.numbers.tally.Goals.{then-room-lt-MOST, else-room-lt-MOST}
+
+pub returns-then-not-is_sized : goal.returns-then-not-is_sized
+returns-then-not-is_sized g c = λ is x. rw (← c.is_sized.ensures, c.if-not-is_sized.true) none-counted
 
 pub loop-i-init : goal.loop-i-init
 loop-i-init g c = record { counted = λ is x. tally-none is 2048 refl; few = few-none 2048 }
@@ -14,12 +20,15 @@ pub loop-i-preserved-in_default : goal.loop-i-preserved-in_default
 loop-i-preserved-in_default g c =
     let i = c.loop-i.i in
     let v = c.loop-i.invariant in record {
-      counted = λ is x. tally-past is _ i (x i None (omega arith) c.in_default.ensures) (v.counted is (λ j r l p. x j r (omega arith) p));
+      counted = λ is x. tally-past is _ i (x i None (omega (arith, c.rooms-i-end.ensures)) c.in_default.ensures) (v.counted is (λ j r l p. x j r (omega arith) p));
       few = λ h. omega (arith, v.few h);
     }
 
 pub overflow_add-counts : goal.overflow_add-counts
-overflow_add-counts g c = let m = c.loop-i.invariant.few c.in-Some.room.0 in omega arith
+overflow_add-counts g c =
+    let m = c.loop-i.invariant.few c.in-Some.room.0 in
+    let few = sized-most c.args.t.now (sym c.is_sized.ensures ∙ c.if-not-is_sized.false) in
+    omega (arith, c.rooms-i-end.ensures)
 
 pub loop-i-preserved : goal.loop-i-preserved
 loop-i-preserved g c =
@@ -30,14 +39,14 @@ loop-i-preserved g c =
     elim c.if-room-lt-MOST.branch [
       | then-room-lt-MOST w ↦ record {
         counted = λ is x. rw w.counts-is
-            (tally-one is a i k.0 _ k refl w.if-room-lt-MOST.true (x i (Some k) (omega arith) c.in-Some.ensures) refl
+            (tally-one is a i k.0 _ k refl w.if-room-lt-MOST.true (x i (Some k) (omega (arith, c.rooms-i-end.ensures)) c.in-Some.ensures) refl
             (v.counted is (λ j r l p. x j r (omega arith) p)));
         few = rw w.counts-is (few-more a i k.0 _ (omega arith) refl v.few);
       }
       | else-room-lt-MOST w ↦ record {
         counted = λ is x. rw w.counts-is
             (tally-past is a i
-            (λ h l. x i (Some k) (omega arith) c.in-Some.ensures h l ∙ ne_eqb k.0 h (λ (z : k.0 ≡ h). omega arith))
+            (λ h l. x i (Some k) (omega (arith, c.rooms-i-end.ensures)) c.in-Some.ensures h l ∙ ne_eqb k.0 h (λ (z : k.0 ≡ h). omega arith))
             (v.counted is (λ j r l p. x j r (omega arith) p)));
         few = rw w.counts-is (λ h. omega (arith, v.few h));
       }
@@ -45,5 +54,5 @@ loop-i-preserved g c =
 
 pub returns : goal.returns
 returns g c = λ is x.
-    let e : c.loop-i.i ≡ min c.args.most.0 2048 = omega arith in
-    rw e at (c.loop-i.invariant.counted is (λ j r l p. x j r (omega arith) p))
+    let e : c.loop-i.i ≡ rooms c.args.t.now = omega (arith, c.rooms-i-end.ensures) in
+    rw (← c.is_sized.ensures, c.if-not-is_sized.false) (rw e at (c.loop-i.invariant.counted is (λ j r l p. x j r (omega (arith, c.rooms-i-end.ensures)) p)))
