@@ -151,19 +151,19 @@ fn put_line(rt: &impl Print, line: &[u8]) -> io::Result<()> {
     }
 }
 
-// A line ends before byte 10, the last one at the latest where the text ends.
-fn put_lines(rt: &impl Print, text: &[u8]) -> io::Result<()> {
+// A line ends before byte 10, the last one at the latest where the text ends. What cannot be written of one is left out, and the next
+// one is tried.
+fn put_lines(rt: &impl Print, text: &[u8]) {
     if text.is_empty() {
-        return Ok(());
+        return;
     }
     for line in text
         .strip_suffix(b"\n")
         .unwrap_or(text)
         .split(|b| *b == b'\n')
     {
-        put_line(rt, line)?;
+        put_line(rt, line).unwrap_or(());
     }
-    Ok(())
 }
 
 // Reads until the buffer is full, the input ends or cannot be read: how many bytes were read. A `while`: one read may bring
@@ -182,9 +182,9 @@ fn read_full(input: &mut impl Read, buf: &mut [u8]) -> usize
     n
 }
 
-// Where its output cannot be written it stops, and says nothing of that.
+// Where its output cannot be written it says nothing of that.
 fn main(rt: HostRuntime) {
     let mut buf = [0; MOST];
     let n = read_full(&mut rt.stdin(), &mut buf);
-    put_lines(&rt, &buf[..n]).unwrap_or(());
+    put_lines(&rt, &buf[..n]);
 }
