@@ -4,9 +4,10 @@ use mathlib.Core.Bool.{Bool, true, false, ◌&&◌, not, cond}
 use mathlib.Core.List.{List, [], ◌∷◌, ◌++◌}
 use mathlib.Core.Logic.{◌≢◌, by_cases}
 use mathlib.Core.Path.{◌≡◌, sym, ◌∙◌}
-use Prim.Native.Nat.{ℕ, ◌+◌, ◌<◌, ◌≤◌}
+use Prim.Native.Nat.{ℕ, ◌+◌, ◌<◌, ◌≤◌, min}
 use lib.Dec.{eqb}
 use Rattle.paper.specs.Count.{namings}
+use Rattle.paper.specs.Scan.{count_below}
 use mathlib.Core.Path.{refl}
 use native.Mathlib.Omega.{arith}
 use native.Mathlib.Decide.{dec_lt}
@@ -21,6 +22,7 @@ use Rattle.judge_laws.proofs.Mask.{rooms-without, whole-without, rec-stays}
 use Rattle.judge_laws.proofs.Tests.{and-past-right}
 use Rattle.laws.proofs.Counts.{count-cong}
 use Rattle.laws.proofs.Lay.{Whole, rec-past, within}
+use Rattle.laws.proofs.Sound.{sized-whole}
 use Rattle.laws.proofs.Tests.{and_left, and_right, and-no-right}
 use Rattle.records.specs.Numbered.{Numbered}
 use Rattle.records.proofs.Numbered.{numbered-same}
@@ -96,12 +98,21 @@ names-left gone t h i l = rw (rec-without gone t i l) (go (stays gone i))
     go true = and-past-right (names h (rec t i)) true refl
     go false = and-no-right (names h (rec t i)) false refl
 
-pub names-numbered : (gone t a : List ℕ) → sized t ≡ true → Numbered (cond (sized t) (namings_left gone t) (λ _. 0)) a
+pub left-numbered : (gone t a : List ℕ) → sized t ≡ true → Numbered (cond (sized t) (namings_left gone t) (λ _. 0)) a
     → Numbered (namings (without gone t)) a
 unfolding namings namings_left
-names-numbered gone t a s x =
+left-numbered gone t a s x =
     numbered-same (namings_left gone t) (namings (without gone t)) a (rw s at x)
     (λ h l. rw (rooms-without gone t) (count-cong _ _ (rooms t) (λ i b. sym (names-left gone t h i b))))
+
+-- .. or counted in the table without those that go, of the first 2,048 records, which are all
+pub names-numbered : (gone t a : List ℕ) → sized t ≡ true
+    → Numbered (λ h. count_below (λ i. names h (rec (without gone t) i)) (min (rooms t) 2048)) a → Numbered (namings (without gone t)) a
+unfolding namings
+names-numbered gone t a s x =
+    let w = sized-whole t s in
+    let e : min (rooms t) 2048 ≡ rooms (without gone t) = omega (arith, rooms-without gone t, w.1) in
+    rw e at x
 
 -- ---- a turn of a step
 

@@ -8,4 +8,4 @@ use Rattle.effects.proofs.numbers.count_names.Goals as goal
 
 pub returns : goal.returns
 unfolding namings
-returns c = c.tally.ensures (λ i h. names h (rec c.args.t.now i)) (λ i r l p. search rules)
+returns c = c.tally_table.ensures (λ i h. names h (rec c.args.t.now i)) (λ i r l p. search rules)

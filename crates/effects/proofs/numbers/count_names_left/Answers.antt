@@ -11,4 +11,4 @@ use Rattle.effects.proofs.numbers.count_names_left.Goals as goal
 
 pub returns : goal.returns
 unfolding namings_left
-returns c = c.tally.ensures (λ i h. names h (rec c.args.t.now i) && eqb (get_or c.args.gone.now i 0) 0) (λ i r l p. search rules)
+returns c = c.tally_table.ensures (λ i h. names h (rec c.args.t.now i) && eqb (get_or c.args.gone.now i 0) 0) (λ i r l p. search rules)

@@ -6,7 +6,7 @@ use lib.ListN.{get_or}
 use Rattle.paper.specs.Scan.{count_below}
 use Rattle.records.specs.Numbered.{Numbered}
 use Rattle.effects.specs.Tally.{Says}
-use Rattle.effects.proofs.numbers.tally.Given as goal
+use Rattle.effects.proofs.numbers.count_first.Given as goal
 
 abbrev pub invariant-loop-i : goal.invariant-loop-i
 invariant-loop-i g l = record {
